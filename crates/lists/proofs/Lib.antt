@@ -1,0 +1,4 @@
+-- Laws that the kit's library lacks and several crates cite. Each is stated once, over the width or the element.
+pub mod Xor
+pub mod Below
+pub mod Filling

@@ -1,0 +1,106 @@
+# The gate is `make test`. What rt proves and builds lies under target/, which `rt ci` removes; what is kept lies under build/.
+SHELL := /bin/sh
+.DEFAULT_GOAL := help
+.SUFFIXES:
+.DELETE_ON_ERROR:
+# rt works in one target/ folder, so two of its runs must never overlap.
+.NOTPARALLEL:
+.PHONY: help run lib test bench fmt clean kit format c_test header_test rust_test
+
+# Each crate listed here becomes an archive for C: capi is libmednukals.a, capi_NAME is libmednukals_NAME.a.
+EXPORT_CRATES := capi
+PROGRAMS := checksum
+
+archive = build/lib/$(patsubst capi%,libmednukals%,$(1)).a
+LIBS := $(foreach crate,$(EXPORT_CRATES),$(call archive,$(crate)))
+# Folders stand in the list too, so that a file added or removed counts as a change.
+SOURCES := crates.txt $(shell find crates -path '*/must-fail' -prune -o -print)
+
+CC := gcc
+WARNINGS := -std=c99 -Wall -Wextra -Wpedantic -Werror
+CAPTURE ?= examples/ping.bin
+
+# $(call need,TOOL): one clear line where a tool is missing.
+need = command -v $(1) >/dev/null 2>&1 || { echo "mednukals: $(1) is needed and is not on the PATH" >&2; exit 1; }
+# COMMAND || $(call failed,WHAT)
+failed = { echo "mednukals: FAILED: $(1)" >&2; exit 1; }
+
+help:
+	@echo 'make run    print the checksum of a file, by the proved program (CAPTURE=FILE; CAPTURE=- reads standard input)'
+	@echo 'make lib    prove the exports and build the archives that C links: $(LIBS)'
+	@echo 'make test   the gate: formatting, C and Rust tests, then every proof from nothing'
+	@echo 'make bench  measure the exports beside plain C, as ratios'
+	@echo 'make fmt    format every Rattle file'
+	@echo 'make clean  remove build/ and target/'
+
+run: build/bin/checksum
+	@if [ '$(CAPTURE)' = - ]; then \
+	    echo 'checksum and byte count of standard input:'; build/bin/checksum; \
+	else \
+	    echo 'checksum and byte count of $(CAPTURE):'; build/bin/checksum <'$(CAPTURE)'; \
+	fi
+
+$(PROGRAMS:%=build/bin/%): build/bin/%: $(SOURCES)
+	@$(call need,rt)
+	@rt check $* || $(call failed,proving and building the program $*)
+	@mkdir -p $(@D) && cp target/bin/$* $@
+
+lib: $(LIBS)
+
+define archive_rule
+$(call archive,$(1)): $(SOURCES)
+	@$$(call need,rt)
+	@rt staticlib $(1) || $$(call failed,proving and building the archive of $(1))
+	@mkdir -p $$(@D) && cp target/staticlib/lib$(1).a $$@
+endef
+$(foreach crate,$(EXPORT_CRATES),$(eval $(call archive_rule,$(crate))))
+
+# rt ci comes last: it removes target/, and its count is the last line.
+test: kit format lib c_test header_test rust_test
+	@rt ci || $(call failed,rt ci)
+
+# Another kit may prove the same crates, so a difference is only said.
+kit:
+	@$(call need,rt)
+	@$(call need,$(CC))
+	@$(call need,cargo)
+	@$(call need,python3)
+	@echo "kit: $$(rt version)"
+	@[ "$$(rt version)" = "$$(cat KIT)" ] || echo "WARNING: the project is written for the kit $$(cat KIT)" >&2
+
+format:
+	@rt fmt --check || $(call failed,the layout of a Rattle file; make fmt puts it right)
+
+c_test: build/c/published
+	@build/c/published tests/vectors/packets.txt || $(call failed,the C test)
+
+build/c/published: tests/c/published.c include/mednukals.h build/lib/libmednukals.a
+	@$(call need,$(CC))
+	@mkdir -p $(@D)
+	@$(CC) $(WARNINGS) -O2 -Iinclude -o $@ $< build/lib/libmednukals.a || $(call failed,compiling the C test)
+
+header_test: $(LIBS)
+	@$(call need,python3)
+	@python3 tests/check_header.py include/mednukals.h build/lib/libmednukals.a || $(call failed,the header beside the archive)
+
+rust_test: $(LIBS)
+	@$(call need,cargo)
+	@cd tests && cargo test --release --offline --quiet || $(call failed,the comparison tests)
+
+BENCH_SOURCES := tests/bench/bench.c tests/bench/baseline.c
+bench: build/c/bench
+	@build/c/bench || $(call failed,the benchmark)
+
+# The baseline is a file of its own and there is no link-time optimization: its calls stay calls, as ours are.
+build/c/bench: $(BENCH_SOURCES) tests/bench/baseline.h include/mednukals.h build/lib/libmednukals.a
+	@$(call need,$(CC))
+	@mkdir -p $(@D)
+	@$(CC) $(WARNINGS) -O3 -fno-lto -Iinclude -o $@ $(BENCH_SOURCES) build/lib/libmednukals.a \
+	    || $(call failed,compiling the benchmark)
+
+fmt:
+	@$(call need,rt)
+	rt fmt
+
+clean:
+	rm -rf build target

@@ -1,0 +1,41 @@
+"""Holds the C header to the archive: usage check_header.py HEADER ARCHIVE
+
+Every function that one has, the other has too; and the archive is as the header says, without state and without allocation: it
+has no writable section and asks for no function but the four that compilers call for copying and comparing memory.
+"""
+import re
+import subprocess
+import sys
+
+MEMORY_FUNCTIONS = {"memcpy", "memmove", "memset", "memcmp"}
+
+
+def symbols(archive, *words):
+    text = subprocess.run(["nm", "-P", *words, archive], check=True, capture_output=True, text=True).stdout
+    return [line.split()[:2] for line in text.splitlines() if len(line.split()) >= 2 and not line.endswith(":")]
+
+
+def main(header, archive):
+    with open(header, encoding="utf-8") as file:
+        code = re.sub(r"/\*.*?\*/", "", file.read(), flags=re.S)
+    declared = set(re.findall(r"\b(dxl_\w+)\s*\([^;{]*\)\s*;", code))
+    defined = {name for name, kind in symbols(archive, "-g", "--defined-only") if kind == "T"}
+    writable = {name for name, kind in symbols(archive, "--defined-only") if kind in "bBdDcCsS"}
+    wanted = {name for name, kind in symbols(archive, "-u")} - MEMORY_FUNCTIONS - defined
+
+    faults = []
+    faults += [f"{name} is declared and the archive has it not" for name in sorted(declared - defined)]
+    faults += [f"{name} is in the archive and not declared" for name in sorted(defined - declared)]
+    faults += [f"{name} is writable memory of the archive" for name in sorted(writable)]
+    faults += [f"the archive asks for {name}" for name in sorted(wanted)]
+    if not declared:
+        faults.append("no function is declared")
+    for fault in faults:
+        print(f"header: {fault}", file=sys.stderr)
+    if not faults:
+        print(f"header: {len(declared)} functions, each declared and in the archive; no state, nothing else asked for")
+    return 1 if faults else 0
+
+
+if __name__ == "__main__":
+    sys.exit(main(sys.argv[1], sys.argv[2]))

@@ -8,7 +8,7 @@ SHELL := /bin/sh
 .PHONY: help run lib test bench fmt clean kit format c_test header_test rust_test
 
 # Each crate listed here becomes an archive for C: capi is libmednukals.a, capi_NAME is libmednukals_NAME.a.
-EXPORT_CRATES := capi
+EXPORT_CRATES := capi capi_test
 PROGRAMS := checksum
 
 archive = build/lib/$(patsubst capi%,libmednukals%,$(1)).a

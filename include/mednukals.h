@@ -6,7 +6,10 @@
  *
  * - A pointer and the length after it name memory that is the caller's for the whole call. The pointer is valid and not null,
  *   also where the length is 0 (then nothing is read or written through it).
- * - Nobody else writes that memory during the call.
+ * - Nobody else writes that memory during the call, and memory that the call writes overlaps no other memory given to it.
+ *
+ * A call that can refuse answers a count, 0 or more, or minus the number of the refusal. A refused call leaves all memory as it
+ * was. The refusals of a call are tested in the order in which they are listed.
  *
  * No function keeps state, allocates, locks or blocks: each may be called from several threads and from interrupt handlers,
  * also while another call is under way. Stack use is bounded.
@@ -36,6 +39,52 @@ extern "C" {
  * It refuses nothing and writes no memory.
  */
 uint16_t dxl_crc16(uint16_t start, const uint8_t *bytes, size_t n);
+
+/* Refusals: a call answers minus the number. */
+enum {
+    DXL_BAD_ID = 11,       /* an ID of 253 or 255 */
+    DXL_TOO_LONG = 12,     /* the packet's length, which counts stuffed body and checksum, would pass 1,024 */
+    DXL_NO_ROOM = 13,      /* the output buffer has too little room */
+    DXL_BAD_STUFFING = 14  /* the body is not well stuffed */
+};
+
+/* The longest packet. */
+enum { DXL_MAX_PACKET = 1031 };
+
+/*
+ * Writes one packet into out, from offset at on: FF FF FD 00, the ID, the length (low byte first), the body and the checksum (low
+ * byte first). The body is the instruction byte and then the n_params bytes of params, stuffed: after each FF FF FD in it, the
+ * instruction counted in, one FD is added. The length and the checksum are those of the stuffed form.
+ *
+ * id            0 to 252, or 254 for all devices
+ * instruction   any byte; 0x55 for a status packet, whose first parameter is the error byte
+ * params        the parameters, not stuffed; any number of them
+ * out, n_out    the output buffer
+ * at            where in out the packet begins; any number, also past the end of out
+ *
+ * Answers the packet's byte count, 10 to 1,031, or
+ *   -11  id is 253 or 255
+ *   -12  the length would pass 1,024: the stuffed body has more than 1,022 bytes
+ *   -13  out has fewer bytes from at on than the packet; so too where at lies past its end
+ *
+ * The bytes of out before at and those after the packet stay as they were, and so does all of out where the call refuses.
+ */
+int64_t dxl_encode(uint8_t id, uint8_t instruction, const uint8_t *params, size_t n_params, uint8_t *out, size_t n_out,
+                   size_t at);
+
+/*
+ * Removes the stuffing of a body: writes it to the start of out without the FD after each FF FF FD.
+ *
+ * body, n_body   a packet's bytes from its eighth on (the instruction) up to its checksum; any bytes of any number
+ * out, n_out     the output buffer; the unstuffed body has never more bytes than body, and has 0 where body has 0
+ *
+ * Answers the unstuffed byte count, or
+ *   -14  body is not well stuffed: some FF FF FD in it is not followed by FD within the body
+ *   -13  the unstuffed body has more than n_out bytes
+ *
+ * The bytes of out after the unstuffed body stay as they were, and so does all of out where the call refuses.
+ */
+int64_t dxl_unstuff(const uint8_t *body, size_t n_body, uint8_t *out, size_t n_out);
 
 #ifdef __cplusplus
 }

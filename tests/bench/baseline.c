@@ -18,3 +18,57 @@ uint16_t baseline_crc16(uint16_t start, const uint8_t *bytes, size_t n)
         crc = (uint16_t)(crc << 8) ^ table[(crc >> 8) ^ bytes[i]];
     return crc;
 }
+
+enum { LONGEST_BODY = 1022, AROUND_BODY = 9 };
+
+/* A count of the FF at the end of what was seen, up to 2: FF FF FD is complete where FD comes at 2. */
+static unsigned ff_after(unsigned ff, uint8_t byte)
+{
+    if (byte != 0xFF)
+        return 0;
+    return ff < 2 ? ff + 1 : 2;
+}
+
+int64_t baseline_encode(uint8_t id, uint8_t instruction, const uint8_t *params, size_t n_params, uint8_t *out, size_t n_out,
+                        size_t at)
+{
+    if (id == 253 || id == 255)
+        return -11;
+    if (n_params >= LONGEST_BODY)
+        return -12;
+
+    size_t body = 1 + n_params;
+    unsigned ff = ff_after(0, instruction);
+    for (size_t i = 0; i < n_params; i++) {
+        if (ff == 2 && params[i] == 0xFD)
+            body++;
+        ff = ff_after(ff, params[i]);
+    }
+    if (body > LONGEST_BODY)
+        return -12;
+    size_t count = body + AROUND_BODY;
+    if (at > n_out || n_out - at < count)
+        return -13;
+
+    uint8_t *packet = out + at;
+    packet[0] = 0xFF;
+    packet[1] = 0xFF;
+    packet[2] = 0xFD;
+    packet[3] = 0x00;
+    packet[4] = id;
+    packet[5] = (uint8_t)(body + 2);
+    packet[6] = (uint8_t)((body + 2) >> 8);
+    packet[7] = instruction;
+    uint8_t *next = packet + 8;
+    ff = ff_after(0, instruction);
+    for (size_t i = 0; i < n_params; i++) {
+        *next++ = params[i];
+        if (ff == 2 && params[i] == 0xFD)
+            *next++ = 0xFD;
+        ff = ff_after(ff, params[i]);
+    }
+    uint16_t crc = baseline_crc16(0, packet, count - 2);
+    next[0] = (uint8_t)crc;
+    next[1] = (uint8_t)(crc >> 8);
+    return (int64_t)count;
+}

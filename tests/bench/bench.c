@@ -50,6 +50,37 @@ static uint16_t crc_baseline(uint16_t last, size_t n)
     return baseline_crc16(last, input, n);
 }
 
+/* The status that answers a Ping, 14 bytes, and the longest packet, with ten places to stuff in it. */
+static uint8_t ping_status[] = {0x00, 0x06, 0x04, 0x26};
+static uint8_t longest[1011];
+static uint8_t packet[DXL_MAX_PACKET];
+
+typedef int64_t encoder(uint8_t id, uint8_t instruction, const uint8_t *params, size_t n_params, uint8_t *out, size_t n_out,
+                        size_t at);
+
+/* Encodes the packet of n bytes; the last answer is its first parameter, and its checksum is the next answer. */
+static uint16_t encoded(encoder *encode, uint16_t last, size_t n)
+{
+    uint8_t *params = n == 14 ? ping_status : longest;
+    size_t n_params = n == 14 ? sizeof ping_status : sizeof longest;
+    params[0] = (uint8_t)last;
+    if (encode(1, 0x55, params, n_params, packet, sizeof packet, 0) != (int64_t)n) {
+        fprintf(stderr, "the packet has not %zu bytes\n", n);
+        exit(1);
+    }
+    return (uint16_t)(packet[n - 2] | packet[n - 1] << 8);
+}
+
+static uint16_t encode_ours(uint16_t last, size_t n)
+{
+    return encoded(dxl_encode, last, n);
+}
+
+static uint16_t encode_baseline(uint16_t last, size_t n)
+{
+    return encoded(baseline_encode, last, n);
+}
+
 /* MB/s of so many calls, and what the last one answered. */
 static double rate(work *f, size_t n, size_t calls, uint16_t *answer)
 {
@@ -91,10 +122,17 @@ int main(void)
         seed = seed * 1664525u + 1013904223u;
         input[i] = (uint8_t)(seed >> 24);
     }
+    for (size_t i = 0; i < sizeof longest; i++)
+        longest[i] = input[i] == 0xFF ? 0 : input[i];
+    for (size_t i = 50; i < sizeof longest; i += 100) {
+        longest[i] = longest[i + 1] = 0xFF;
+        longest[i + 2] = 0xFD;
+    }
     printf("%d rounds; ours and plain C in MB/s, the ratio ours to C (median)\n", ROUNDS);
     printf("%-10s %9s %12s %12s %8s\n", "what", "bytes", "ours", "C", "ratio");
     return measure("checksum", crc_ours, crc_baseline, 14) && measure("checksum", crc_ours, crc_baseline, 1031)
-                   && measure("checksum", crc_ours, crc_baseline, LARGEST)
+                   && measure("checksum", crc_ours, crc_baseline, LARGEST) && measure("encode", encode_ours, encode_baseline, 14)
+                   && measure("encode", encode_ours, encode_baseline, DXL_MAX_PACKET)
                ? 0
                : 1;
 }

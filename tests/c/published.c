@@ -1,4 +1,8 @@
-/* Calls the archive from C: the checksum of every packet that the maker's pages print. usage: published PACKETS */
+/*
+ * Calls the archive from C, with every packet that the maker's pages print: its checksum, and its body unstuffed and encoded
+ * again.
+ * usage: published PACKETS
+ */
 #include <stdio.h>
 #include <stdlib.h>
 #include <string.h>
@@ -39,6 +43,34 @@ static int ends_with_checksum(const uint8_t *bytes, size_t n)
     return bytes[n - 2] == (crc & 255) && bytes[n - 1] == crc >> 8;
 }
 
+/* The packet's body, unstuffed and encoded again, is the packet, written to its place and nowhere else. */
+static int encodes_again(const uint8_t *packet, size_t n)
+{
+    enum { AT = 3, REST = 0xEE };
+    uint8_t body[MAX_BYTES], out[AT + MAX_BYTES + 1];
+    int64_t count = dxl_unstuff(packet + 7, n - 9, body, sizeof body);
+    memset(out, REST, sizeof out);
+    if (count < 1 || dxl_encode(packet[4], body[0], body + 1, (size_t)count - 1, out, sizeof out, AT) != (int64_t)n)
+        return 0;
+    for (size_t i = 0; i < sizeof out; i++) {
+        uint8_t wanted = i >= AT && i < AT + n ? packet[i - AT] : REST;
+        if (out[i] != wanted)
+            return 0;
+    }
+    return 1;
+}
+
+static void refusals(void)
+{
+    uint8_t out[10] = {0};
+    const uint8_t cut[] = {0x03, 0xFF, 0xFF, 0xFD};
+    expect(dxl_encode(253, 1, cut, 0, out, 0, SIZE_MAX) == -DXL_BAD_ID, "ID 253 is not refused", 0);
+    expect(dxl_encode(254, 1, cut, 0, out, 9, 0) == -DXL_NO_ROOM, "nine bytes are room for ten", 0);
+    expect(dxl_encode(254, 1, cut, 0, out, sizeof out, SIZE_MAX) == -DXL_NO_ROOM, "there is room at the largest offset", 0);
+    expect(dxl_unstuff(cut, sizeof cut, out, 0) == -DXL_BAD_STUFFING, "wrong stuffing is not refused", 0);
+    expect(dxl_unstuff(cut, 3, out, 2) == -DXL_NO_ROOM, "two bytes are room for three", 0);
+}
+
 int main(int argc, char **argv)
 {
     char line[MAX_LINE];
@@ -65,6 +97,7 @@ int main(int argc, char **argv)
             uint16_t in_two = dxl_crc16(dxl_crc16(0, bytes, cut), bytes + cut, n - 2 - cut);
             expect(in_two == whole, "two parts give another checksum", number);
             expect(dxl_crc16(whole, bytes, 0) == whole, "no bytes change the checksum", number);
+            expect(n >= 10 && encodes_again(bytes, n), "a good packet is not what the encoder writes", number);
             good++;
         } else if (strstr(line, "| misprint |") != NULL) {
             expect(!ends_with_checksum(bytes, n), "a misprint's checksum is right", number);
@@ -72,10 +105,12 @@ int main(int argc, char **argv)
         }
     }
     fclose(file);
+    refusals();
     if (good == 0 || misprints == 0)
         expect(0, "the file has no good packet or no misprint", number);
     if (failures != 0)
         return 1;
-    printf("C: the checksums of %u published packets are right, those of %u misprints wrong\n", good, misprints);
+    printf("C: %u published packets have the right checksum and are encoded again as printed\n", good);
+    printf("C: %u misprints have a wrong one\n", misprints);
     return 0;
 }

@@ -1,12 +1,65 @@
-//! The exports of the proved code, as safe functions. include/mednukals.h says what each does.
+//! The exports of the proved code, as safe functions. include/mednukals.h says what each does; those under `test` are in an
+//! archive of their own, which only these tests link.
 
 mod raw {
+    #[repr(C)]
+    pub struct Verdict {
+        pub kind: u8,
+        pub id: u8,
+        pub count: usize,
+    }
+
     extern "C" {
         pub fn dxl_crc16(start: u16, bytes: *const u8, n: usize) -> u16;
+        pub fn dxl_encode(
+            id: u8,
+            instruction: u8,
+            params: *const u8,
+            n_params: usize,
+            out: *mut u8,
+            n_out: usize,
+            at: usize,
+        ) -> i64;
+        pub fn dxl_unstuff(body: *const u8, n_body: usize, out: *mut u8, n_out: usize) -> i64;
+
+        pub fn dxl_test_well_stuffed(body: *const u8, n: usize) -> u8;
+        pub fn dxl_test_stuff(first: u8, rest: *const u8, n_rest: usize, out: *mut u8, n_out: usize) -> usize;
+        pub fn dxl_test_verdict(segment: *const u8, n: usize, offset: usize) -> Verdict;
     }
 }
 
+// Safety, for all calls here: a slice's pointer and length are valid together, also where it is empty, and a `&mut` slice
+// overlaps no other.
+
 pub fn crc16(start: u16, bytes: &[u8]) -> u16 {
-    // Safety: a slice's pointer and length are valid together, also where it is empty.
     unsafe { raw::dxl_crc16(start, bytes.as_ptr(), bytes.len()) }
+}
+
+pub fn encode(id: u8, instruction: u8, params: &[u8], out: &mut [u8], at: usize) -> i64 {
+    unsafe { raw::dxl_encode(id, instruction, params.as_ptr(), params.len(), out.as_mut_ptr(), out.len(), at) }
+}
+
+pub fn unstuff(body: &[u8], out: &mut [u8]) -> i64 {
+    unsafe { raw::dxl_unstuff(body.as_ptr(), body.len(), out.as_mut_ptr(), out.len()) }
+}
+
+/// Exports for tests alone.
+pub mod test {
+    use super::raw;
+
+    /// 1 or 0.
+    pub fn well_stuffed(body: &[u8]) -> u8 {
+        unsafe { raw::dxl_test_well_stuffed(body.as_ptr(), body.len()) }
+    }
+
+    /// Writes the stuffed form as far as there is room, and answers how many bytes that were.
+    pub fn stuff(first: u8, rest: &[u8], out: &mut [u8]) -> usize {
+        unsafe { raw::dxl_test_stuff(first, rest.as_ptr(), rest.len(), out.as_mut_ptr(), out.len()) }
+    }
+
+    /// The verdict on the bytes from offset on in an open segment, as (kind, ID, count).
+    pub fn verdict(segment: &[u8], offset: usize) -> (u8, u8, usize) {
+        let verdict = unsafe { raw::dxl_test_verdict(segment.as_ptr(), segment.len(), offset) };
+        (verdict.kind, verdict.id, verdict.count)
+    }
 }

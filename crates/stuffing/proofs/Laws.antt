@@ -1,0 +1,100 @@
+-- The laws of byte stuffing: each way undoes the other, what was stuffed is well stuffed, and the lengths.
+use mathlib.Core.Path.{_≡_, refl, sym, ap, subst, _∙_}
+use mathlib.Core.Bool.{Bool, true, false, not, cond, _&&_, _||_}
+use mathlib.Core.List.{List, [], _∷_}
+use Prim.Native.Nat.{ℕ, zero, suc, _+_, _≤_}
+use native.Mathlib.Omega.{arith}
+use lib.Dec.{eqb}
+use lib.ListN.{length}
+use borrow.Author.Tests.{eqb-true, not-true}
+use Rattle.lists.proofs.Bools.{and-left, and-right}
+use Rattle.stuffing.specs.Stuffing.{mark, stuffAfter, stuff, wellAfter, wellStuffed, unstuffAfter, unstuff, marksAfter, marks}
+use Rattle.stuffing.proofs.Mark.{mark-last, no-mark, stuff-forgets}
+
+-- after the last byte of a mark and one FD more, the bytes of a body go on as if nothing had been there
+after-mark : (a b c : ℕ) (s : List ℕ) → mark a b c ≡ true → stuffAfter b c s ≡ stuffAfter c 0xFD s
+after-mark a b c s e =
+    subst (λ (x : ℕ). stuffAfter b x s ≡ stuffAfter x 0xFD s) (sym (mark-last a b c e)) (stuff-forgets b 0xFD 0xFD s refl)
+
+no-mark-after : (a b c d : ℕ) → mark a b c ≡ true → mark b c d ≡ false
+no-mark-after a b c d e =
+    no-mark b c d (subst (λ (x : ℕ). eqb x 0xFF ≡ false) (sym (mark-last a b c e)) refl)
+
+-- Each proof below goes from one byte to the next by `turn`, which is given the claim for the bytes that are left.
+
+-- removal undoes stuffing
+Removed : List ℕ → Type 0
+Removed s = (z a b : ℕ) → mark z a b ≡ false → unstuffAfter z a b (stuffAfter a b s) ≡ s
+
+removed : (s : List ℕ) → Removed s
+unfolding Removed stuffAfter unstuffAfter
+removed [] z a b n = refl
+removed (c ∷ s) z a b n = rw n (ap (λ (t : List ℕ). c ∷ t) (turn (removed s) (mark a b c) refl))
+  where
+    turn : Removed s → (m : Bool) → mark a b c ≡ m
+        → unstuffAfter a b c (cond m (0xFD ∷ stuffAfter b c s) (stuffAfter b c s)) ≡ s
+    turn rest false e = rest a b c e
+    turn rest true e = rw e (ap (unstuffAfter b c 0xFD) (after-mark a b c s e) ∙ rest b c 0xFD (no-mark-after a b c 0xFD e))
+
+pub unstuff-stuff : (body : List ℕ) → unstuff (stuff body) ≡ body
+unfolding Removed
+unstuff-stuff body = removed body 0 0 0 refl
+
+-- what was stuffed is well stuffed
+Welled : List ℕ → Type 0
+Welled s = (z a b : ℕ) → mark z a b ≡ false → wellAfter z a b (stuffAfter a b s) ≡ true
+
+welled : (s : List ℕ) → Welled s
+unfolding Welled stuffAfter wellAfter
+welled [] z a b n = rw n
+welled (c ∷ s) z a b n = rw n (turn (welled s) (mark a b c) refl)
+  where
+    turn : Welled s → (m : Bool) → mark a b c ≡ m
+        → wellAfter a b c (cond m (0xFD ∷ stuffAfter b c s) (stuffAfter b c s)) ≡ true
+    turn rest false e = rest a b c e
+    turn rest true e = rw e (ap (wellAfter b c 0xFD) (after-mark a b c s e) ∙ rest b c 0xFD (no-mark-after a b c 0xFD e))
+
+pub stuff-well : (body : List ℕ) → wellStuffed (stuff body) ≡ true
+unfolding Welled
+stuff-well body = welled body 0 0 0 refl
+
+-- stuffing undoes removal, where the bytes are well stuffed
+Restored : List ℕ → Type 0
+Restored s = (z a b : ℕ) → wellAfter z a b s ≡ true
+    → cond (mark z a b) (0xFD ∷ stuffAfter a b (unstuffAfter z a b s)) (stuffAfter a b (unstuffAfter z a b s)) ≡ s
+
+restored : (s : List ℕ) → Restored s
+unfolding Restored stuffAfter wellAfter unstuffAfter
+restored [] z a b w = rw (not-true (mark z a b) w)
+restored (c ∷ s) z a b w = turn (restored s a b c (and-right (not (mark z a b) || eqb c 0xFD) (wellAfter a b c s) w)) (mark z a b) refl
+  where
+    turn : cond (mark a b c) (0xFD ∷ stuffAfter b c (unstuffAfter a b c s)) (stuffAfter b c (unstuffAfter a b c s)) ≡ s
+        → (m : Bool) → mark z a b ≡ m
+        → cond m (0xFD ∷ stuffAfter a b (unstuffAfter z a b (c ∷ s))) (stuffAfter a b (unstuffAfter z a b (c ∷ s))) ≡ c ∷ s
+    turn rest false e = rw e (ap (λ (t : List ℕ). c ∷ t) rest)
+    turn rest true e =
+        let last : c ≡ 0xFD = eqb-true c 0xFD (and-left (eqb c 0xFD) (wellAfter a b c s) (rw e at w)) in
+        let goes-on : stuffAfter b c (unstuffAfter a b c s) ≡ s = rw (no-mark-after z a b c e) at rest in
+        let whole : 0xFD ∷ stuffAfter a b (unstuffAfter a b c s) ≡ c ∷ s = cc (after-mark z a b (unstuffAfter a b c s) e) in
+        rw e whole
+
+pub stuff-unstuff : (bytes : List ℕ) → wellStuffed bytes ≡ true → stuff (unstuff bytes) ≡ bytes
+unfolding Restored
+stuff-unstuff bytes w = restored bytes 0 0 0 w
+
+-- the lengths
+stuffed-length : (a b : ℕ) (s : List ℕ) → length (stuffAfter a b s) ≡ length s + marksAfter a b s
+unfolding stuffAfter marksAfter
+stuffed-length a b [] = refl
+stuffed-length a b (c ∷ s) = turn (stuffed-length b c s) (mark a b c)
+  where
+    turn : length (stuffAfter b c s) ≡ length s + marksAfter b c s → (m : Bool)
+        → length (c ∷ cond m (0xFD ∷ stuffAfter b c s) (stuffAfter b c s)) ≡ length (c ∷ s) + cond m (1 + marksAfter b c s) (marksAfter b c s)
+    turn rest false = omega arith
+    turn rest true = omega arith
+
+pub length-stuff : (body : List ℕ) → length (stuff body) ≡ length body + marks body
+length-stuff body = stuffed-length 0 0 body
+
+pub length-unstuff : (bytes : List ℕ) → wellStuffed bytes ≡ true → length bytes ≡ length (unstuff bytes) + marks (unstuff bytes)
+length-unstuff bytes w = ap length (sym (stuff-unstuff bytes w)) ∙ length-stuff (unstuff bytes)

@@ -1,0 +1,4 @@
+pub mod Mark
+pub mod Laws
+pub mod Answers
+mod Turns

@@ -1,0 +1,16 @@
+use mathlib.Core.Bool.{and-false, and-true}
+use borrow.Author.Tests.{ne-eqb, eq-eqb}
+use Rattle.stuffing.proofs.is_mark.Statement.{statement}
+use Rattle.stuffing.proofs.is_mark.Tie as tie
+
+returns : tie.Need-returns
+returns c = simp (ne-eqb _ _ (c .if1 .taken), and-false)
+
+returns-2 : tie.Need-returns-2
+returns-2 c = simp (ne-eqb _ _ (c .if2 .taken), and-false)
+
+returns-3 : tie.Need-returns-3
+returns-3 c = simp (eq-eqb _ _ (c .before .if1 .left), eq-eqb _ _ (c .if2 .left), and-true)
+
+pub is-mark-spec : {M : Type 1} → statement M
+is-mark-spec = tie.close (tie.spec returns returns-2 returns-3)

@@ -1,0 +1,44 @@
+-- What the functions of this crate answer and leave.
+use mathlib.Core.Bool.{cond}
+use mathlib.Core.List.{List, [], _∷_}
+use mathlib.Core.Option.{Option}
+use Prim.Native.Nat.{ℕ}
+use lib.Dec.{leb}
+use lib.ListN.{length}
+use Rattle.lists.specs.Answer.{Answer, count, refused, firstFailing, answered, unlessRefused}
+use Rattle.lists.specs.Write.{overwritten}
+use Rattle.stuffing.specs.Stuffing.{wellStuffed, unstuff}
+use Rattle.stuffing.specs.declared.Checked.{Checked}
+use Rattle.stuffing.specs.declared.Checked.the-variants.{Good, Bad}
+use Rattle.stuffing.specs.declared.Length.{Length}
+use Rattle.stuffing.specs.declared.Length.the-variants.{Within, Past}
+use Rattle.stuffing.specs.declared.Unstuffed.{Unstuffed}
+use Rattle.stuffing.specs.declared.Unstuffed.the-variants.{Count, BadStuffing, NoRoom}
+
+-- the stuffing test, with the count of the unstuffed bytes where it passes
+abbrev pub checked : List ℕ → Checked
+checked body = cond (wellStuffed body) (Good (length (unstuff body))) Bad
+
+-- a length, where it is at most the bound
+abbrev pub lengthWithin : ℕ → ℕ → Length
+lengthWithin most n = cond (leb n most) (Within n) Past
+
+-- the refusal numbers of removal
+abbrev pub unstuffedAnswer : Unstuffed → Answer
+unstuffedAnswer (Count n) = count n
+unstuffedAnswer BadStuffing = refused 14
+unstuffedAnswer NoRoom = refused 13
+
+-- removal into a buffer: the stuffing is tested before the room
+unfoldable pub removalRefusal : List ℕ → List ℕ → Option ℕ
+removalRefusal body out =
+    firstFailing ((wellStuffed body, 14)
+    ∷ (leb (length (unstuff body)) (length out), 13)
+    ∷ [])
+
+abbrev pub removalAnswer : List ℕ → List ℕ → Answer
+removalAnswer body out = answered (removalRefusal body out) (length (unstuff body))
+
+-- the bytes after the result stay
+abbrev pub removalOut : List ℕ → List ℕ → List ℕ
+removalOut body out = unlessRefused (removalRefusal body out) out (overwritten out (unstuff body))

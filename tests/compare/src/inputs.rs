@@ -1,0 +1,63 @@
+//! Random inputs that lead to the corners of the rules.
+
+use reference::{framed, packet_of, Rng};
+
+/// A body rich in FF and FD, so that stuffing is met at every turn; sometimes any bytes.
+pub fn body(rng: &mut Rng, length: usize) -> Vec<u8> {
+    let alphabet: &[u8] = match rng.between(0, 5) {
+        0 => &[0xFF, 0xFD],
+        1 => &[0xFF, 0xFF, 0xFD],
+        2 => &[0xFF, 0xFF, 0xFD, 0xFD, 0x00, 0x01],
+        3 => &[0xFF, 0xFD, 0xFE, 0xFC, 0x7F, 0x03],
+        4 => &[0x00, 0x01, 0x02],
+        _ => return rng.bytes(length),
+    };
+    (0..length).map(|_| rng.pick(alphabet)).collect()
+}
+
+/// Lengths of a body: short ones, those around the longest, and beyond, now and then far beyond.
+pub fn length(rng: &mut Rng) -> usize {
+    match rng.between(0, 399) {
+        0 => rng.between(10_000, 70_000),
+        1..=9 => rng.between(1_025, 2_500),
+        10..=40 => rng.between(1_018, 1_025),
+        41..=80 => rng.between(500, 1_024),
+        81..=160 => rng.between(13, 200),
+        _ => rng.between(0, 12),
+    }
+}
+
+/// A body, rich in FF and FD, whose stuffed form has so many bytes, or one more where that falls on an added byte.
+pub fn body_of_stuffed_length(rng: &mut Rng, length: usize) -> Vec<u8> {
+    let mut short = Vec::new();
+    let mut stuffed = 0;
+    for byte in body(rng, length) {
+        if stuffed >= length {
+            break;
+        }
+        short.push(byte);
+        stuffed += if short.ends_with(&[0xFF, 0xFF, 0xFD]) { 2 } else { 1 };
+    }
+    short
+}
+
+/// Mostly valid IDs, the ends of their range often.
+pub fn id(rng: &mut Rng) -> u8 {
+    if rng.one_in(3) {
+        rng.pick(&[0, 1, 252, 253, 254, 255])
+    } else {
+        rng.byte()
+    }
+}
+
+/// Bytes in the form of a packet. Most are well-formed; some have a bad ID, a length out of bounds or wrong stuffing under a
+/// right checksum.
+pub fn packet(rng: &mut Rng, length: usize) -> Vec<u8> {
+    let id = id(rng);
+    let body = body(rng, length);
+    if rng.one_in(4) {
+        framed(id, &body)
+    } else {
+        packet_of(id, &body)
+    }
+}

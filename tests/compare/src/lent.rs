@@ -1,0 +1,46 @@
+use reference::{Answer, Rng};
+use std::hint::black_box;
+use std::ops::Range;
+
+/// Bytes before, between and after what is lent.
+const MARGIN: usize = 24;
+
+/// The memory that one call borrows: an input and an output, with bytes around both that no call may touch. Two copies, one given
+/// to the reference and one to the proved code, must be the same afterwards, byte by byte.
+#[derive(Clone, PartialEq, Eq)]
+pub struct Lent {
+    memory: Vec<u8>,
+    input: Range<usize>,
+    output: Range<usize>,
+}
+
+impl Lent {
+    /// The output and the margins are random bytes.
+    pub fn new(rng: &mut Rng, input: &[u8], output_length: usize) -> Lent {
+        let output_start = MARGIN + input.len() + MARGIN;
+        let mut memory = rng.bytes(output_start + output_length + MARGIN);
+        let lent = MARGIN..MARGIN + input.len();
+        memory[lent.clone()].copy_from_slice(input);
+        Lent { memory, input: lent, output: output_start..output_start + output_length }
+    }
+
+    pub fn call<R>(&mut self, f: impl FnOnce(&[u8], &mut [u8]) -> R) -> R {
+        let (before, after) = self.memory.split_at_mut(self.output.start);
+        let answer = f(&before[self.input.clone()], &mut after[..self.output.len()]);
+        // What was lent as input is compared too, so the compiler must not take it for unchanged.
+        black_box(&mut self.memory);
+        answer
+    }
+
+    pub fn output(&self) -> &[u8] {
+        &self.memory[self.output.clone()]
+    }
+}
+
+/// An answer as the exports give it: a refusal is minus its number.
+pub fn number(answer: Answer) -> i64 {
+    match answer {
+        Ok(count) => count as i64,
+        Err(refusal) => -i64::from(refusal),
+    }
+}

@@ -1,0 +1,79 @@
+-- Every case of the table holds: one test, which the checker computes over the whole table, and one law that turns it into
+-- each case's claim.
+use mathlib.Core.Path.{_≡_, refl, sym, ap, ap₂, _∙_, subst}
+use mathlib.Core.Bool.{Bool, true, false, _&&_}
+use mathlib.Core.List.{List, [], _∷_, List·Memᴰ, List·Memᴰ·cases-cons, List·Memᴰ·not-nil}
+use mathlib.Core.Logic.{⊎-elim}
+use Prim.Native.Nat.{ℕ}
+use native.Mathlib.Omega.{arith}
+use lib.Dec.{eqb}
+use lib.ListN.{length}
+use borrow.Author.Tests.{eqb-true}
+use Rattle.lists.proofs.Bools.{and-left, and-right}
+use Rattle.reading.specs.Rules.{Verdict, isPacket, isBadChecksum, isWaiting, isNothing}
+use Rattle.crc16.specs.Crc.{reduceIf, shift, shifts, crcByte, crcFrom}
+use Rattle.stuffing.specs.Stuffing.{stuffAfter, stuff, wellAfter, wellStuffed, unstuffAfter, unstuff}
+use Rattle.packet.specs.Packet.{lengthOf, bodyOf, checksumRight, withChecksum, packetOf}
+use Rattle.packet.specs.Verdict.{frontAgrees, lengthAgrees, verdict}
+use Rattle.cases.specs.Cases.{Case, packet, stuffing, Claim, table}
+
+-- ---- equality as a test
+
+abbrev same : List ℕ → List ℕ → Bool
+same [] [] = true
+same [] (b ∷ t) = false
+same (a ∷ s) [] = false
+same (a ∷ s) (b ∷ t) = eqb a b && same s t
+
+same-lists : (s t : List ℕ) → same s t ≡ true → s ≡ t
+same-lists [] [] e = refl
+same-lists [] (b ∷ t) e = let z : _≡_ {A = ℕ} 0 1 = cc in absurd (omega arith)
+same-lists (a ∷ s) [] e = let z : _≡_ {A = ℕ} 0 1 = cc in absurd (omega arith)
+same-lists (a ∷ s) (b ∷ t) e =
+    ap₂ (λ (x : ℕ) (l : List ℕ). x ∷ l) (eqb-true a b (and-left (eqb a b) (same s t) e))
+    (same-lists s t (and-right (eqb a b) (same s t) e))
+
+abbrev isPacketOf : Verdict → ℕ → Bool
+isPacketOf (isPacket m) n = eqb m n
+isPacketOf (isBadChecksum id) n = false
+isPacketOf isWaiting n = false
+isPacketOf isNothing n = false
+
+packet-of : (v : Verdict) (n : ℕ) → isPacketOf v n ≡ true → v ≡ isPacket n
+packet-of (isPacket m) n e = ap isPacket (eqb-true m n e)
+packet-of (isBadChecksum id) n e = let z : _≡_ {A = ℕ} 0 1 = cc in absurd (omega arith)
+packet-of isWaiting n e = let z : _≡_ {A = ℕ} 0 1 = cc in absurd (omega arith)
+packet-of isNothing n e = let z : _≡_ {A = ℕ} 0 1 = cc in absurd (omega arith)
+
+-- ---- the test of a case, and of the table
+
+abbrev right : Case → Bool
+right (packet id body bytes) = same (packetOf id body) bytes && isPacketOf (verdict bytes) (length bytes)
+right (stuffing body stuffed) = same (stuff body) stuffed && (wellStuffed stuffed && same (unstuff stuffed) body)
+
+claimed : (c : Case) → right c ≡ true → Claim c
+claimed (packet id body bytes) e =
+    let a = same (packetOf id body) bytes in
+    let b = isPacketOf (verdict bytes) (length bytes) in
+    (same-lists (packetOf id body) bytes (and-left a b e), packet-of (verdict bytes) (length bytes) (and-right a b e))
+claimed (stuffing body stuffed) e =
+    let a = same (stuff body) stuffed in
+    let b = wellStuffed stuffed in
+    let c = same (unstuff stuffed) body in
+    let r = and-right a (b && c) e in
+    (same-lists (stuff body) stuffed (and-left a (b && c) e), and-left b c r, same-lists (unstuff stuffed) body (and-right b c r))
+
+abbrev allRight : List Case → Bool
+allRight [] = true
+allRight (c ∷ cs) = right c && allRight cs
+
+each : (cs : List Case) → allRight cs ≡ true → (c : Case) → List·Memᴰ c cs → Claim c
+each [] e c m = absurd (List·Memᴰ·not-nil m)
+each (d ∷ cs) e c m =
+    ⊎-elim (λ i. subst Claim (sym i) (claimed d (and-left (right d) (allRight cs) e)))
+    (λ i. each cs (and-right (right d) (allRight cs) e) c i) (List·Memᴰ·cases-cons m)
+
+-- the test is computed here
+pub cases-hold : (c : Case) → List·Memᴰ c table → Claim c
+unfolding reduceIf shift shifts crcByte crcFrom stuffAfter wellAfter unstuffAfter lengthOf bodyOf checksumRight withChecksum packetOf frontAgrees lengthAgrees verdict
+cases-hold = each table refl

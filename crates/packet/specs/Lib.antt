@@ -1,0 +1,4 @@
+pub mod Packet
+pub mod Verdict
+pub mod Encoding
+pub mod RoundTrip

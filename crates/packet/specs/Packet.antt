@@ -1,0 +1,65 @@
+-- One packet of Protocol 2.0, rule by rule: FF FF FD 00, ID, length low and high, body, checksum low and high.
+use mathlib.Core.Path.{_≡_}
+use mathlib.Core.Bool.{Bool, true, _||_}
+use mathlib.Core.List.{List, [], _∷_, _++_}
+use Prim.Native.Nat.{ℕ, _+_, _-_, _*_, _/_, _%_, _≤_}
+use lib.Dec.{leb, eqb}
+use lib.ListN.{length, take, drop, getD}
+use Rattle.crc16.specs.Crc.{crcFrom}
+use Rattle.stuffing.specs.Stuffing.{stuff, wellStuffed, unstuff}
+
+-- 16-bit numbers go low byte first
+abbrev pub low : ℕ → ℕ
+low n = n % 256
+
+abbrev pub high : ℕ → ℕ
+high n = n / 256 % 256
+
+abbrev pub word : ℕ → ℕ → ℕ
+word lo hi = lo + hi * 256
+
+abbrev pub header : List ℕ
+header = 0xFF ∷ 0xFF ∷ 0xFD ∷ 0x00 ∷ []
+
+-- 0 to 252, or 254 for all devices
+abbrev pub goodId : ℕ → Bool
+goodId id = leb id 252 || eqb id 254
+
+-- ---- reading a packet
+
+abbrev pub idOf : List ℕ → ℕ
+idOf w = getD w 4 0
+
+-- the length field counts the body and the checksum
+unfoldable pub lengthOf : List ℕ → ℕ
+lengthOf w = word (getD w 5 0) (getD w 6 0)
+
+-- the body lies between the length field and the checksum
+unfoldable pub bodyOf : List ℕ → List ℕ
+bodyOf w = take (length w - 9) (drop 7 w)
+
+-- the checksum covers everything before it, the header included
+unfoldable pub checksumRight : List ℕ → Bool
+checksumRight w = eqb (crcFrom 0 (take (length w - 2) w)) (word (getD w (length w - 2) 0) (getD w (length w - 1) 0))
+
+pub record WellFormed (w : List ℕ) : Type 0 where
+  pub headed : take 4 w ≡ header
+  pub identified : goodId (idOf w) ≡ true
+  pub shortest : 3 ≤ lengthOf w
+  pub longest : lengthOf w ≤ 1024
+  pub counted : length w ≡ 7 + lengthOf w
+  pub summed : checksumRight w ≡ true
+  pub stuffed : wellStuffed (bodyOf w) ≡ true
+
+-- ---- writing a packet
+
+-- header, ID and length field before a stuffed body of n bytes
+abbrev pub front : ℕ → ℕ → List ℕ
+front id n = header ++ id ∷ low (n + 2) ∷ high (n + 2) ∷ []
+
+unfoldable pub withChecksum : List ℕ → List ℕ
+withChecksum s = s ++ low (crcFrom 0 s) ∷ high (crcFrom 0 s) ∷ []
+
+-- the packet with this ID and this body, which is given without stuffing
+unfoldable pub packetOf : ℕ → List ℕ → List ℕ
+packetOf id body = withChecksum (front id (length (stuff body)) ++ stuff body)

@@ -1,0 +1,27 @@
+use mathlib.Core.Path.{_≡_, ap, _∙_}
+use Prim.Native.Nat.{ℕ, min}
+use native.Mathlib.Omega.{arith}
+use lib.IntN.{pos}
+use mir.Facts.{toZ-pos}
+use mir.Syntax.{w64}
+use borrow.Author.Needs.{needs}
+use Rattle.capi.proofs.count_number.Statement.{statement}
+use Rattle.capi.proofs.count_number.Tie as tie
+
+cast-result : tie.Need-cast-result
+cast-result c = search needs
+
+returns : tie.Need-returns
+returns c =
+    let n = c .before .args .n in
+    let e : n ≡ min n 9223372036854775807 = omega arith in
+    toZ-pos w64 (omega arith) ∙ ap pos e
+
+returns-2 : tie.Need-returns-2
+returns-2 c =
+    let n = c .before .args .n in
+    let e : 9223372036854775807 ≡ min n 9223372036854775807 = omega arith in
+    ap pos e
+
+pub count-number-spec : {M : Type 1} → statement M
+count-number-spec = tie.close (tie.spec cast-result returns returns-2)

@@ -1,0 +1,67 @@
+// Exports that only the comparison tests call: the leaves that firmware has no use for by themselves.
+use packet::Verdict;
+use stuffing::Checked;
+ghost use mathlib.Core.Path.{_≡_};
+ghost use mathlib.Core.List.{_∷_};
+ghost use Prim.Native.Nat.{min};
+ghost use lib.ListN.{length, take, drop};
+ghost use Rattle.lists.specs.Write.{overwritten};
+ghost use Rattle.stuffing.specs.Stuffing.{stuff};
+ghost use Rattle.stuffing.specs.Answers.{checked};
+ghost use Rattle.packet.specs.Verdict.{verdict, lacks, answerFor};
+ghost use Rattle.capi_test.specs.Numbers.{testNumber, verdictNumbers};
+
+// A verdict as numbers. kind 0: nothing; 1: a packet of `count` bytes; 2: a bad checksum of `id`; 3: waiting for `count` bytes.
+#[repr(C)]
+pub struct VerdictNumbers {
+    pub kind: u8,
+    pub id: u8,
+    pub count: usize,
+}
+
+// 1 where the body is well stuffed, otherwise 0.
+#[no_mangle]
+pub extern "C" fn dxl_test_well_stuffed(body: &[u8]) -> u8
+    ensures { λ r. ⌜ r ≡ testNumber (checked (now (body .entry))) ⌝ }
+{
+    match stuffing::check(body) {
+        Checked::Good(_) => 1,
+        Checked::Bad => 0,
+    }
+}
+
+#[no_mangle]
+pub extern "C" fn dxl_test_stuff(first: u8, rest: &[u8], out: &mut [u8]) -> usize
+    ensures { λ r. ⌜ r ≡ min (length (now (out .entry))) (length (stuff (first ∷ now (rest .entry)))) ⌝ }
+    ensures { λ _. ⌜ now (out .exit) ≡ overwritten (now (out .entry)) (take (length (now (out .entry))) (stuff (first ∷ now (rest .entry)))) ⌝ }
+{
+    stuffing::write_stuffed(first, rest, out)
+}
+
+#[no_mangle]
+pub extern "C" fn dxl_test_verdict(segment: &[u8], offset: usize) -> VerdictNumbers
+    ensures { λ r. ⌜ r ≡ verdictNumbers (answerFor (verdict (drop offset (now (segment .entry)))) (lacks (drop offset (now (segment .entry))))) ⌝ }
+{
+    match packet::judge(segment, offset) {
+        Verdict::Nothing => VerdictNumbers {
+            kind: 0,
+            id: 0,
+            count: 0,
+        },
+        Verdict::Packet(n) => VerdictNumbers {
+            kind: 1,
+            id: 0,
+            count: n,
+        },
+        Verdict::BadChecksum(id) => VerdictNumbers {
+            kind: 2,
+            id,
+            count: 0,
+        },
+        Verdict::Waiting(n) => VerdictNumbers {
+            kind: 3,
+            id: 0,
+            count: n,
+        },
+    }
+}

@@ -38,7 +38,7 @@ fn packets() {
         let mut out = vec![0xEE; packet.len() + 2];
         assert_eq!(exports::encode(id, body[0], &body[1..], &mut out, 1), packet.len() as i64);
         assert_eq!(out, [&[0xEE], packet, &[0xEE]].concat());
-        assert_eq!(exports::test::verdict(packet, 0), (1, id, packet.len()));
+        assert_eq!(exports::test::verdict(packet, 0), (1, 0, packet.len()));
 
         assert_eq!(packet_of(id, body), packet);
         assert!(well_formed(packet));

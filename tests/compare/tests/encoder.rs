@@ -105,7 +105,7 @@ fn what_is_written_reads_back() {
         }
         let packet = &out[..count as usize];
         assert!(well_formed(packet), "{packet:02x?}");
-        assert_eq!(exports::test::verdict(packet, 0), (1, id, packet.len()));
+        assert_eq!(exports::test::verdict(packet, 0), (1, 0, packet.len()));
         let mut back = vec![0; body.len()];
         assert_eq!(exports::unstuff(&packet[7..packet.len() - 2], &mut back), body.len() as i64);
         assert_eq!(back, body);

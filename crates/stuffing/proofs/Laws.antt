@@ -20,43 +20,38 @@ no-mark-after : (a b c d : ℕ) → mark a b c ≡ true → mark b c d ≡ false
 no-mark-after a b c d e =
     no-mark b c d (subst (λ (x : ℕ). eqb x 0xFF ≡ false) (sym (mark-last a b c e)) refl)
 
--- Each proof below goes from one byte to the next by `turn`, which is given the claim for the bytes that are left.
+-- What a scan makes of a stuffed form, where it passes over the byte after each mark and takes every other byte as one of
+-- the body.
+module _ {A : Type 0} (scan : ℕ → ℕ → ℕ → List ℕ → A) (result : List ℕ → A)
+    (ends : (z a b : ℕ) → mark z a b ≡ false → scan z a b [] ≡ result [])
+    (takes : (z a b c : ℕ) (t s : List ℕ) → mark z a b ≡ false → scan a b c t ≡ result s → scan z a b (c ∷ t) ≡ result (c ∷ s))
+    (passes : (z a b : ℕ) (t : List ℕ) → mark z a b ≡ true → scan z a b (0xFD ∷ t) ≡ scan a b 0xFD t) where
+  Scanned : List ℕ → Type 0
+  Scanned s = (z a b : ℕ) → mark z a b ≡ false → scan z a b (stuffAfter a b s) ≡ result s
+
+  scanned : (s : List ℕ) → Scanned s
+  unfolding Scanned stuffAfter
+  scanned [] z a b n = ends z a b n
+  scanned (c ∷ s) z a b n = takes z a b c _ s n (turn (scanned s) (mark a b c) refl)
+    where
+      turn : Scanned s → (m : Bool) → mark a b c ≡ m
+          → scan a b c (cond m (0xFD ∷ stuffAfter b c s) (stuffAfter b c s)) ≡ result s
+      turn rest false e = rest a b c e
+      turn rest true e =
+          passes a b c _ e ∙ ap (scan b c 0xFD) (after-mark a b c s e) ∙ rest b c 0xFD (no-mark-after a b c 0xFD e)
 
 -- removal undoes stuffing
-Removed : List ℕ → Type 0
-Removed s = (z a b : ℕ) → mark z a b ≡ false → unstuffAfter z a b (stuffAfter a b s) ≡ s
-
-removed : (s : List ℕ) → Removed s
-unfolding Removed stuffAfter unstuffAfter
-removed [] z a b n = refl
-removed (c ∷ s) z a b n = rw n (ap (λ (t : List ℕ). c ∷ t) (turn (removed s) (mark a b c) refl))
-  where
-    turn : Removed s → (m : Bool) → mark a b c ≡ m
-        → unstuffAfter a b c (cond m (0xFD ∷ stuffAfter b c s) (stuffAfter b c s)) ≡ s
-    turn rest false e = rest a b c e
-    turn rest true e = rw e (ap (unstuffAfter b c 0xFD) (after-mark a b c s e) ∙ rest b c 0xFD (no-mark-after a b c 0xFD e))
-
 pub unstuff-stuff : (body : List ℕ) → unstuff (stuff body) ≡ body
-unfolding Removed
-unstuff-stuff body = removed body 0 0 0 refl
+unfolding Scanned unstuffAfter
+unstuff-stuff body =
+    scanned unstuffAfter (λ s. s) (λ z a b n. refl) (λ z a b c t s n e. rw n (ap (λ (l : List ℕ). c ∷ l) e)) (λ z a b t e. rw e) body
+    0 0 0 refl
 
 -- what was stuffed is well stuffed
-Welled : List ℕ → Type 0
-Welled s = (z a b : ℕ) → mark z a b ≡ false → wellAfter z a b (stuffAfter a b s) ≡ true
-
-welled : (s : List ℕ) → Welled s
-unfolding Welled stuffAfter wellAfter
-welled [] z a b n = rw n
-welled (c ∷ s) z a b n = rw n (turn (welled s) (mark a b c) refl)
-  where
-    turn : Welled s → (m : Bool) → mark a b c ≡ m
-        → wellAfter a b c (cond m (0xFD ∷ stuffAfter b c s) (stuffAfter b c s)) ≡ true
-    turn rest false e = rest a b c e
-    turn rest true e = rw e (ap (wellAfter b c 0xFD) (after-mark a b c s e) ∙ rest b c 0xFD (no-mark-after a b c 0xFD e))
-
 pub stuff-well : (body : List ℕ) → wellStuffed (stuff body) ≡ true
-unfolding Welled
-stuff-well body = welled body 0 0 0 refl
+unfolding Scanned wellAfter
+stuff-well body =
+    scanned wellAfter (λ s. true) (λ z a b n. rw n) (λ z a b c t s n e. rw n e) (λ z a b t e. rw e) body 0 0 0 refl
 
 -- stuffing undoes removal, where the bytes are well stuffed
 Restored : List ℕ → Type 0

@@ -1,0 +1,7 @@
+pub mod Permits
+pub mod Stored
+pub mod Signed
+pub mod Rows
+pub mod Judged
+pub mod Theorems
+pub mod Put

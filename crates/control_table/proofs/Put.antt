@@ -1,0 +1,43 @@
+-- A number in the place of a register, as stores of its bytes.
+use mathlib.Core.Path.{_≡_, refl, sym, ap, _∙_}
+use mathlib.Core.List.{List}
+use Prim.Native.Nat.{ℕ, zero, suc, _/_, _%_, _≤_, _<_}
+use native.Mathlib.Nat.{mod-eq-of-lt}
+use native.Mathlib.Omega.{arith}
+use lib.IntN.{ℤ}
+use lib.ListN.{length, set}
+use lib.Seq.{sets}
+use Rattle.control_table.specs.Registers.{Register, tableSize, endOf, presentPosition, hardwareError}
+use Rattle.control_table.specs.Items.{bytesOf, put, unsigned}
+use Rattle.control_table.specs.Fresh.{measured}
+use Rattle.control_table.proofs.Stored.{stored-sets, stored-length}
+
+bytes-length : (n u : ℕ) → length (bytesOf n u) ≡ n
+unfolding bytesOf
+bytes-length zero u = refl
+bytes-length (suc n) u = ap suc (bytes-length n (u / 256))
+
+module _ (table : List ℕ) (r : Register) (u : ℕ) (inside : endOf r ≤ length table) where
+  pub put-sets : put table r u ≡ sets table (r .address) (bytesOf (r .bytes) u)
+  unfolding put
+  put-sets = sym (stored-sets table (r .address) (bytesOf (r .bytes) u) (omega (arith, bytes-length (r .bytes) u)))
+
+  pub put-length : length (put table r u) ≡ length table
+  unfolding put
+  put-length = stored-length table (r .address) (bytesOf (r .bytes) u) (omega (arith, bytes-length (r .bytes) u))
+
+-- a register of one byte
+pub put-byte : (table : List ℕ) (r : Register) (b : ℕ) → r .bytes ≡ 1 → r .address < length table → b < 256 → put table r b ≡ set table (r .address) b
+unfolding bytesOf
+put-byte table r b one inside h =
+    put-sets table r b (omega arith) ∙ rw (one) (ap (set table (r .address)) (mod-eq-of-lt h))
+
+-- the measurement call
+pub measured-sets : (table : List ℕ) (position : ℤ) (error u : ℕ) → length table ≡ tableSize → error < 256 → u ≡ unsigned position
+    → set (set (set (set (set table 132 (u % 256)) 133 (u / 256 % 256)) 134 (u / 256 / 256 % 256)) 135 (u / 256 / 256 / 256 % 256)) 70 error
+    ≡ measured table position error
+unfolding bytesOf
+measured-sets table position error u sized h e =
+    let p = put table presentPosition (unsigned position) in
+    let l = put-length table presentPosition (unsigned position) (omega arith) in
+    sym (put-byte p hardwareError error refl (omega arith) h ∙ ap (λ (t : List ℕ). set t 70 error) (put-sets table presentPosition (unsigned position) (omega arith)) ∙ rw (sym e))

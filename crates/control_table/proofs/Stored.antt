@@ -1,0 +1,79 @@
+-- The table that a write leaves, byte by byte: those before the written ones, these, and those after them.
+use mathlib.Core.Path.{_≡_, sym, ap, _∙_}
+use mathlib.Core.List.{List, _++_, append-assoc}
+use Prim.Native.Nat.{ℕ, _+_, _-_, _≤_, _<_}
+use native.Mathlib.Numerals.{add-one}
+use native.Mathlib.Omega.{arith}
+use lib.ListN.{length, take, drop, getD, set, length-append, length-take, length-drop, List·getD-append}
+use lib.Seq.{length-take-le, take-all, take-length, drop-drop, getD-append-add, getD-take, getD-drop, sets, sets-eq, paste}
+use Rattle.lists.specs.Write.{overwritten}
+use Rattle.lists.proofs.Filling.{store-next}
+use Rattle.control_table.specs.Rules.{stored}
+
+module _ (table : List ℕ) (address : ℕ) (bytes : List ℕ) (fits : address + length bytes ≤ length table) where
+  front : length (take address table) ≡ address
+  front = length-take-le address table (omega arith)
+
+  -- from the address on
+  behind : (k : ℕ) → getD (stored table address bytes) (address + k) 0 ≡ getD (overwritten (drop address table) bytes) k 0
+  behind k =
+      ap (λ (n : ℕ). getD (stored table address bytes) (n + k) 0) (sym front)
+      ∙ getD-append-add (take address table) (overwritten (drop address table) bytes) k 0
+
+  pub stored-before : (a : ℕ) → a < address → getD (stored table address bytes) a 0 ≡ getD table a 0
+  stored-before a h =
+      List·getD-append (take address table) (overwritten (drop address table) bytes) 0 a (omega (arith, front))
+      ∙ getD-take address table a 0 h
+
+  pub stored-at : (k : ℕ) → k < length bytes → getD (stored table address bytes) (address + k) 0 ≡ getD bytes k 0
+  stored-at k h = behind k ∙ List·getD-append bytes (drop (length bytes) (drop address table)) 0 k h
+
+  pub stored-after : (a : ℕ) → address + length bytes ≤ a → getD (stored table address bytes) a 0 ≡ getD table a 0
+  stored-after a h =
+      let k = a - (address + length bytes) in
+      let e : a ≡ address + (length bytes + k) = omega arith in
+      ap (λ (n : ℕ). getD (stored table address bytes) n 0) e
+      ∙ behind (length bytes + k)
+      ∙ getD-append-add bytes (drop (length bytes) (drop address table)) k 0
+      ∙ getD-drop (length bytes) (drop address table) k 0
+      ∙ getD-drop address table (length bytes + k) 0
+      ∙ ap (λ (n : ℕ). getD table n 0) (sym e)
+
+  joined : (take address table ++ bytes) ++ drop (address + length bytes) table ≡ stored table address bytes
+  joined =
+      append-assoc (take address table) bytes (drop (address + length bytes) table)
+      ∙ ap (λ (l : List ℕ). take address table ++ (bytes ++ l)) (sym (drop-drop (length bytes) address table))
+
+  -- byte by byte, in a loop or one statement after the other
+  pub stored-pasted : paste table address bytes (length bytes) ≡ stored table address bytes
+  stored-pasted =
+      ap (λ (l : List ℕ). (take address table ++ l) ++ drop (address + length bytes) table) (take-length bytes) ∙ joined
+
+  pub stored-sets : sets table address bytes ≡ stored table address bytes
+  stored-sets = sets-eq bytes table address fits ∙ joined
+
+  pub stored-length : length (stored table address bytes) ≡ length table
+  stored-length = simp (length-append, front, length-drop) (omega arith)
+
+-- n bytes of a table are copied to the start of a buffer
+module _ (table old : List ℕ) (at n : ℕ) (inside : at + n ≤ length table) (room : n ≤ length old) where
+  part : List ℕ
+  part = take n (drop at table)
+
+  part-length : length part ≡ n
+  unfolding part
+  part-length = simp (length-take, length-drop) (omega arith)
+
+  pub part-next : (i : ℕ) → i < n
+      → set (take i (take n (drop at table)) ++ drop i old) i (getD table (at + i) 0) ≡ take (i + 1) (take n (drop at table)) ++ drop (i + 1) old
+  unfolding part
+  part-next i h =
+      ap (λ (x : ℕ). set (take i part ++ drop i old) i x) (sym (getD-take n (drop at table) i 0 h ∙ getD-drop at table i 0))
+      ∙ store-next part old i (omega (arith, part-length)) (omega arith)
+      ∙ rw (add-one)
+
+  pub part-done : take n (take n (drop at table)) ++ drop n old ≡ overwritten old (take n (drop at table))
+  unfolding part
+  part-done =
+      ap (λ (l : List ℕ). l ++ drop n old) (take-all n part (omega (arith, part-length)))
+      ∙ ap (λ (k : ℕ). part ++ drop k old) (sym part-length)

@@ -1,0 +1,75 @@
+use Rattle.control_table.specs.Registers.{registers, tableSize}
+use Rattle.control_table.specs.Items.{bytesOf, put}
+use Rattle.control_table.specs.Fresh.{freshened, freshTable}
+use mathlib.Core.Path.{_≡_, ap, _∙_}
+use mathlib.Core.List.{List}
+use Prim.Native.Nat.{ℕ}
+use native.Mathlib.Omega.{arith}
+use lib.ListN.{length-set, set, replicate}
+use borrow.Author.Tests.{eq-eqb, ne-eqb}
+use borrow.Author.Needs.{needs}
+use Rattle.control_table.proofs.fresh.Statement.{statement}
+use Rattle.control_table.proofs.fresh.Tie as tie
+
+returns : tie.Need-returns
+returns c = let e = ne-eqb _ _ (c .if1 .taken) in (rw e, rw e)
+
+clear-requires : tie.Need-clear-requires
+clear-requires c κs = search needs
+
+slice-write-table : tie.Need-slice-write-table
+slice-write-table c = search needs
+
+slice-write-table-2 : tie.Need-slice-write-table-2
+slice-write-table-2 c = search needs
+
+slice-write-table-3 : tie.Need-slice-write-table-3
+slice-write-table-3 c = simp length-set (omega arith)
+
+slice-write-table-4 : tie.Need-slice-write-table-4
+slice-write-table-4 c = simp length-set (omega arith)
+
+slice-write-table-5 : tie.Need-slice-write-table-5
+slice-write-table-5 c = simp length-set (omega arith)
+
+slice-write-table-6 : tie.Need-slice-write-table-6
+slice-write-table-6 c = simp length-set (omega arith)
+
+slice-write-table-7 : tie.Need-slice-write-table-7
+slice-write-table-7 c = simp length-set (omega arith)
+
+slice-write-table-8 : tie.Need-slice-write-table-8
+slice-write-table-8 c = simp length-set (omega arith)
+
+same-length : tie.Need-same-length
+same-length c = search needs
+
+-- computed, byte for byte
+written : (table : List ℕ) → table ≡ replicate tableSize 0
+    → set (set (set (set (set (set (set (set table 0 6) 1 4) 6 38) 7 1) 8 1) 48 255) 49 15) 68 2 ≡ freshTable
+unfolding registers bytesOf put freshened
+written table e = rw e
+
+returns-2 : tie.Need-returns-2
+returns-2 c =
+    let l = c .before .before .before .before .if1 .left in
+    let e = eq-eqb _ _ l in
+    let k = c .before .before .clear in
+    (rw e, rw e (written (k .last .0) (k .ensures ∙ ap (λ (n : ℕ). replicate n 0) l)))
+
+pub fresh-spec : {M : Type 1} → statement M
+fresh-spec =
+    tie.close
+    (tie.spec
+    returns
+    clear-requires
+    slice-write-table
+    slice-write-table-2
+    slice-write-table-3
+    slice-write-table-4
+    slice-write-table-5
+    slice-write-table-6
+    slice-write-table-7
+    slice-write-table-8
+    same-length
+    returns-2)

@@ -1,0 +1,125 @@
+use mathlib.Core.Path.{_≡_, sym, ap, _∙_}
+use mathlib.Core.Bool.{true, not, _&&_}
+use mathlib.Core.Option.{none}
+use Prim.Native.Nat.{ℕ, _+_, _≤_}
+use native.Mathlib.Omega.{arith}
+use lib.ListN.{length}
+use borrow.Author.Tests.{not-true, not-false}
+use Rattle.control_table.specs.Rules.{everyByte, leastToWrite, refuse, limitsOrdered, goalWithin, stored, writeRule}
+use Rattle.control_table.specs.Answers.{inTable}
+use Rattle.control_table.proofs.Permits.{every-inside}
+use Rattle.control_table.proofs.Judged.{least-some, not-table, no-data, no-access, by-items, by-limits}
+use borrow.Author.Needs.{needs}
+use Rattle.control_table.proofs.judge.Statement.{statement}
+use Rattle.control_table.proofs.judge.Tie as tie
+
+returns : tie.Need-returns
+returns c = let a = c .before .before .before .args in not-table (a .table .now) (a .address) (a .bytes .now) (c .if1 .taken)
+
+returns-2 : tie.Need-returns-2
+returns-2 c = let a = c .before .before .before .before .args in no-data (a .table .now) (a .address) (a .bytes .now) (c .before .if1 .left) (c .if2 .taken)
+
+least-to-write-requires : tie.Need-least-to-write-requires
+least-to-write-requires c κs = search needs
+
+every-byte-requires : tie.Need-every-byte-requires
+every-byte-requires c κs = rw (c .least-to-write .ensures) (least-some (c .before .before .before .before .before .args .table .now))
+
+-- the access test, over what torque asks
+access : (c : tie.After-every-byte)
+    → let a = c .before .before .before .before .before .before .args in
+    c .every-byte .result ≡ everyByte (leastToWrite (a .table .now)) (a .address) (length (a .bytes .now))
+access c =
+    let a = c .before .before .before .before .before .before .args in
+    c .every-byte .ensures ∙ ap (λ (l : ℕ). everyByte l (a .address) (length (a .bytes .now))) (c .before .least-to-write .ensures)
+
+returns-3 : tie.Need-returns-3
+returns-3 c =
+    let b = c .before .before .before in
+    let a = b .before .before .before .before .args in
+    no-access (a .table .now) (a .address) (a .bytes .now) (b .before .if1 .left) (b .if2 .left) (sym (access (c .before)) ∙ not-true _ (c .if3 .taken))
+
+granted : (c : tie.Else3)
+    → let a = c .before .before .before .before .before .before .before .args in
+    everyByte (leastToWrite (a .table .now)) (a .address) (length (a .bytes .now)) ≡ true
+granted c = sym (access (c .before)) ∙ not-false _ (c .if3 .left)
+
+inside : (c : tie.Else3)
+    → let a = c .before .before .before .before .before .before .before .args in
+    a .address + length (a .bytes .now) ≤ length (a .table .now)
+inside c =
+    let b = c .before .before .before in
+    let l = b .before .if1 .left in
+    let a = b .before .before .before .before .args in
+    let e = every-inside (leastToWrite (a .table .now)) (a .address) (length (a .bytes .now)) (least-some (a .table .now)) (granted c) (omega arith) in
+    omega arith
+
+judge-items-requires : tie.Need-judge-items-requires
+judge-items-requires c κs = (inside c, c .before .before .before .before .if1 .left)
+
+is-done-requires : tie.Need-is-done-requires
+is-done-requires c κs = search needs
+
+returns-4 : tie.Need-returns-4
+returns-4 c =
+    let g = c .before .before .before in
+    let b = g .before .before .before in
+    let a = b .before .before .before .before .args in
+    by-items (a .table .now) (a .address) (a .bytes .now) (b .before .if1 .left) (b .if2 .left) (granted g) (c .before .before .judge-items .result) (sym (c .before .is-done .ensures) ∙ not-true _ (c .if4 .taken))
+    (c .before .before .judge-items .ensures)
+
+limits-ordered-requires : tie.Need-limits-ordered-requires
+limits-ordered-requires c κs =
+    let g = c .before .before .before in
+    (inside g, g .before .before .before .before .if1 .left)
+
+-- what the limits decide
+limits : (c : tie.Else4)
+    → let a = c .before .before .before .before .before .before .before .before .before .before .args in
+    let new = stored (a .table .now) (a .address) (a .bytes .now) in
+    inTable (a .table .now) (writeRule (a .table .now) (a .address) (a .bytes .now))
+    ≡ refuse (not (limitsOrdered (a .address) (length (a .bytes .now)) new && goalWithin (a .address) (length (a .bytes .now)) new)) 0x06 none
+limits c =
+    let g = c .before .before .before in
+    let b = g .before .before .before in
+    let a = b .before .before .before .before .args in
+    by-limits (a .table .now) (a .address) (a .bytes .now) (b .before .if1 .left) (b .if2 .left) (granted g) (c .before .before .judge-items .result) (sym (c .before .is-done .ensures) ∙ not-false _ (c .if4 .left))
+    (c .before .before .judge-items .ensures)
+
+returns-5 : tie.Need-returns-5
+returns-5 c = sym (limits (c .before .before) ∙ rw (sym (c .before .limits-ordered .ensures) ∙ not-true _ (c .if5 .taken)))
+
+goal-within-requires : tie.Need-goal-within-requires
+goal-within-requires c κs =
+    let g = c .before .before .before .before .before in
+    (inside g, g .before .before .before .before .if1 .left)
+
+returns-6 : tie.Need-returns-6
+returns-6 c =
+    let b = c .before .before in
+    sym (limits (b .before .before)
+    ∙ rw (sym (b .before .limits-ordered .ensures) ∙ not-false _ (b .if5 .left), sym (c .before .goal-within .ensures) ∙ not-true _ (c .if6 .taken)))
+
+returns-7 : tie.Need-returns-7
+returns-7 c =
+    let b = c .before .before in
+    sym (limits (b .before .before)
+    ∙ rw (sym (b .before .limits-ordered .ensures) ∙ not-false _ (b .if5 .left), sym (c .before .goal-within .ensures) ∙ not-false _ (c .if6 .left)))
+
+pub judge-spec : {M : Type 1} → statement M
+judge-spec =
+    tie.close
+    (tie.spec
+    returns
+    returns-2
+    least-to-write-requires
+    every-byte-requires
+    returns-3
+    judge-items-requires
+    is-done-requires
+    returns-4
+    limits-ordered-requires
+    returns-5
+    goal-within-requires
+    returns-6
+    returns-7)

@@ -1,0 +1,66 @@
+-- The read rule and the write rule, by stages. A stage looks at all touched bytes or items before the next one comes, and the
+-- first that applies refuses. Error numbers: 04 data range, 05 data length, 06 data limit, 07 access.
+use mathlib.Core.Bool.{Bool, true, not, cond, _&&_, _||_}
+use mathlib.Core.List.{List, [], _∷_}
+use mathlib.Core.Option.{Option, none, some}
+use Prim.Native.Nat.{ℕ, zero, suc, _+_}
+use lib.Dec.{leb, ltb, eqb}
+use lib.ListN.{length, getD}
+use lib.Signed.{leZ}
+use Rattle.lists.specs.Write.{placed}
+use Rattle.control_table.specs.Registers.{Register, registers, endOf, permits, torqueEnable, minPosition, maxPosition, goalPosition}
+use Rattle.control_table.specs.Items.{valueOf, valueInRange}
+
+-- a stage: it refuses where it applies, otherwise what comes after it decides
+abbrev pub refuse : Bool → ℕ → Option ℕ → Option ℕ
+refuse applies number next = cond applies (some number) next
+
+-- each of the n bytes from `a` on permits at least so much
+unfoldable pub everyByte : ℕ → ℕ → ℕ → Bool
+everyByte least a zero = true
+everyByte least a (suc n) = leb least (permits a) && everyByte least (suc a) n
+
+-- the n bytes from `a` on have a byte of the register
+abbrev pub touches : ℕ → ℕ → Register → Bool
+touches a n r = ltb (r .address) (a + n) && ltb a (endOf r)
+
+-- they have all its bytes
+abbrev pub covers : ℕ → ℕ → Register → Bool
+covers a n r = leb a (r .address) && leb (endOf r) (a + n)
+
+-- each register that is touched passes the test
+unfoldable pub everyTouched : ℕ → ℕ → (Register → Bool) → List Register → Bool
+everyTouched a n test [] = true
+everyTouched a n test (r ∷ rs) = (not (touches a n r) || test r) && everyTouched a n test rs
+
+-- what a touched byte has to permit: while torque is not 0 no byte of ROM is written
+abbrev pub leastToWrite : List ℕ → ℕ
+leastToWrite table = cond (eqb (getD table (torqueEnable .address) 0) 0) 2 3
+
+-- the limits of the position, as the new table stands: in order where either was written
+unfoldable pub limitsOrdered : ℕ → ℕ → List ℕ → Bool
+limitsOrdered a n new =
+    not (touches a n minPosition || touches a n maxPosition) || leZ (valueOf minPosition new) (valueOf maxPosition new)
+
+-- and a goal position that was written between them
+unfoldable pub goalWithin : ℕ → ℕ → List ℕ → Bool
+goalWithin a n new =
+    not (touches a n goalPosition)
+    || (leZ (valueOf minPosition new) (valueOf goalPosition new) && leZ (valueOf goalPosition new) (valueOf maxPosition new))
+
+-- the table that a write leaves if it is good
+abbrev pub stored : List ℕ → ℕ → List ℕ → List ℕ
+stored table address bytes = placed table address bytes
+
+unfoldable pub writeRule : List ℕ → ℕ → List ℕ → Option ℕ
+writeRule table address bytes =
+    let n = length bytes in
+    let new = stored table address bytes in
+    refuse (eqb n 0) 0x05
+    (refuse (not (everyByte (leastToWrite table) address n)) 0x07
+    (refuse (not (everyTouched address n (covers address n) registers)) 0x05
+    (refuse (not (everyTouched address n (valueInRange new) registers)) 0x04
+    (refuse (not (limitsOrdered address n new && goalWithin address n new)) 0x06 none))))
+
+unfoldable pub readRule : ℕ → ℕ → Option ℕ
+readRule address n = refuse (eqb n 0) 0x05 (refuse (not (everyByte 1 address n)) 0x07 none)

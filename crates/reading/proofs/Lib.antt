@@ -1,0 +1,7 @@
+pub mod Steps
+pub mod Split
+pub mod Demand
+pub mod Follows
+pub mod Fewest
+pub mod Held
+pub mod Progress

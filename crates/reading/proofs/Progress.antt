@@ -1,0 +1,164 @@
+-- How a feeding call gets on: it passes what is decided and silent, and takes what a waiting offset lacks in one go.
+use mathlib.Core.Path.{_≡_, refl, ap, _∙_}
+use mathlib.Core.List.{List, [], _∷_, _++_, append-nil, append-assoc}
+use mathlib.Core.Logic.{_⊎_, inl, inr}
+use mathlib.Core.Option.{none, some}
+use Prim.Native.Nat.{ℕ, zero, suc, _+_, _≤_, _<_}
+use native.Mathlib.Omega.{arith}
+use lib.ListN.{length, take, drop, length-take, length-drop}
+use lib.Seq.{drop-drop, drop-length}
+use Rattle.reading.specs.Rules.{Verdict, isWaiting, isNothing, Undecided, Rules, Laws}
+use Rattle.reading.specs.Reading.{Event, Mode, open′}
+use Rattle.reading.specs.Calls.{First, event, silent, firstAt, first, Reply, oneMore, fed, fedAll, fedOn}
+use Rattle.reading.specs.Progress.{afterTaking, Reached}
+use Rattle.reading.proofs.Fewest.{same-reply}
+use Rattle.reading.proofs.Held.{resume}
+
+taking-none : (r : Reply) → r ≡ afterTaking 0 r
+taking-none r = same-reply r (afterTaking 0 r) (omega arith) refl refl
+
+taking-more : (n m : ℕ) (r : Reply) → afterTaking n (afterTaking m r) ≡ afterTaking (n + m) r
+taking-more n m r = same-reply (afterTaking n (afterTaking m r)) (afterTaking (n + m) r) (omega arith) refl refl
+
+one-more : (m : ℕ) (r : Reply) → oneMore (afterTaking m r) ≡ afterTaking (suc m) r
+one-more m r = same-reply (oneMore (afterTaking m r)) (afterTaking (suc m) r) (omega arith) refl refl
+
+module _ (R : Rules) where
+  -- ---- the first event, where the verdict at an offset is known
+
+  pub first-at : (m : Mode) (s : List ℕ) (v : Verdict) → 0 < length s → R .verdict s ≡ v
+      → first R m s ≡ firstAt m v s (first R m (drop 1 s))
+  unfolding first
+  first-at m [] v h e = absurd (omega arith)
+  first-at m (b ∷ s) v h e = ap (λ (w : Verdict). firstAt m w (b ∷ s) (first R m s)) e
+
+  pub first-none : (m : Mode) → first R m [] ≡ silent []
+  unfolding first
+  first-none m = refl
+
+  pub first-waits : (s : List ℕ) → R .verdict s ≡ isWaiting → first R open′ s ≡ silent s
+  unfolding first
+  first-waits [] e = refl
+  first-waits (b ∷ s) e = first-at open′ (b ∷ s) isWaiting (omega arith) e
+
+  -- ---- how far a feeding call has come
+
+  pub reached-start : (h s : List ℕ) → Reached R h s h 0
+  reached-start h s = record { within = omega arith; same = taking-none (fed R h s) }
+
+  pub reached-more : (h s t u : List ℕ) (n m : ℕ) → Reached R h s t n → Reached R t (drop n s) u m → Reached R h s u (n + m)
+  reached-more h s t u n m a b =
+      let w = a .within in
+      let w′ = b .within in
+      record {
+        within = omega (arith, length-drop n s);
+        same =
+            a .same ∙ ap (afterTaking n) (b .same) ∙ taking-more n m (fed R u (drop m (drop n s)))
+            ∙ ap (λ (l : List ℕ). afterTaking (n + m) (fed R u l)) (drop-drop m n s);
+      }
+
+  -- the bytes that are left decide an event, and it is the call's
+  pub reached-event : (h s t u : List ℕ) (n : ℕ) (e : Event) → Reached R h s t n → first R open′ t ≡ event e u
+      → fed R h s ≡ record { taken = n; answer = some e; held = u }
+  unfolding fed
+  reached-event h s t u n e a f =
+      a .same ∙ ap (afterTaking n) (at-once (drop n s))
+      ∙ same-reply (afterTaking n (record { taken = 0; answer = some e; held = u }))
+      (record { taken = n; answer = some e; held = u })
+      (omega arith) refl refl
+    where
+      at-once : (x : List ℕ) → fed R t x ≡ record { taken = 0; answer = some e; held = u }
+      at-once [] = ap fedAll f
+      at-once (b ∷ x) = ap (λ (g : First). fedOn g (fed R (t ++ b ∷ []) x)) f
+
+  -- they decide none, and the whole chunk is taken
+  pub reached-end : (h s t u : List ℕ) → Reached R h s t (length s) → first R open′ t ≡ silent u
+      → fed R h s ≡ record { taken = length s; answer = none; held = u }
+  unfolding fed
+  reached-end h s t u a f =
+      a .same ∙ ap (λ (l : List ℕ). afterTaking (length s) (fed R t l)) (drop-length s)
+      ∙ ap (λ (g : First). afterTaking (length s) (fedAll g)) f
+      ∙ same-reply (afterTaking (length s) (record { taken = 0; answer = none; held = u }))
+      (record { taken = length s; answer = none; held = u }) (omega arith) refl refl
+
+  silent-more : (h : List ℕ) (b : ℕ) (s t : List ℕ) → first R open′ h ≡ silent t
+      → fed R h (b ∷ s) ≡ oneMore (fed R (h ++ b ∷ []) s)
+  unfolding fed
+  silent-more h b s t f = ap (λ (g : First). fedOn g (fed R (h ++ b ∷ []) s)) f
+
+  -- bytes with fewer of which nothing is decided are taken in one go
+  take-silent : (m : ℕ) (h s : List ℕ) → m ≤ length s
+      → ((k : ℕ) → k < m → (t : List ℕ) × (first R open′ (h ++ take k s) ≡ silent t))
+      → fed R h s ≡ afterTaking m (fed R (h ++ take m s) (drop m s))
+  take-silent zero h s l q = rw append-nil (taking-none (fed R h s))
+  take-silent (suc m) h [] l q = absurd (omega arith)
+  take-silent (suc m) h (b ∷ s) l q =
+      let g = q 0 (omega arith) in
+      silent-more h b s (g .0) (simp append-nil at (g .1))
+      ∙ ap oneMore
+      (take-silent m (h ++ b ∷ []) s (omega arith)
+      (λ k i. let f = q (suc k) (omega arith) in (f .0, rw (append-assoc h (b ∷ []) (take k s)) (f .1))))
+      ∙ one-more m (fed R ((h ++ b ∷ []) ++ take m s) (drop m s))
+      ∙ rw (append-assoc h (b ∷ []) (take m s))
+
+  -- a byte is taken where nothing is left to look at
+  pub reached-byte : (h s : List ℕ) (n : ℕ) → n < length s → Reached R h s [] n → Reached R h s (take 1 (drop n s)) (n + 1)
+  reached-byte h s n l a =
+      reached-more h s [] (take 1 (drop n s)) n 1 a
+      (record {
+        within = simp length-drop (omega arith);
+        same =
+            take-silent 1 [] (drop n s) (simp length-drop (omega arith))
+            (λ k i. ([], let z : k ≡ 0 = omega arith in rw z (first-none open′)));
+      })
+
+module _ (R : Rules) (L : Laws R) where
+  fed-same : (h t s : List ℕ) → ((x : List ℕ) → first R open′ (h ++ x) ≡ first R open′ (t ++ x)) → fed R h s ≡ fed R t s
+  unfolding fed
+  fed-same h t [] k = ap fedAll (simp append-nil at (k []))
+  fed-same h t (b ∷ s) k =
+      same-on (first R open′ h) (first R open′ t) (fed R (h ++ b ∷ []) s) (fed R (t ++ b ∷ []) s) (simp append-nil at (k []))
+      (fed-same (h ++ b ∷ []) (t ++ b ∷ []) s (λ x. simp append-assoc (k (b ∷ x))))
+    where
+      same-on : (f f′ : First) (r r′ : Reply) → f ≡ f′ → r ≡ r′ → fedOn f r ≡ fedOn f′ r′
+      same-on f f′ r r′ e i = cc
+
+  -- offsets that are past may be dropped: what waits decides alone
+  pub fed-resume : (h t s : List ℕ) → first R open′ h ≡ silent t → fed R h s ≡ fed R t s
+  fed-resume h t s k = fed-same h t s (λ x. resume R L h t x k)
+
+  pub reached-past : (h s t u : List ℕ) (n : ℕ) → Reached R h s t n → first R open′ t ≡ silent u → Reached R h s u n
+  reached-past h s t u n a f = record { within = a .within; same = a .same ∙ ap (afterTaking n) (fed-resume t u (drop n s) f) }
+
+  -- no offset of these bytes decides an event
+  none-decided : (y : List ℕ) → ((t u : List ℕ) → y ≡ t ++ u → Undecided (R .verdict u))
+      → (t : List ℕ) × (first R open′ y ≡ silent t)
+  none-decided [] q = ([], first-none R open′)
+  none-decided (b ∷ s) q = by (q [] (b ∷ s) refl) (none-decided s (λ t u e. q (b ∷ t) u (ap {B = List ℕ} (λ l. b ∷ l) e)))
+    where
+      by : Undecided (R .verdict (b ∷ s)) → (t : List ℕ) × (first R open′ s ≡ silent t)
+          → (t : List ℕ) × (first R open′ (b ∷ s) ≡ silent t)
+      by (inl w) r = (b ∷ s, first-waits R (b ∷ s) w)
+      by (inr w) r = (r .0, first-at R open′ (b ∷ s) isNothing (omega arith) w ∙ r .1)
+
+  -- with fewer bytes than a waiting offset lacks no event is decided
+  pub silent-while : (s x : List ℕ) → R .verdict s ≡ isWaiting → length x < R .lacks s
+      → (t : List ℕ) × (first R open′ (s ++ x) ≡ silent t)
+  silent-while s x e l = by (L .patient s x e l)
+    where
+      by : (R .verdict (s ++ x) ≡ isWaiting) ⊎ ((t u : List ℕ) → s ++ x ≡ t ++ u → Undecided (R .verdict u))
+          → (t : List ℕ) × (first R open′ (s ++ x) ≡ silent t)
+      by (inl w) = (s ++ x, first-waits R (s ++ x) w)
+      by (inr q) = none-decided (s ++ x) q
+
+  -- so as many as it lacks are taken in one go
+  pub reached-take : (h s t : List ℕ) (n m : ℕ) → Reached R h s t n → R .verdict t ≡ isWaiting → m ≤ R .lacks t
+      → n + m ≤ length s → Reached R h s (t ++ take m (drop n s)) (n + m)
+  reached-take h s t n m a e l fits =
+      reached-more R h s t (t ++ take m (drop n s)) n m a
+      (record {
+        within = simp length-drop (omega arith);
+        same =
+            take-silent R m t (drop n s) (simp length-drop (omega arith))
+            (λ k i. silent-while t (take k (drop n s)) e (simp (length-take, length-drop) (omega arith)));
+      })

@@ -1,0 +1,151 @@
+#!/usr/bin/env python3
+"""Changes the source of a crate in one place at a time and sorts what the checker says of each change.
+
+  mutants.py CRATE [--most N] [--seed S] [--list]
+
+accepted    the crate is still proved: the change is equal in meaning, or a promise is too weak
+fact        a statement no longer holds: what one hopes for
+shape       the proof file no longer fits the code, which shows nothing of the promise
+no program  the compiler refuses the change
+
+Each change is checked in a copy under target/mutants/, by the quick check; an accepted one is checked again from nothing.
+"""
+import argparse
+import random
+import re
+import shutil
+import subprocess
+import sys
+import time
+from pathlib import Path
+
+ROOT = Path(__file__).resolve().parent.parent
+PLACE = ROOT / "target" / "mutants"  # rt looks for stray sources everywhere but under target/
+
+# a comparison or sum between spaces, as the formatter lays it out
+SWAPS = [(" < ", " <= "), (" <= ", " < "), (" == ", " != "), (" != ", " == "), (" + ", " - "), (" - ", " + "), (" && ", " || "),
+         (" || ", " && "), (" * ", " + "), (" / ", " % "), (" % ", " / "), (" << ", " >> "), (" >> ", " << "), (" += ", " -= "),
+         (" -= ", " += ")]
+WORDS = [("true", "false"), ("false", "true")]
+NUMBER = re.compile(r"(?<![\w.])(0x[0-9A-Fa-f]+|\d+)(?![\w.])")
+PASSED_OVER = re.compile(r"^\s*(//|ghost |use |mod |pub use |requires|ensures|#\[|pub struct|pub enum|\}|\{|$)")
+STATEMENT = re.compile(r"^\s*(?!let |return|pub |fn |while |if |\} else)\S.*;$")
+
+
+def code_lines(text):
+    """The lines that may be changed: no contract, which may go over several lines, and no table of constants."""
+    in_contract = in_table = False
+    for number, line in enumerate(text.split("\n")):
+        if re.match(r"^\s*(requires|ensures)\b", line):
+            in_contract = not line.rstrip().endswith("}")
+            continue
+        if in_contract:
+            in_contract = not line.rstrip().endswith("}")
+            continue
+        if re.match(r"^(pub )?const \w+: \[", line):
+            in_table = True
+        if in_table:
+            in_table = line.strip() != "];"
+            continue
+        if not PASSED_OVER.match(line):
+            yield number, line
+
+
+def changed(text, number, new):
+    lines = text.split("\n")
+    lines[number] = new
+    return "\n".join(lines)
+
+
+def mutants(text):
+    for number, line in code_lines(text):
+        for old, new in SWAPS:
+            for found in re.finditer(re.escape(old), line):
+                yield number, changed(text, number, line[:found.start()] + new + line[found.end():])
+        for old, new in WORDS:
+            for found in re.finditer(rf"\b{old}\b", line):
+                yield number, changed(text, number, line[:found.start()] + new + line[found.end():])
+        for found in NUMBER.finditer(line):
+            value = int(found.group(), 0)
+            for other in (value + 1, value - 1):
+                if other >= 0:
+                    yield number, changed(text, number, line[:found.start()] + str(other) + line[found.end():])
+        for found in re.finditer(r"!(?=\w+\()", line):
+            yield number, changed(text, number, line[:found.start()] + line[found.end():])
+        if STATEMENT.match(line):
+            yield number, changed(text, number, "")
+    yield from reordered(text)
+
+
+def reordered(text):
+    """Two tests of three lines, one right after the other, each with a return: the other way round."""
+    lines = text.split("\n")
+    for i in range(len(lines) - 5):
+        one, two = lines[i:i + 3], lines[i + 3:i + 6]
+        if all(b[0].strip().startswith("if ") and "return" in b[1] and b[2].strip() == "}" for b in (one, two)):
+            yield i, "\n".join(lines[:i] + two + one + lines[i + 6:])
+
+
+def check(command, crate):
+    run = subprocess.run(["rt", command, crate], cwd=PLACE, capture_output=True, text=True)
+    return run.returncode, run.stdout + run.stderr
+
+
+def verdict(crate):
+    code, said = check("dev", crate)
+    if code == 0 and "logic=proved" in said:
+        return "accepted" if check("check", crate)[0] == 0 else "fact", ""
+    errors = [line for line in said.split("\n") if ": error" in line or "it is not proved that" in line or "no proof:" in line]
+    if "logic=not-proved" not in said:
+        return "no program", errors[0] if errors else ""
+    first = errors[0] if errors else ""
+    by_shape = "`Need-" in first or "tie.Need-" in first or ("no proof: expected" in first and "does not close" not in first)
+    return "shape" if by_shape else "fact", first
+
+
+def copy():
+    shutil.rmtree(PLACE / "crates", ignore_errors=True)
+    PLACE.mkdir(parents=True, exist_ok=True)
+    shutil.copytree(ROOT / "crates", PLACE / "crates")
+    shutil.copy(ROOT / "crates.txt", PLACE / "crates.txt")
+
+
+def main():
+    parser = argparse.ArgumentParser(description=__doc__, formatter_class=argparse.RawDescriptionHelpFormatter)
+    parser.add_argument("crate")
+    parser.add_argument("--most", type=int, default=0, help="as many at the most, picked at random (0: all)")
+    parser.add_argument("--seed", type=int, default=1)
+    parser.add_argument("--list", action="store_true", help="only list the changes")
+    asked = parser.parse_args()
+    sources = sorted((ROOT / "crates" / asked.crate / "src").glob("*.rt"))
+    if not sources:
+        sys.exit(f"mutants: there is no crate {asked.crate} with sources")
+    found = [(path, number, new) for path in sources for number, new in mutants(path.read_text())]
+    if asked.most and asked.most < len(found):
+        picked = sorted(random.Random(asked.seed).sample(range(len(found)), asked.most))
+        found = [found[k] for k in picked]
+    if not asked.list:
+        copy()
+        if check("check", asked.crate)[0] != 0:
+            sys.exit(f"mutants: {asked.crate} is not proved as it stands")
+    counts, began = {}, time.time()
+    for k, (path, number, new) in enumerate(found, 1):
+        old = path.read_text().split("\n")[number].strip()
+        place = f"{path.relative_to(ROOT)}:{number + 1}"
+        after = new.split("\n")[number].strip() if number < len(new.split("\n")) else ""
+        if asked.list:
+            print(f"{place}: {old}  =>  {after}")
+            continue
+        target = PLACE / path.relative_to(ROOT)
+        target.write_text(new)
+        kind, why = verdict(asked.crate)
+        target.write_text(path.read_text())
+        counts[kind] = counts.get(kind, 0) + 1
+        print(f"[{k}/{len(found)}, {time.time() - began:.0f} s] {kind}: {place}: {old}  =>  {after}", flush=True)
+        if kind == "shape":
+            print(f"    {why[:160]}", flush=True)
+    print(", ".join(f"{counts.get(kind, 0)} {kind}" for kind in ("accepted", "fact", "shape", "no program")))
+
+
+if __name__ == "__main__":
+    main()

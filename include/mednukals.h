@@ -45,11 +45,12 @@ enum {
     DXL_BAD_ID = 11,       /* an ID of 253 or 255 */
     DXL_TOO_LONG = 12,     /* the packet's length, which counts stuffed body and checksum, would pass 1,024 */
     DXL_NO_ROOM = 13,      /* the output buffer has too little room */
-    DXL_BAD_STUFFING = 14  /* the body is not well stuffed */
+    DXL_BAD_STUFFING = 14, /* the body is not well stuffed */
+    DXL_NOT_A_TABLE = 21   /* the control table is not 136 bytes long */
 };
 
-/* The longest packet. */
-enum { DXL_MAX_PACKET = 1031 };
+/* The longest packet, and the control table. */
+enum { DXL_MAX_PACKET = 1031, DXL_TABLE_BYTES = 136 };
 
 /*
  * Writes one packet into out, from offset at on: FF FF FD 00, the ID, the length (low byte first), the body and the checksum (low
@@ -85,6 +86,21 @@ int64_t dxl_encode(uint8_t id, uint8_t instruction, const uint8_t *params, size_
  * The bytes of out after the unstuffed body stay as they were, and so does all of out where the call refuses.
  */
 int64_t dxl_unstuff(const uint8_t *body, size_t n_body, uint8_t *out, size_t n_out);
+
+/*
+ * Fills a control table as it comes from the factory: every register has its fresh value, undefined bytes are 0.
+ *
+ * Answers 0, or -21 where n is not 136; then the table stays as it was.
+ */
+int64_t dxl_fresh(uint8_t *table, size_t n);
+
+/*
+ * Stores what was measured: the present position (132 to 135, any signed value, lowest byte first) and the hardware error (70).
+ * No other byte of the table changes, and nothing else that it holds is looked at.
+ *
+ * Answers 0, or -21 where n is not 136; then the table stays as it was.
+ */
+int64_t dxl_measure(uint8_t *table, size_t n, int32_t position, uint8_t hardware_error);
 
 #ifdef __cplusplus
 }

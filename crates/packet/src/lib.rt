@@ -1,6 +1,7 @@
 // One packet of Protocol 2.0: the verdict on the bytes from an offset on, the body as a part of the packet, the encoder.
 use stuffing::Checked;
 use stuffing::Length;
+use stuffing::Unstuffed;
 ghost use mathlib.Core.Path.{_≡_};
 ghost use mathlib.Core.Bool.{Bool};
 ghost use mathlib.Core.List.{_∷_};
@@ -10,6 +11,7 @@ ghost use lib.ListN.{length, take, drop};
 ghost use Rattle.lists.specs.Write.{overwritten};
 ghost use Rattle.crc16.specs.Crc.{crcFrom};
 ghost use Rattle.stuffing.specs.Stuffing.{stuff};
+ghost use Rattle.stuffing.specs.Answers.{unstuffedAnswer, removalAnswer, removalOut};
 ghost use Rattle.packet.specs.Packet.{header, goodId, bodyOf, front, withChecksum, packetOf};
 ghost use Rattle.packet.specs.Packet.{word as Packet·word};
 ghost use Rattle.packet.specs.Verdict.{soFar, frontAgrees, verdict, lacks, answerFor, wholeAnswer};
@@ -96,6 +98,14 @@ pub fn body(packet: &[u8]) -> &[u8]
     } else {
         &packet[7..packet.len() - 2]
     }
+}
+
+// The packet's body without its stuffing at the start of out; refused as removal is.
+pub fn unstuff(packet: &[u8], out: &mut [u8]) -> Unstuffed
+    ensures { λ r. ⌜ unstuffedAnswer r ≡ removalAnswer (bodyOf (now (packet .entry))) (now (out .entry)) ⌝ }
+    ensures { λ _. ⌜ now (out .exit) ≡ removalOut (bodyOf (now (packet .entry))) (now (out .entry)) ⌝ }
+{
+    stuffing::unstuff_into(body(packet), out)
 }
 
 // The checksum of FF FF FD 00.

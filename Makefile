@@ -5,7 +5,7 @@ SHELL := /bin/sh
 .DELETE_ON_ERROR:
 # rt works in one target/ folder, so two of its runs must never overlap.
 .NOTPARALLEL:
-.PHONY: help run lib test bench fmt clean kit format c_test header_test rust_test
+.PHONY: help run lib test bench mutants fmt clean kit format promises_test c_test header_test rust_test
 
 # Each crate listed here becomes an archive for C: capi is libmednukals.a, capi_NAME is libmednukals_NAME.a.
 EXPORT_CRATES := capi capi_test
@@ -30,6 +30,7 @@ help:
 	@echo 'make lib    prove the exports and build the archives that C links: $(LIBS)'
 	@echo 'make test   the gate: formatting, C and Rust tests, then every proof from nothing'
 	@echo 'make bench  measure the exports beside plain C, as ratios'
+	@echo 'make mutants CRATE=NAME  change the source of a crate in one place at a time and sort what the checker says'
 	@echo 'make fmt    format every Rattle file'
 	@echo 'make clean  remove build/ and target/'
 
@@ -56,7 +57,7 @@ endef
 $(foreach crate,$(EXPORT_CRATES),$(eval $(call archive_rule,$(crate))))
 
 # rt ci comes last: it removes target/, and its count is the last line.
-test: kit format lib c_test header_test rust_test
+test: kit format promises_test lib c_test header_test rust_test
 	@rt ci || $(call failed,rt ci)
 
 # Another kit may prove the same crates, so a difference is only said.
@@ -83,6 +84,10 @@ header_test: $(LIBS)
 	@$(call need,python3)
 	@python3 tests/check_header.py include/mednukals.h build/lib/libmednukals.a || $(call failed,the header beside the archive)
 
+promises_test:
+	@$(call need,python3)
+	@python3 tests/check_promises.py || $(call failed,docs/PROMISES.md beside the tree)
+
 rust_test: $(LIBS)
 	@$(call need,cargo)
 	@cd tests && cargo test --release --offline --quiet || $(call failed,the comparison tests)
@@ -97,6 +102,13 @@ build/c/bench: $(BENCH_SOURCES) tests/bench/baseline.h include/mednukals.h build
 	@mkdir -p $(@D)
 	@$(CC) $(WARNINGS) -O3 -fno-lto -Iinclude -o $@ $(BENCH_SOURCES) build/lib/libmednukals.a \
 	    || $(call failed,compiling the benchmark)
+
+# Long: some seconds for each change. MOST=N tries N of them, picked by SEED.
+mutants:
+	@$(call need,rt)
+	@$(call need,python3)
+	@[ -n '$(CRATE)' ] || { echo 'mednukals: make mutants CRATE=NAME [MOST=N] [SEED=S]' >&2; exit 1; }
+	@python3 tools/mutants.py $(CRATE) $(if $(MOST),--most $(MOST)) $(if $(SEED),--seed $(SEED))
 
 fmt:
 	@$(call need,rt)

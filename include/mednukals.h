@@ -11,8 +11,11 @@
  * A call that can refuse answers a count, 0 or more, or minus the number of the refusal. A refused call leaves all memory as it
  * was. The refusals of a call are tested in the order in which they are listed.
  *
- * No function keeps state, allocates, locks or blocks: each may be called from several threads and from interrupt handlers,
- * also while another call is under way. Stack use is bounded.
+ * A count that a call answers and that passes INT64_MAX, which no memory holds, is answered as INT64_MAX.
+ *
+ * What follows is tested on the archive or seen in the code, and not proved. No function keeps state, allocates, locks or
+ * blocks: each may be called from several threads and from interrupt handlers, also while another call is under way. No
+ * function calls itself, so stack use is bounded. The archive is for x86-64.
  */
 #ifndef MEDNUKALS_H
 #define MEDNUKALS_H
@@ -51,6 +54,9 @@ enum {
 
 /* The longest packet, and the control table. */
 enum { DXL_MAX_PACKET = 1031, DXL_TABLE_BYTES = 136 };
+
+/* The ID that addresses all devices. */
+enum { DXL_BROADCAST_ID = 254 };
 
 /*
  * Writes one packet into out, from offset at on: FF FF FD 00, the ID, the length (low byte first), the body and the checksum (low

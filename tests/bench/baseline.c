@@ -67,7 +67,8 @@ int64_t baseline_encode(uint8_t id, uint8_t instruction, const uint8_t *params, 
             *next++ = 0xFD;
         ff = ff_after(ff, params[i]);
     }
-    uint16_t crc = baseline_crc16(0, packet, count - 2);
+    /* going on from the checksum of FF FF FD 00, as ours does */
+    uint16_t crc = baseline_crc16(0x0E28, packet + 4, count - 6);
     next[0] = (uint8_t)crc;
     next[1] = (uint8_t)(crc >> 8);
     return (int64_t)count;

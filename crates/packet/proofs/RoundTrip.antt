@@ -11,7 +11,10 @@ use lib.Seq.{take-at, getD-at, getD-append-add, getD-drop, length-take-le}
 use borrow.Author.Tests.{eqb-true, eq-eqb}
 use Rattle.crc16.specs.Crc.{crcFrom}
 use Rattle.crc16.proofs.Laws.{crc-lt}
-use Rattle.stuffing.specs.Stuffing.{stuff, unstuff, wellStuffed}
+use Rattle.stuffing.specs.Stuffing.{stuffAfter, stuff, unstuff, wellStuffed}
+use Rattle.reading.specs.Rules.{isPacket}
+use Rattle.packet.specs.Verdict.{verdict}
+use Rattle.packet.proofs.Laws.{laws}
 use Rattle.stuffing.proofs.Laws.{unstuff-stuff, stuff-unstuff, stuff-well, length-stuff}
 use Rattle.packet.specs.Packet.{low, high, word, goodId, idOf, lengthOf, bodyOf, checksumRight, WellFormed, front, withChecksum, packetOf}
 use Rattle.packet.specs.RoundTrip.{Bytes, RoundTrip}
@@ -152,5 +155,31 @@ module _ (w : List ℕ) (bytes : Bytes w) (f : WellFormed w) where
       (ap high sum ∙ high-word first second (bytes (length w - 2)) (bytes (length w - 1)))
       ∙ parts
 
+-- a stuffed form that is not empty is that of a body that is not empty
+some-body : (u : List ℕ) → 0 < length (stuff u) → 0 < length u
+unfolding stuffAfter
+some-body [] h = h
+some-body (x ∷ u) h = omega arith
+
+accepted : (w : List ℕ) → WellFormed w
+    → (goodId (idOf w) ≡ true) × (0 < length (unstuff (bodyOf w))) × (length (stuff (unstuff (bodyOf w))) + 2 ≤ 1024)
+unfolding bodyOf
+accepted w f =
+    let n : length (bodyOf w) ≡ length w - 9 = simp (length-take, length-drop) (omega (arith, f .counted, f .shortest)) in
+    let e : length (stuff (unstuff (bodyOf w))) ≡ length w - 9 = ap length (stuff-unstuff (bodyOf w) (f .stuffed)) ∙ n in
+    (f .identified, some-body (unstuff (bodyOf w)) (omega (arith, f .counted, f .shortest)), omega (arith, f .counted, f .longest))
+
+found : (id : ℕ) (body x : List ℕ) → goodId id ≡ true → 0 < length body → length (stuff body) + 2 ≤ 1024
+    → verdict (packetOf id body ++ x) ≡ isPacket (length (packetOf id body))
+found id body x good some fits = laws .whole (packetOf id body) x (well-formed id body good some fits)
+
 pub round-trip : RoundTrip
-round-trip = record { well-formed = well-formed; same-id = same-id; same-body = same-body; rewritten = rewritten }
+round-trip =
+    record {
+      well-formed = well-formed;
+      found = found;
+      same-id = same-id;
+      same-body = same-body;
+      rewritten = rewritten;
+      accepted = accepted;
+    }

@@ -1,0 +1,33 @@
+"""Holds docs/PROMISES.md to the tree: usage check_promises.py, in the repository's root
+
+Every must-fail edit that the page cites is there, and every edit that is there is cited; every file that it cites is there too.
+"""
+import re
+import sys
+from pathlib import Path
+
+PAGE = Path("docs/PROMISES.md")
+
+
+def main():
+    text = PAGE.read_text(encoding="utf-8")
+    crates = {path.name for path in Path("crates").iterdir() if path.is_dir()}
+    words = set(re.findall(r"`([^`\s]+)`", text))
+    cited = {word for word in words if re.fullmatch(r"\w+/\w+", word) and word.split("/")[0] in crates}
+    edits = {f"{path.parent.parent.name}/{path.stem}" for path in Path("crates").glob("*/must-fail/*.edit")}
+    files = {word for word in words if re.fullmatch(r"[\w./-]+\.(antt|rt|rs|py|c|h|md|txt)", word)}
+    places = [Path("."), Path("crates"), Path("docs"), Path("tests"), Path("tests/compare/tests")]
+    places += [folder for crate in Path("crates").iterdir() for folder in (crate, crate / "specs", crate / "proofs", crate / "src")]
+
+    faults = [f"the edit {edit} is cited and not there" for edit in sorted(cited - edits)]
+    faults += [f"the edit {edit} is cited nowhere" for edit in sorted(edits - cited)]
+    faults += [f"the file {file} is cited and not there" for file in sorted(files) if not any((p / file).exists() for p in places)]
+    for fault in faults:
+        print(f"promises: {fault}", file=sys.stderr)
+    if not faults:
+        print(f"promises: {len(edits)} must-fail edits, each cited and there; {len(files)} files cited and there")
+    return 1 if faults else 0
+
+
+if __name__ == "__main__":
+    sys.exit(main())

@@ -1,22 +1,22 @@
 -- The write rule by its stages: what each of them says, and what a good write has passed.
 use mathlib.Core.Path.{_≡_, refl, sym, _∙_}
-use mathlib.Core.Bool.{Bool, true, false, not, cond, _&&_, false≢true, true≢false}
+use mathlib.Core.Bool.{Bool, true, false, cond, _&&_, false≢true, true≢false}
 use mathlib.Core.List.{List}
 use mathlib.Core.Option.{Option, none, some, Option·some-ne-none}
 use Prim.Native.Nat.{ℕ, _≤_, _<_}
 use native.Mathlib.Omega.{arith}
-use lib.Dec.{eqb}
+use lib.Dec.{eqb, ltb}
 use lib.ListN.{length, getD}
-use borrow.Author.Tests.{eq-eqb, ne-eqb, eqb-true, eqb-false, not-false}
+use borrow.Author.Tests.{eq-eqb, ne-eqb, eqb-true, lt-ltb, le-ltb, ltb-true}
 use Rattle.lists.specs.Answer.{unlessRefused}
 use Rattle.control_table.specs.Registers.{registers, tableSize, torqueEnable}
 use Rattle.control_table.specs.Items.{valueInRange}
-use Rattle.control_table.specs.Rules.{refuse, everyByte, leastToWrite, covers, everyTouched, limitsOrdered, goalWithin, stored, readRule, writeRule}
+use Rattle.control_table.specs.Rules.{everyByte, leastToWrite, covers, everyTouched, limitsOrdered, goalWithin, stored, readRule, writeRule}
 use Rattle.control_table.specs.Rows.{itemsRule}
 use Rattle.control_table.specs.Answers.{isDone, refusalOf, inTable}
 use Rattle.control_table.specs.declared.Outcome.{Outcome}
 use Rattle.control_table.specs.declared.Outcome.the-variants.{Done, DataRange, DataLength, DataLimit, NoAccess, NotTable}
-use Rattle.control_table.proofs.Permits.{and-left, and-right}
+use Rattle.lists.proofs.Bools.{and-left, and-right}
 
 pub least-some : (table : List ℕ) → 1 ≤ leastToWrite table
 least-some table = by-torque (eqb (getD table (torqueEnable .address) 0) 0)
@@ -52,19 +52,15 @@ refused-out NotTable e old out = refl
 
 -- a refusal by one of two stages stands, whatever stage comes after them
 not-done : (o : Outcome) → isDone o ≡ false → (c r : Bool) (next : Option ℕ)
-    → refusalOf o ≡ refuse (not c) 0x05 (refuse (not r) 0x04 none) → refusalOf o ≡ refuse (not c) 0x05 (refuse (not r) 0x04 next)
+    → refusalOf o ≡ cond c (cond r none (some 0x04)) (some 0x05) → refusalOf o ≡ cond c (cond r next (some 0x04)) (some 0x05)
 not-done o e false r next h = h
 not-done o e true false next h = h
 not-done o e true true next h = absurd (false≢true (sym e ∙ none-done o h))
 
--- a stage that did not refuse did not apply
-stage-passed : (b : Bool) (number : ℕ) (next : Option ℕ) → refuse b number next ≡ none → (b ≡ false) × (next ≡ none)
-stage-passed false number next e = (refl, e)
-stage-passed true number next e = absurd (Option·some-ne-none number e)
-
--- for a stage that asks a test to hold
-test-passed : (b : Bool) (number : ℕ) (next : Option ℕ) → refuse (not b) number next ≡ none → (b ≡ true) × (next ≡ none)
-test-passed b number next e = let p = stage-passed (not b) number next e in (not-false b (p .0), p .1)
+-- a stage that did not refuse
+stage-passed : (b : Bool) (number : ℕ) (next : Option ℕ) → cond b next (some number) ≡ none → (b ≡ true) × (next ≡ none)
+stage-passed true number next e = (refl, e)
+stage-passed false number next e = absurd (Option·some-ne-none number e)
 
 module _ (table : List ℕ) (address : ℕ) (bytes : List ℕ) where
   pub not-table : (length table ≡ tableSize → ⊥) → some 21 ≡ inTable table (writeRule table address bytes)
@@ -72,31 +68,31 @@ module _ (table : List ℕ) (address : ℕ) (bytes : List ℕ) where
 
   pub no-data : length table ≡ tableSize → length bytes ≡ 0 → some 0x05 ≡ inTable table (writeRule table address bytes)
   unfolding writeRule
-  no-data h e = rw (eq-eqb (length table) tableSize h, eq-eqb (length bytes) 0 e)
+  no-data h e = rw (eq-eqb (length table) tableSize h, le-ltb 0 (length bytes) (omega arith))
 
   module _ (sized : length table ≡ tableSize) (some-data : length bytes ≡ 0 → ⊥) where
     pub no-access : everyByte (leastToWrite table) address (length bytes) ≡ false → some 0x07 ≡ inTable table (writeRule table address bytes)
     unfolding writeRule
-    no-access e = rw (eq-eqb (length table) tableSize sized, ne-eqb (length bytes) 0 some-data, e)
+    no-access e = rw (eq-eqb (length table) tableSize sized, lt-ltb 0 (length bytes) (omega arith), e)
 
     module _ (access : everyByte (leastToWrite table) address (length bytes) ≡ true) where
       pub by-items : (o : Outcome) → isDone o ≡ false → refusalOf o ≡ itemsRule address (length bytes) (stored table address bytes)
           → refusalOf o ≡ inTable table (writeRule table address bytes)
       unfolding writeRule itemsRule
       by-items o e h =
-          rw (eq-eqb (length table) tableSize sized, ne-eqb (length bytes) 0 some-data, access)
+          rw (eq-eqb (length table) tableSize sized, lt-ltb 0 (length bytes) (omega arith), access)
           (not-done o e (everyTouched address (length bytes) (covers address (length bytes)) registers)
           (everyTouched address (length bytes) (valueInRange (stored table address bytes)) registers) _ h)
 
       -- the items are good, so the limits decide
       pub by-limits : (o : Outcome) → isDone o ≡ true → refusalOf o ≡ itemsRule address (length bytes) (stored table address bytes)
           → inTable table (writeRule table address bytes)
-          ≡ refuse (not (limitsOrdered address (length bytes) (stored table address bytes) && goalWithin address (length bytes) (stored table address bytes))) 0x06 none
+          ≡ cond (limitsOrdered address (length bytes) (stored table address bytes) && goalWithin address (length bytes) (stored table address bytes)) none (some 0x06)
       unfolding writeRule itemsRule
       by-limits o e h =
-          let c = test-passed (everyTouched address (length bytes) (covers address (length bytes)) registers) 0x05 _ (sym h ∙ done-none o e) in
-          let r = test-passed (everyTouched address (length bytes) (valueInRange (stored table address bytes)) registers) 0x04 none (c .1) in
-          rw (eq-eqb (length table) tableSize sized, ne-eqb (length bytes) 0 some-data, access, c .0, r .0)
+          let c = stage-passed (everyTouched address (length bytes) (covers address (length bytes)) registers) 0x05 _ (sym h ∙ done-none o e) in
+          let r = stage-passed (everyTouched address (length bytes) (valueInRange (stored table address bytes)) registers) 0x04 none (c .1) in
+          rw (eq-eqb (length table) tableSize sized, lt-ltb 0 (length bytes) (omega arith), access, c .0, r .0)
 
 -- ---- what was not refused
 
@@ -115,13 +111,13 @@ unfolding writeRule
 good-write table address bytes e =
     let n = length bytes in
     let new = stored table address bytes in
-    let t = test-passed (eqb (length table) tableSize) 21 _ e in
-    let d = stage-passed (eqb n 0) 0x05 _ (t .1) in
-    let a = test-passed (everyByte (leastToWrite table) address n) 0x07 _ (d .1) in
-    let c = test-passed (everyTouched address n (covers address n) registers) 0x05 _ (a .1) in
-    let r = test-passed (everyTouched address n (valueInRange new) registers) 0x04 _ (c .1) in
-    let l = test-passed (limitsOrdered address n new && goalWithin address n new) 0x06 _ (r .1) in
-    let z = eqb-false n 0 (d .0) in
+    let t = stage-passed (eqb (length table) tableSize) 21 _ e in
+    let d = stage-passed (ltb 0 n) 0x05 _ (t .1) in
+    let a = stage-passed (everyByte (leastToWrite table) address n) 0x07 _ (d .1) in
+    let c = stage-passed (everyTouched address n (covers address n) registers) 0x05 _ (a .1) in
+    let r = stage-passed (everyTouched address n (valueInRange new) registers) 0x04 _ (c .1) in
+    let l = stage-passed (limitsOrdered address n new && goalWithin address n new) 0x06 _ (r .1) in
+    let z = ltb-true 0 n (d .0) in
     record {
       sized = eqb-true (length table) tableSize (t .0);
       some-bytes = omega arith;
@@ -140,8 +136,8 @@ pub record GoodRead (table : List ℕ) (address n : ℕ) : Type 0 where
 pub good-read : (table : List ℕ) (address n : ℕ) → inTable table (readRule address n) ≡ none → GoodRead table address n
 unfolding readRule
 good-read table address n e =
-    let t = test-passed (eqb (length table) tableSize) 21 _ e in
-    let d = stage-passed (eqb n 0) 0x05 _ (t .1) in
-    let a = test-passed (everyByte 1 address n) 0x07 none (d .1) in
-    let z = eqb-false n 0 (d .0) in
+    let t = stage-passed (eqb (length table) tableSize) 21 _ e in
+    let d = stage-passed (ltb 0 n) 0x05 _ (t .1) in
+    let a = stage-passed (everyByte 1 address n) 0x07 none (d .1) in
+    let z = ltb-true 0 n (d .0) in
     record { sized = eqb-true (length table) tableSize (t .0); some-bytes = omega arith; access = a .0 }

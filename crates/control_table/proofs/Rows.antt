@@ -11,7 +11,7 @@ use lib.Seq.{drop-cons}
 use borrow.Author.Tests.{leb-true, eqb-true, ne-eqb}
 use Rattle.lists.proofs.Below.{below}
 use Rattle.control_table.specs.Registers.{Register, Access, readOnly, readWrite, ram, register, registers, tableSize}
-use Rattle.control_table.proofs.Permits.{and-left, and-right}
+use Rattle.lists.proofs.Bools.{and-left, and-right}
 use Rattle.control_table.specs.Rules.{touches, everyTouched}
 use lib.IntN.{ℤ, pos}
 use lib.Signed.{leZ}

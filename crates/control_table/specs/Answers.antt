@@ -1,5 +1,5 @@
 -- What the functions of this crate answer and leave.
-use mathlib.Core.Bool.{Bool, true, false, not}
+use mathlib.Core.Bool.{Bool, true, false, cond}
 use mathlib.Core.List.{List}
 use mathlib.Core.Option.{Option, none, some}
 use Prim.Native.Nat.{ℕ}
@@ -10,7 +10,7 @@ use Rattle.lists.specs.Answer.{unlessRefused}
 use Rattle.lists.specs.Write.{overwritten}
 use Rattle.control_table.specs.Registers.{tableSize}
 use Rattle.control_table.specs.Fresh.{freshTable, measured}
-use Rattle.control_table.specs.Rules.{refuse, stored, readRule, writeRule}
+use Rattle.control_table.specs.Rules.{stored, readRule, writeRule}
 use Rattle.control_table.specs.declared.Outcome.{Outcome}
 use Rattle.control_table.specs.declared.Outcome.the-variants.{Done, DataRange, DataLength, DataLimit, NoAccess, NotTable}
 
@@ -33,7 +33,7 @@ isDone NotTable = false
 
 -- 21 comes first
 abbrev pub inTable : List ℕ → Option ℕ → Option ℕ
-inTable table next = refuse (not (eqb (length table) tableSize)) 21 next
+inTable table next = cond (eqb (length table) tableSize) next (some 21)
 
 abbrev pub freshOut : List ℕ → List ℕ
 freshOut table = unlessRefused (inTable table none) table freshTable

@@ -1,14 +1,15 @@
 -- The registers as the code has them, and the parts of the write rule that its private functions answer.
 use mathlib.Core.Bool.{Bool, true, false, not, _&&_, _||_}
-use mathlib.Core.List.{List}
-use mathlib.Core.Option.{Option, none}
+use mathlib.Core.List.{List, [], _∷_}
+use mathlib.Core.Option.{Option}
 use Prim.Native.Nat.{ℕ, _+_}
 use lib.Dec.{leb, eqb}
 use lib.IntN.{ℤ, pos}
 use lib.Signed.{leZ}
+use Rattle.lists.specs.Answer.{firstFailing}
 use Rattle.control_table.specs.Registers.{Register, Access, readOnly, readWrite, registers, tableSize}
 use Rattle.control_table.specs.Items.{valueAt, valueInRange}
-use Rattle.control_table.specs.Rules.{refuse, covers, everyTouched}
+use Rattle.control_table.specs.Rules.{covers, everyTouched}
 use Rattle.control_table.specs.declared.Row.{Row}
 
 abbrev pub writable : Access → Bool
@@ -44,5 +45,5 @@ rowInRange new row =
 -- the two stages of the write rule that go by items
 unfoldable pub itemsRule : ℕ → ℕ → List ℕ → Option ℕ
 itemsRule address n new =
-    refuse (not (everyTouched address n (covers address n) registers)) 0x05
-    (refuse (not (everyTouched address n (valueInRange new) registers)) 0x04 none)
+    firstFailing
+    ((everyTouched address n (covers address n) registers, 0x05) ∷ (everyTouched address n (valueInRange new) registers, 0x04) ∷ [])

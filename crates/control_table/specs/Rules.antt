@@ -2,18 +2,15 @@
 -- first that applies refuses. Error numbers: 04 data range, 05 data length, 06 data limit, 07 access.
 use mathlib.Core.Bool.{Bool, true, not, cond, _&&_, _||_}
 use mathlib.Core.List.{List, [], _∷_}
-use mathlib.Core.Option.{Option, none, some}
+use mathlib.Core.Option.{Option}
 use Prim.Native.Nat.{ℕ, zero, suc, _+_}
 use lib.Dec.{leb, ltb, eqb}
 use lib.ListN.{length, getD}
 use lib.Signed.{leZ}
+use Rattle.lists.specs.Answer.{firstFailing}
 use Rattle.lists.specs.Write.{placed}
 use Rattle.control_table.specs.Registers.{Register, registers, endOf, permits, torqueEnable, minPosition, maxPosition, goalPosition}
 use Rattle.control_table.specs.Items.{valueOf, valueInRange}
-
--- a stage: it refuses where it applies, otherwise what comes after it decides
-abbrev pub refuse : Bool → ℕ → Option ℕ → Option ℕ
-refuse applies number next = cond applies (some number) next
 
 -- each of the n bytes from `a` on permits at least so much
 unfoldable pub everyByte : ℕ → ℕ → ℕ → Bool
@@ -52,15 +49,19 @@ goalWithin a n new =
 abbrev pub stored : List ℕ → ℕ → List ℕ → List ℕ
 stored table address bytes = placed table address bytes
 
+-- the stages of the write rule in their order, each with the error number where its test fails
 unfoldable pub writeRule : List ℕ → ℕ → List ℕ → Option ℕ
 writeRule table address bytes =
     let n = length bytes in
     let new = stored table address bytes in
-    refuse (eqb n 0) 0x05
-    (refuse (not (everyByte (leastToWrite table) address n)) 0x07
-    (refuse (not (everyTouched address n (covers address n) registers)) 0x05
-    (refuse (not (everyTouched address n (valueInRange new) registers)) 0x04
-    (refuse (not (limitsOrdered address n new && goalWithin address n new)) 0x06 none))))
+    firstFailing
+    ((ltb 0 n, 0x05)
+    ∷ (everyByte (leastToWrite table) address n, 0x07)
+    ∷ (everyTouched address n (covers address n) registers, 0x05)
+    ∷ (everyTouched address n (valueInRange new) registers, 0x04)
+    ∷ (limitsOrdered address n new && goalWithin address n new, 0x06)
+    ∷ [])
 
+-- a byte has to permit reading
 unfoldable pub readRule : ℕ → ℕ → Option ℕ
-readRule address n = refuse (eqb n 0) 0x05 (refuse (not (everyByte 1 address n)) 0x07 none)
+readRule address n = firstFailing ((ltb 0 n, 0x05) ∷ (everyByte 1 address n, 0x07) ∷ [])

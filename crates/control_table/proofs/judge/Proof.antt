@@ -1,11 +1,11 @@
 use mathlib.Core.Path.{_≡_, sym, ap, _∙_}
-use mathlib.Core.Bool.{true, not, _&&_}
-use mathlib.Core.Option.{none}
+use mathlib.Core.Bool.{true, cond, _&&_}
+use mathlib.Core.Option.{none, some}
 use Prim.Native.Nat.{ℕ, _+_, _≤_}
 use native.Mathlib.Omega.{arith}
 use lib.ListN.{length}
 use borrow.Author.Tests.{not-true, not-false}
-use Rattle.control_table.specs.Rules.{everyByte, leastToWrite, refuse, limitsOrdered, goalWithin, stored, writeRule}
+use Rattle.control_table.specs.Rules.{everyByte, leastToWrite, limitsOrdered, goalWithin, stored, writeRule}
 use Rattle.control_table.specs.Answers.{inTable}
 use Rattle.control_table.proofs.Permits.{every-inside}
 use Rattle.control_table.proofs.Judged.{least-some, not-table, no-data, no-access, by-items, by-limits}
@@ -78,7 +78,7 @@ limits : (c : tie.Else4)
     → let a = c .before .before .before .before .before .before .before .before .before .before .args in
     let new = stored (a .table .now) (a .address) (a .bytes .now) in
     inTable (a .table .now) (writeRule (a .table .now) (a .address) (a .bytes .now))
-    ≡ refuse (not (limitsOrdered (a .address) (length (a .bytes .now)) new && goalWithin (a .address) (length (a .bytes .now)) new)) 0x06 none
+    ≡ cond (limitsOrdered (a .address) (length (a .bytes .now)) new && goalWithin (a .address) (length (a .bytes .now)) new) none (some 0x06)
 limits c =
     let g = c .before .before .before in
     let b = g .before .before .before in

@@ -2,7 +2,7 @@ use Rattle.control_table.specs.Rules.{readRule}
 use Rattle.control_table.proofs.Permits.{every-inside, every-short}
 use mathlib.Core.Path.{sym, _∙_}
 use native.Mathlib.Omega.{arith}
-use borrow.Author.Tests.{eq-eqb, ne-eqb, not-true, not-false}
+use borrow.Author.Tests.{eq-eqb, ne-eqb, lt-ltb, le-ltb, not-true, not-false}
 use borrow.Author.Needs.{needs}
 use Rattle.control_table.proofs.read.Statement.{statement}
 use Rattle.control_table.proofs.read.Tie as tie
@@ -14,7 +14,7 @@ returns-2 : tie.Need-returns-2
 unfolding readRule
 returns-2 c =
     let e = eq-eqb _ _ (c .before .if1 .left) in
-    let z = eq-eqb _ _ (c .if2 .taken) in
+    let z = le-ltb 0 (c .before .before .before .args .count) (omega arith) in
     (rw (e, z), rw (e, z))
 
 every-byte-requires : tie.Need-every-byte-requires
@@ -25,7 +25,7 @@ unfolding readRule
 returns-3 c =
     let b = c .before .before in
     let e = eq-eqb _ _ (b .before .if1 .left) in
-    let z = ne-eqb _ _ (b .if2 .left) in
+    let z = lt-ltb 0 (b .before .before .before .args .count) (omega arith) in
     let bad = sym (c .before .every-byte .ensures) ∙ not-true _ (c .if3 .taken) in
     (rw (e, z, bad), rw (e, z, bad))
 
@@ -44,7 +44,7 @@ returns-4 c =
     let k = c .before in
     let b = k .before .before in
     let e = eq-eqb _ _ (b .before .if1 .left) in
-    let z = ne-eqb _ _ (b .if2 .left) in
+    let z = lt-ltb 0 (b .before .before .before .args .count) (omega arith) in
     let good = sym (k .before .every-byte .ensures) ∙ not-false _ (k .if3 .left) in
     (rw (e, z, good), rw (e, z, good) (c .bytes-from .ensures))
 

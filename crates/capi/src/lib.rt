@@ -2,16 +2,33 @@
 // include/mednukals.h declares and documents them. A `&[u8]` is a pointer and a length in C.
 use control_table::Outcome;
 use packet::Encoded;
+use reader::Heard;
+use reader::Told;
 use stuffing::Unstuffed;
 ghost use mathlib.Core.Path.{_≡_};
-ghost use mathlib.Core.List.{_∷_};
+ghost use mathlib.Core.List.{[], _∷_};
+ghost use lib.ListN.{take};
 ghost use mathlib.Core.Option.{none};
 ghost use Rattle.lists.specs.Answer.{count};
 ghost use Rattle.crc16.specs.Crc.{crcFrom};
 ghost use Rattle.stuffing.specs.Answers.{removalAnswer, removalOut};
 ghost use Rattle.packet.specs.Encoding.{encodeAnswer, encodeOut};
 ghost use Rattle.control_table.specs.Answers.{refusalOf, inTable, freshOut, measureOut};
-ghost use Rattle.capi.specs.Exported.{exported, exportedRefusal};
+ghost use Rattle.reading.specs.Reading.{closed};
+ghost use Rattle.reading.specs.Calls.{first, fed, gapped};
+ghost use Rattle.packet.specs.Verdict.{protocol2};
+ghost use Rattle.reader.specs.Answer.{saidBy, saidFor, leftFor, packetFor};
+ghost use Rattle.capi.specs.Exported.{exported, exportedRefusal, stepNumbers};
+
+// What a feeding or gap call answers. kind 0: no event, of a gap call: nothing is left; 1: a packet of `count` bytes; 2: a bad
+// checksum; 25: the reader's count is above 1,030. `id` is that of the packet or of the bad checksum.
+#[repr(C)]
+pub struct StepNumbers {
+    pub taken: usize,
+    pub count: usize,
+    pub kind: u8,
+    pub id: u8,
+}
 
 fn count_number(n: usize) -> i64
     ensures { λ r. ⌜ r ≡ exported (count n) ⌝ }
@@ -93,4 +110,74 @@ pub extern "C" fn dxl_measure(table: &mut [u8], position: i32, hardware_error: u
     ensures { λ _. ⌜ now (table .exit) ≡ measureOut (now (table .entry)) position «hardware_error» ⌝ }
 {
     outcome_number(control_table::measure(table, position, hardware_error))
+}
+
+fn step_numbers(told: Told) -> StepNumbers
+    ensures { λ r. ⌜ r ≡ stepNumbers (saidBy (told .heard) (told .taken) [] (told .held)) ⌝ }
+{
+    let taken = told.taken;
+    let heard = told.heard;
+    match heard {
+        Heard::Packet { id, size } => StepNumbers {
+            taken,
+            count: size,
+            kind: 1,
+            id,
+        },
+        Heard::BadChecksum { id } => StepNumbers {
+            taken,
+            count: 0,
+            kind: 2,
+            id,
+        },
+        Heard::Silent => StepNumbers {
+            taken,
+            count: 0,
+            kind: 0,
+            id: 0,
+        },
+        Heard::Refused => StepNumbers {
+            taken,
+            count: 0,
+            kind: 25,
+            id: 0,
+        },
+    }
+}
+
+// A feeding call on a reader by its parts: the held bytes and their count.
+#[no_mangle]
+pub extern "C" fn dxl_feed(
+    held: &mut [u8; 1030],
+    count: &mut usize,
+    chunk: &[u8],
+    packet: &mut [u8; 1031],
+) -> StepNumbers
+    ensures { λ r. ⌜ r ≡ stepNumbers (saidFor (now (count .entry)) (fed protocol2 (take (now (count .entry)) (now (held .entry))) (now (chunk .entry)))) ⌝ }
+    ensures { λ _. ⌜ (now (count .exit) ≡ saidFor (now (count .entry)) (fed protocol2 (take (now (count .entry)) (now (held .entry))) (now (chunk .entry))) .held)
+        × (now (held .exit) ≡ leftFor (now (count .entry)) (now (held .entry)) (fed protocol2 (take (now (count .entry)) (now (held .entry))) (now (chunk .entry))))
+        × (now (packet .exit) ≡ packetFor (now (count .entry)) (now (packet .entry)) (fed protocol2 (take (now (count .entry)) (now (held .entry))) (now (chunk .entry)))) ⌝ }
+{
+    let n = *count;
+    let told = reader::feed_into(held, n, chunk, packet);
+    *count = told.held;
+    step_numbers(told)
+}
+
+// A gap call, likewise.
+#[no_mangle]
+pub extern "C" fn dxl_gap(
+    held: &mut [u8; 1030],
+    count: &mut usize,
+    packet: &mut [u8; 1031],
+) -> StepNumbers
+    ensures { λ r. ⌜ r ≡ stepNumbers (saidFor (now (count .entry)) (gapped (first protocol2 closed (take (now (count .entry)) (now (held .entry)))))) ⌝ }
+    ensures { λ _. ⌜ (now (count .exit) ≡ saidFor (now (count .entry)) (gapped (first protocol2 closed (take (now (count .entry)) (now (held .entry))))) .held)
+        × (now (held .exit) ≡ leftFor (now (count .entry)) (now (held .entry)) (gapped (first protocol2 closed (take (now (count .entry)) (now (held .entry))))))
+        × (now (packet .exit) ≡ packetFor (now (count .entry)) (now (packet .entry)) (gapped (first protocol2 closed (take (now (count .entry)) (now (held .entry)))))) ⌝ }
+{
+    let n = *count;
+    let told = reader::gap_into(held, n, packet);
+    *count = told.held;
+    step_numbers(told)
 }

@@ -1,16 +1,18 @@
 -- How a feeding call gets on: it passes what is decided and silent, and takes what a waiting offset lacks in one go.
-use mathlib.Core.Path.{_≡_, refl, ap, _∙_}
+use mathlib.Core.Path.{_≡_, refl, sym, ap, _∙_}
 use mathlib.Core.List.{List, [], _∷_, _++_, append-nil, append-assoc}
 use mathlib.Core.Logic.{_⊎_, inl, inr}
 use mathlib.Core.Option.{none, some}
-use Prim.Native.Nat.{ℕ, zero, suc, _+_, _≤_, _<_}
+use Prim.Native.Nat.{ℕ, zero, suc, _+_, _-_, _≤_, _<_}
 use native.Mathlib.Omega.{arith}
-use lib.ListN.{length, take, drop, length-take, length-drop}
-use lib.Seq.{drop-drop, drop-length}
-use Rattle.reading.specs.Rules.{Verdict, isWaiting, isNothing, Undecided, Rules, Laws}
+use lib.ListN.{length, take, drop, length-append, length-take, length-drop, take-append-drop}
+use lib.Seq.{length-take-le, take-append-le, drop-append-le, drop-drop, drop-length}
+use native.Mathlib.Decide.{decLe}
+use Rattle.reading.specs.Rules.{Verdict, isPacket, isWaiting, isNothing, Undecided, Rules, Laws}
 use Rattle.reading.specs.Reading.{Event, Mode, open′}
 use Rattle.reading.specs.Calls.{First, event, silent, firstAt, first, Reply, oneMore, fed, fedAll, fedOn}
-use Rattle.reading.specs.Progress.{afterTaking, Reached}
+use Rattle.reading.specs.Progress.{afterTaking, Reached, Patient}
+use Rattle.reading.proofs.Steps.{short}
 use Rattle.reading.proofs.Fewest.{same-reply}
 use Rattle.reading.proofs.Held.{resume}
 
@@ -101,17 +103,6 @@ module _ (R : Rules) where
       ∙ one-more m (fed R ((h ++ b ∷ []) ++ take m s) (drop m s))
       ∙ rw (append-assoc h (b ∷ []) (take m s))
 
-  -- a byte is taken where nothing is left to look at
-  pub reached-byte : (h s : List ℕ) (n : ℕ) → n < length s → Reached R h s [] n → Reached R h s (take 1 (drop n s)) (n + 1)
-  reached-byte h s n l a =
-      reached-more h s [] (take 1 (drop n s)) n 1 a
-      (record {
-        within = simp length-drop (omega arith);
-        same =
-            take-silent 1 [] (drop n s) (simp length-drop (omega arith))
-            (λ k i. ([], let z : k ≡ 0 = omega arith in rw z (first-none open′)));
-      })
-
 module _ (R : Rules) (L : Laws R) where
   fed-same : (h t s : List ℕ) → ((x : List ℕ) → first R open′ (h ++ x) ≡ first R open′ (t ++ x)) → fed R h s ≡ fed R t s
   unfolding fed
@@ -130,6 +121,20 @@ module _ (R : Rules) (L : Laws R) where
   pub reached-past : (h s t u : List ℕ) (n : ℕ) → Reached R h s t n → first R open′ t ≡ silent u → Reached R h s u n
   reached-past h s t u n a f = record { within = a .within; same = a .same ∙ ap (afterTaking n) (fed-resume t u (drop n s) f) }
 
+  -- so may an offset that says nothing
+  pub reached-nothing : (h s t : List ℕ) (n : ℕ) → 0 < length t → R .verdict t ≡ isNothing → Reached R h s t n → Reached R h s (drop 1 t) n
+  reached-nothing h s t n l e a =
+      record { within = a .within; same = a .same ∙ ap (afterTaking n) (fed-same t (drop 1 t) (drop n s) skip) }
+    where
+      skip : (x : List ℕ) → first R open′ (t ++ x) ≡ first R open′ (drop 1 t ++ x)
+      skip x =
+          first-at R open′ (t ++ x) isNothing (omega (arith, length-append t x))
+          (L .stays t x (λ w. let z : _≡_ {A = ℕ} 0 1 = cc in omega arith) ∙ e)
+          ∙ ap (λ (y : List ℕ). first R open′ y) (drop-append-le 1 t x (omega arith))
+
+  pub silent-again : (s t : List ℕ) → first R open′ s ≡ silent t → first R open′ t ≡ silent t
+  silent-again s t f = sym (simp append-nil at (resume R L s t [] f)) ∙ f
+
   -- no offset of these bytes decides an event
   none-decided : (y : List ℕ) → ((t u : List ℕ) → y ≡ t ++ u → Undecided (R .verdict u))
       → (t : List ℕ) × (first R open′ y ≡ silent t)
@@ -141,24 +146,71 @@ module _ (R : Rules) (L : Laws R) where
       by (inl w) r = (b ∷ s, first-waits R (b ∷ s) w)
       by (inr w) r = (r .0, first-at R open′ (b ∷ s) isNothing (omega arith) w ∙ r .1)
 
-  -- with fewer bytes than a waiting offset lacks no event is decided
-  pub silent-while : (s x : List ℕ) → R .verdict s ≡ isWaiting → length x < R .lacks s
-      → (t : List ℕ) × (first R open′ (s ++ x) ≡ silent t)
-  silent-while s x e l = by (L .patient s x e l)
+  -- what waits is patient
+  pub waiting-patient : (t : List ℕ) → R .verdict t ≡ isWaiting → Patient R t (R .lacks t)
+  waiting-patient t e = record { some = L .lacking t e; room = L .room t e; silent-while = λ x l. by x (L .patient t x e l) }
     where
-      by : (R .verdict (s ++ x) ≡ isWaiting) ⊎ ((t u : List ℕ) → s ++ x ≡ t ++ u → Undecided (R .verdict u))
-          → (t : List ℕ) × (first R open′ (s ++ x) ≡ silent t)
-      by (inl w) = (s ++ x, first-waits R (s ++ x) w)
-      by (inr q) = none-decided (s ++ x) q
+      by : (x : List ℕ) → (R .verdict (t ++ x) ≡ isWaiting) ⊎ ((a u : List ℕ) → t ++ x ≡ a ++ u → Undecided (R .verdict u))
+          → (u : List ℕ) × (first R open′ (t ++ x) ≡ silent u)
+      by x (inl w) = (t ++ x, first-waits R (t ++ x) w)
+      by x (inr q) = none-decided (t ++ x) q
 
-  -- so as many as it lacks are taken in one go
-  pub reached-take : (h s t : List ℕ) (n m : ℕ) → Reached R h s t n → R .verdict t ≡ isWaiting → m ≤ R .lacks t
-      → n + m ≤ length s → Reached R h s (t ++ take m (drop n s)) (n + m)
-  reached-take h s t n m a e l fits =
+  -- no packet is longer than the longest
+  pub packet-short : (s : List ℕ) (n : ℕ) → R .verdict s ≡ isPacket n → n ≤ R .longest
+  packet-short s n e =
+      let g = L .sound s n e in
+      let w = take n s in
+      let l : length w ≡ n = length-take-le n s (g .1) in
+      let whole : take (n - 1) w ++ drop (n - 1) w ≡ w = take-append-drop (n - 1) w in
+      let some : 0 < length (drop (n - 1) w) = simp length-drop (omega (arith, g .0)) in
+      let waits = L .begun (take (n - 1) w) (drop (n - 1) w) (rw whole (g .2)) some in
+      omega (arith, short R L (take (n - 1) w) waits, length-take-le (n - 1) w (omega arith), g .0)
+
+  -- a packet that is decided by a byte ends with it
+  pub last-byte : (t u : List ℕ) (b n : ℕ) → first R open′ t ≡ silent u → R .verdict (t ++ b ∷ []) ≡ isPacket n → n ≡ suc (length t)
+  last-byte t u b n f e = by (decLe n (length t))
+    where
+      g : (0 < n) × (n ≤ length (t ++ b ∷ [])) × R .WellFormed (take n (t ++ b ∷ []))
+      g = L .sound (t ++ b ∷ []) n e
+
+      sooner : n ≤ length t → ⊥
+      sooner l =
+          let w : R .WellFormed (take n t) = rw (take-append-le n t (b ∷ []) l) at (g .2) in
+          let v : R .verdict t ≡ isPacket (length (take n t)) = rw (take-append-drop n t) at (L .whole (take n t) (drop n t) w) in
+          let k = first-at R open′ t (isPacket (length (take n t))) (omega (arith, g .0)) v in
+          let z : _≡_ {A = ℕ} 0 1 = cc in
+          omega arith
+
+      by : Dec (n ≤ length t) → n ≡ suc (length t)
+      by (yes l) = absurd (sooner l)
+      by (no l) = omega (arith, g .1, length-append t (b ∷ []))
+
+module _ (R : Rules) where
+  -- where nothing is left, a byte is wanted
+  pub none-patient : 0 < R .longest → Patient R [] 1
+  none-patient h =
+      record {
+        some = omega arith;
+        room = omega arith;
+        silent-while = λ x l. let z : x ≡ [] = empty x l in ([], rw z (first-none R open′));
+      }
+    where
+      empty : (x : List ℕ) → length x < 1 → x ≡ []
+      empty [] l = refl
+      empty (b ∷ x) l = absurd (omega arith)
+
+  -- what is patient has decided nothing yet
+  pub patient-silent : (t : List ℕ) (k : ℕ) → Patient R t k → (u : List ℕ) × (first R open′ t ≡ silent u)
+  patient-silent t k p = rw append-nil at (p .silent-while [] (p .some))
+
+  -- as many bytes as it waits for are taken in one go
+  pub reached-take : (h s t : List ℕ) (n m k : ℕ) → Reached R h s t n → Patient R t k → m ≤ k → n + m ≤ length s
+      → Reached R h s (t ++ take m (drop n s)) (n + m)
+  reached-take h s t n m k a p l fits =
       reached-more R h s t (t ++ take m (drop n s)) n m a
       (record {
         within = simp length-drop (omega arith);
         same =
             take-silent R m t (drop n s) (simp length-drop (omega arith))
-            (λ k i. silent-while t (take k (drop n s)) e (simp (length-take, length-drop) (omega arith)));
+            (λ j i. p .silent-while (take j (drop n s)) (simp (length-take, length-drop) (omega arith)));
       })

@@ -1,0 +1,134 @@
+-- Bytes moved within and between buffers: one turn of each loop, and what it comes to at the end.
+use mathlib.Core.Path.{_≡_, refl, sym, ap, ap₂, _∙_}
+use mathlib.Core.List.{List, [], _∷_, _++_, append-nil, append-assoc}
+use Prim.Native.Nat.{ℕ, suc, _+_, _-_, _≤_, _<_}
+use native.Mathlib.Nat.{add-comm}
+use native.Mathlib.Numerals.{add-one}
+use native.Mathlib.Omega.{arith}
+use lib.ListN.{length, take, drop, getD, set, replicate, length-append, length-take, length-drop, length-replicate}
+use lib.ListN.{getD-replicate}
+use lib.ListN.{drop-of-length-le, take-append-drop}
+use lib.Seq.{paste, paste-zero, paste-suc, length-paste, take-all, take-at, take-length, length-take-le, drop-append-le}
+use lib.Seq.{drop-drop}
+use lib.Seq.{set-split, getD-append-add}
+use lib.Seq.{getD-drop}
+use Rattle.lists.specs.Write.{overwritten, placed}
+use Rattle.lists.proofs.Filling.{store-next}
+
+-- ---- the bytes of src are copied to old from `at` on, i of them so far
+
+pub place-next : (old buffer src : List ℕ) (at i : ℕ) → buffer ≡ paste old at src i → at + length src ≤ length old
+    → i < length src → set buffer (at + i) (getD src i 0) ≡ paste old at src (i + 1)
+place-next old buffer src at i e h l =
+    rw (add-one) (ap (λ (b : List ℕ). set b (at + i) (getD src i 0)) e ∙ paste-suc old at src i 0 (omega arith) l)
+
+pub place-done : (old src : List ℕ) (at i : ℕ) → i ≡ length src → paste old at src i ≡ placed old at src
+place-done old src at i e =
+    rw e
+    (append-assoc (take at old) (take (length src) src) (drop (at + length src) old)
+    ∙ rw (take-length src, ← drop-drop (length src) at old))
+
+pub length-placed : (old src : List ℕ) (at : ℕ) → at + length src ≤ length old → length (placed old at src) ≡ length old
+length-placed old src at h = ap length (sym (place-done old src at (length src) refl)) ∙ length-paste old at src
+    (length src) h (omega arith)
+
+-- ---- the bytes from `from` on go to the start, i of them so far
+
+module _ (old : List ℕ) (from i : ℕ) where
+  abbrev pub shifted : List ℕ
+  shifted = take i (drop from old) ++ drop i old
+
+  -- what is still to be moved has not been overwritten
+  pub shift-read : from + i < length old → getD shifted (from + i) 0 ≡ getD (drop from old) i 0
+  shift-read h =
+      let n : length (take i (drop from old)) ≡ i = length-take-le i (drop from old) (simp length-drop (omega arith)) in
+      ap (λ (k : ℕ). getD shifted k 0) (add-comm from i ∙ ap (λ (k : ℕ). k + from) (sym n))
+      ∙ getD-append-add (take i (drop from old)) (drop i old) from 0
+      ∙ getD-drop i old from 0
+      ∙ ap (λ (k : ℕ). getD old k 0) (add-comm i from)
+      ∙ sym (getD-drop from old i 0)
+
+pub shift-next : (old buffer : List ℕ) (from i : ℕ) → buffer ≡ shifted old from i → from + i < length old
+    → set buffer i (getD buffer (from + i) 0) ≡ shifted old from (i + 1)
+shift-next old buffer from i e h =
+    rw (add-one)
+    (ap (λ (b : List ℕ). set b i (getD b (from + i) 0)) e
+    ∙ ap (λ (x : ℕ). set (shifted old from i) i x) (shift-read old from i h)
+    ∙ store-next (drop from old) old i (simp length-drop (omega arith)) (omega arith))
+
+pub length-shifted : (old : List ℕ) (from i : ℕ) → from + i ≤ length old → length (shifted old from i) ≡ length old
+length-shifted old from i h = simp (length-append, length-take, length-drop) (omega arith)
+
+pub shift-done : (old : List ℕ) (from i n : ℕ) → i ≡ n → from + n ≤ length old
+    → shifted old from i ≡ overwritten old (take n (drop from old))
+shift-done old from i n e h =
+    rw e
+    (ap (λ (k : ℕ). take n (drop from old) ++ drop k old)
+    (sym (length-take-le n (drop from old) (simp length-drop (omega arith)))))
+
+-- they stand there already
+pub shift-none : (old : List ℕ) (from end : ℕ) → from ≡ 0 → end ≤ length old
+    → old ≡ overwritten old (take (end - from) (drop from old))
+shift-none old from end e h =
+    let z : end - from ≡ end = omega arith in
+    sym
+    (rw (z, e)
+    (ap (λ (n : ℕ). take end old ++ drop n old) (length-take-le end old h) ∙ take-append-drop end old))
+
+-- ---- all bytes from `from` on become 0, i of them so far
+
+abbrev pub zeros : List ℕ → ℕ → List ℕ
+zeros old from = replicate (length old - from) 0
+
+pub clear-start : (old : List ℕ) (from : ℕ) → old ≡ paste old from (zeros old from) (from - from)
+clear-start old from =
+    let z : from - from ≡ 0 = omega arith in
+    rw z (paste-zero old from (zeros old from))
+
+pub clear-next : (old buffer : List ℕ) (from i : ℕ) → buffer ≡ paste old from (zeros old from) (i - from) → from ≤ i
+    → i < length old → set buffer i 0 ≡ paste old from (zeros old from) (i + 1 - from)
+clear-next old buffer from i e l h =
+    let n = length-replicate {A = ℕ} (length old - from) 0 in
+    let k : i - from < length old - from = omega arith in
+    let z : from + (i - from) ≡ i = omega arith in
+    let y : i - from + 1 ≡ i + 1 - from = omega arith in
+    ap₂ (λ (m x : ℕ). set buffer m x) (sym z) (sym (getD-replicate (length old - from) (i - from) 0 0 k))
+    ∙ place-next old buffer (zeros old from) from (i - from) e (omega arith) (omega arith)
+    ∙ ap (λ (m : ℕ). paste old from (zeros old from) m) y
+
+pub clear-done : (old : List ℕ) (from i : ℕ) → i - from ≡ length old - from
+    → paste old from (zeros old from) (i - from) ≡ take from old ++ zeros old from
+clear-done old from i e =
+    let n = length-replicate {A = ℕ} (length old - from) 0 in
+    place-done old (zeros old from) from (i - from) (omega arith)
+    ∙ ap (λ (l : List ℕ). take from old ++ (zeros old from ++ l))
+    (drop-of-length-le (drop from old) {i = length (zeros old from)} (simp length-drop (omega arith)))
+    ∙ ap (λ (l : List ℕ). take from old ++ l) (append-nil (zeros old from))
+
+-- ---- a full buffer and one byte more
+
+module _ (held : List ℕ) (b : ℕ) (n : ℕ) (e : n ≡ length held) where
+  -- in a buffer with room for it
+  pub longest-placed : (old placed′ : List ℕ) → placed′ ≡ placed old 0 (take n held) → length old ≡ length held + 1
+      → set placed′ n b ≡ held ++ b ∷ []
+  longest-placed old placed′ p l =
+      let whole : take n held ≡ held = take-all n held (omega arith) in
+      let q : placed′ ≡ held ++ drop (length held) old = p ∙ ap (λ (s : List ℕ). s ++ drop (length s) old) whole in
+      let m : length placed′ ≡ n + 1 = ap length q ∙ simp (length-append, length-drop) (omega arith) in
+      set-split placed′ n b (omega arith)
+      ∙ ap₂ (λ (x y : List ℕ). x ++ b ∷ y) (ap (λ (s : List ℕ). take n s) q ∙ take-at held (drop (length held) old) n (sym e))
+      (drop-of-length-le placed′ {i = suc n} (omega arith))
+
+  -- and in itself, without its first
+  pub longest-held : (moved : List ℕ) → moved ≡ overwritten held (take (n - 1) (drop 1 held)) → 0 < n
+      → set moved (n - 1) b ≡ drop 1 (held ++ b ∷ [])
+  longest-held moved p h =
+      let part = take (n - 1) (drop 1 held) in
+      let k : length part ≡ n - 1 = length-take-le (n - 1) (drop 1 held) (simp length-drop (omega arith)) in
+      let whole : part ≡ drop 1 held = take-all (n - 1) (drop 1 held) (simp length-drop (omega arith)) in
+      let m : length moved ≡ n = ap length p ∙ simp (length-append, length-drop) (omega arith) in
+      set-split moved (n - 1) b (omega arith)
+      ∙ ap₂ (λ (x y : List ℕ). x ++ b ∷ y)
+      (ap (λ (s : List ℕ). take (n - 1) s) p ∙ take-at part (drop (length part) held) (n - 1) k ∙ whole)
+      (drop-of-length-le moved {i = suc (n - 1)} (omega arith))
+      ∙ sym (drop-append-le 1 held (b ∷ []) (omega arith))

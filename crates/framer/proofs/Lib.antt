@@ -1,0 +1,7 @@
+pub mod Buffers
+pub mod Parts
+pub mod Scans
+pub mod Windows
+pub mod Replies
+pub mod Turns
+pub mod Core

@@ -1,0 +1,158 @@
+-- How a call's parts come together: what a window leaves to deliver, and a full buffer with one byte more.
+use mathlib.Core.Path.{_≡_, refl, sym, ap, _∙_}
+use mathlib.Core.List.{List, [], _∷_, _++_}
+use mathlib.Core.Option.{some}
+use Prim.Native.Nat.{ℕ, suc, _+_, _-_, _≤_, _<_}
+use native.Mathlib.Omega.{arith}
+use lib.ListN.{length, take, drop, getD, length-append, length-take, length-drop}
+use lib.Seq.{length-take-le, take-all, drop-cons, drop-drop, drop-length}
+use Rattle.reading.specs.Rules.{Rules, Laws, isPacket, isBadChecksum, isWaiting, isNothing}
+use Rattle.reading.specs.Reading.{packet, badChecksum, open′, closed}
+use Rattle.reading.specs.Calls.{event, silent, first, Reply, fed, gapped, feed, call}
+use Rattle.reading.specs.Progress.{afterTaking, Reached}
+use Rattle.reading.proofs.Fewest.{same-reply}
+use Rattle.reading.proofs.Held.{held-bound}
+use Rattle.reading.proofs.Progress.{first-at, last-byte, reached-more, reached-event, reached-nothing}
+use Rattle.framer.specs.declared.Sight.{Sight}
+use Rattle.framer.specs.declared.Sight.the-variants.{Packet, BadChecksum, Waiting}
+use Rattle.framer.specs.declared.Stop.{Stop}
+use Rattle.framer.specs.declared.Stop.the-variants.{Done, Passed, Full}
+use Rattle.framer.specs.declared.Step.{Step}
+use Rattle.framer.specs.declared.Event.the-variants.{Packet as Gave·Packet, BadChecksum as Gave·BadChecksum}
+use Rattle.framer.specs.Scan.{onFrom, sizeOf, Seen, replyOf, Ends, Stops, Filled}
+use Rattle.framer.specs.Step.{Replied}
+use Rattle.framer.proofs.Windows.{stops-take}
+
+pub room-for : (n m k : ℕ) → n ≤ m → k ≡ m → n ≤ k
+room-for n m k h e = rw e h
+
+module _ (R : Rules) (L : Laws R) where
+  -- ---- a call that has come to its end
+
+  module _ (h c src : List ℕ) (end n : ℕ) (v : Sight) (within : end ≤ length src) (w : Ends R h c (take end src) n v) where
+    pub ends-on : onFrom v ≤ end
+    ends-on = let f = w .fits in omega (arith, length-take-le end src within)
+
+    -- what is held has room
+    pub ends-left : length h ≤ R .longest - 1 → end - onFrom v ≤ R .longest - 1
+    unfolding call
+    ends-left l =
+        let k = held-bound R L h (feed c) l in
+        let e : length (fed R h c .held) ≡ end - onFrom v =
+        ap (λ (r : Reply). length (r .held)) (w .fed-is) ∙ length-drop (onFrom v) (take end src)
+        ∙ ap (λ (m : ℕ). m - onFrom v) (length-take-le end src within) in
+        omega arith
+
+  pub ends-after : (h c s : List ℕ) (from end : ℕ) (v : Sight) → Ends R h c s (end - from) v → from ≤ end
+      → afterTaking from (fed R h c) ≡ replyOf s end v
+  ends-after h c s from end v w l =
+      ap (afterTaking from) (w .fed-is)
+      ∙ same-reply (afterTaking from (replyOf s (end - from) v)) (replyOf s end v) (omega arith) refl refl
+
+  pub ends-fed : (h₀ c₀ h s : List ℕ) (taken next : ℕ) (v : Sight) → Reached R h₀ c₀ h taken
+      → Ends R h (drop taken c₀) s (next - taken) v → taken ≤ next → fed R h₀ c₀ ≡ replyOf s next v
+  ends-fed h₀ c₀ h s taken next v a w l = a .same ∙ ends-after h (drop taken c₀) s taken next v w l
+
+  -- nothing is left of the held bytes
+  pub passed-fed : (h₀ c₀ h : List ℕ) (taken next : ℕ) → Reached R h₀ c₀ h taken → Reached R h (drop taken c₀) [] (next - taken)
+      → taken ≤ next → fed R h₀ c₀ ≡ afterTaking next (fed R [] (drop next c₀))
+  passed-fed h₀ c₀ h taken next a b l =
+      let z : taken + (next - taken) ≡ next = omega arith in
+      rw (z) at (reached-more R h₀ c₀ h [] taken (next - taken) a b .same)
+
+  -- a gap call whose scan found an event
+  pub gap-decided : (s : List ℕ) (v : Sight) → ((at k : ℕ) → v ≡ Waiting at k → ⊥) → Seen R closed s 0 v
+      → (onFrom v ≤ length s) × (sizeOf v ≤ R .longest) × (gapped (first R closed s) ≡ replyOf s 0 v)
+  gap-decided s (Packet at n) w d = (d .fits, omega (arith, d .short), ap gapped (d .first-is))
+  gap-decided s (BadChecksum at id) w d = (d .fits, omega arith, ap gapped (d .first-is))
+  gap-decided s (Waiting at k) w d = absurd (w at k refl)
+
+  -- ---- why the held bytes stopped
+
+  module _ (most : ℕ) (h c s : List ℕ) (n : ℕ) (v : Sight) (stop : Stop) (f : Filled R most h c s n v stop) where
+    pub filled-done : stop ≡ Done → Ends R h c s n v
+    filled-done e = rw e at f
+
+    pub filled-passed : stop ≡ Passed → Reached R h c [] n
+    filled-passed e = rw e at f
+
+    pub filled-full : stop ≡ Full → (k : ℕ) × Stops R h c s n 0 k × (length s ≡ most) × (n < length c)
+    filled-full e = rw e at f
+
+  -- all of a full buffer is held, and there is a byte more
+  pub full-all : (end m : ℕ) (held : List ℕ) → length (take end held) ≡ m → length held ≡ m → take end held ≡ held
+  full-all end m held e l = take-all end held (omega (arith, e ∙ sym l, length-take end held))
+
+  pub full-here : (taken next : ℕ) (c : List ℕ) → taken ≤ next → next - taken < length (drop taken c) → next < length c
+  full-here taken next c h l = omega (arith, length-drop taken c)
+
+  -- ---- a full buffer and one byte more
+
+  module _ (h₀ c₀ h held s : List ℕ) (taken next k : ℕ) (a : Reached R h₀ c₀ h taken)
+      (w : Stops R h (drop taken c₀) s (next - taken) 0 k) (is : s ≡ held) (start : taken ≤ next) (here : next < length c₀)
+      (full : R .longest ≡ length held + 1) where
+    abbrev more : List ℕ
+    more = held ++ getD c₀ next 0 ∷ []
+
+    more-length : length more ≡ length held + 1
+    more-length = length-append held (getD c₀ next 0 ∷ [])
+
+    more-reached : Reached R h₀ c₀ more (next + 1)
+    more-reached =
+        let z : taken + (next - taken) ≡ next = omega arith in
+        let y : taken + (next - taken + 1) ≡ next + 1 = omega arith in
+        let one : take 1 (drop (next - taken) (drop taken c₀)) ≡ getD c₀ next 0 ∷ [] =
+        ap (λ (l : List ℕ). take 1 l) (drop-drop (next - taken) taken c₀ ∙ ap (λ (n : ℕ). drop n c₀) z
+        ∙ drop-cons c₀ next 0 here) in
+        let t =
+        stops-take R L h (drop taken c₀) s more (next - taken) 0 k 1 0 w (w .patient .some) (simp length-drop (omega arith))
+        (rw (is, one)) in
+        rw y at (reached-more R h₀ c₀ h more taken (next - taken + 1) a t)
+
+    silent-so-far : first R open′ held ≡ silent held
+    silent-so-far = rw is at (w .waits)
+
+    pub full-packet : (n : ℕ) (r : Step) (held′ bytes : List ℕ) → R .verdict more ≡ isPacket n
+        → r ≡ record { taken = next + 1; count = 0; event = Gave·Packet n } → bytes ≡ more → Replied (fed R h₀ c₀) r held′ bytes
+    full-packet n r held′ bytes e i j =
+        let m : n ≡ suc (length held) = last-byte R L held held (getD c₀ next 0) n silent-so-far e in
+        let l : n ≡ length more = omega (arith, more-length) in
+        let all : take n more ≡ more = take-all n more (omega arith) in
+        let end : drop n more ≡ [] = ap (λ (n : ℕ). drop n more) l ∙ drop-length more in
+        let f : first R open′ more ≡ event (packet more) [] =
+        first-at R open′ more (isPacket n) (omega (arith, more-length)) e ∙ rw (all, end) in
+        rw (reached-event R h₀ c₀ more [] (next + 1) (packet more) more-reached f, i, j)
+        (record {
+          taken-is = refl;
+          event-is = ap Gave·Packet l;
+          count-is = refl;
+          held-is = refl;
+          bytes-are = take-all (length more) more (omega arith);
+        })
+
+    pub full-bad : (id n : ℕ) (r : Step) (held′ bytes : List ℕ) → R .verdict more ≡ isBadChecksum id
+        → r ≡ record { taken = next + 1; count = n; event = Gave·BadChecksum id } → n ≡ length held → held′ ≡ drop 1 more
+        → Replied (fed R h₀ c₀) r held′ bytes
+    full-bad id n r held′ bytes e i m j =
+        let f : first R open′ more ≡ event (badChecksum id) (drop 1 more) =
+        first-at R open′ more (isBadChecksum id) (omega (arith, more-length)) e in
+        let l : n ≡ length (drop 1 more) = m ∙ sym (length-drop 1 more ∙ omega (arith, more-length)) in
+        rw (reached-event R h₀ c₀ more (drop 1 more) (next + 1) (badChecksum id) more-reached f, i, j)
+        (record {
+          taken-is = refl;
+          event-is = refl;
+          count-is = l;
+          held-is = take-all n (drop 1 more) (omega arith);
+          bytes-are = refl;
+        })
+
+    pub full-nothing : (n : ℕ) (held′ : List ℕ) → R .verdict more ≡ isNothing → n ≡ length held → held′ ≡ drop 1 more
+        → Reached R h₀ c₀ (take n held′) (next + 1)
+    full-nothing n held′ e m j =
+        let l : length (drop 1 more) ≡ n = length-drop 1 more ∙ omega (arith, more-length) in
+        let all : take n (drop 1 more) ≡ drop 1 more = take-all n (drop 1 more) (omega arith) in
+        rw (j, all) (reached-nothing R L h₀ c₀ more (next + 1) (omega (arith, more-length)) e more-reached)
+
+    -- it is too long to wait
+    pub full-waits : R .verdict more ≡ isWaiting → ⊥
+    full-waits e = omega (arith, L .room more e, L .lacking more e, more-length)

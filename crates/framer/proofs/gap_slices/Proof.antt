@@ -1,0 +1,73 @@
+use Rattle.packet.specs.Verdict.{protocol2}
+use Rattle.packet.proofs.Laws.{laws}
+use Rattle.framer.proofs.Turns.{room-for, gap-decided}
+use Rattle.framer.proofs.Core.{gap-nothing}
+use lib.Seq.{length-take-le}
+use types.Run.{miss}
+use mathlib.Core.List.{[], _∷_}
+use mathlib.Core.Path.{sym}
+use Prim.Native.Nat.{_-_}
+use borrow.Author.Needs.{needs}
+use Rattle.framer.proofs.gap_slices.Statement.{statement}
+use Rattle.framer.proofs.gap_slices.Tie as tie
+
+slice-reshare-prefix-scan : tie.Need-slice-reshare-prefix-scan
+slice-reshare-prefix-scan c = search needs
+
+slice-aggregate-scan : tie.Need-slice-aggregate-scan
+slice-aggregate-scan c = sym (length-take-le _ _ (search needs))
+
+scan-requires : tie.Need-scan-requires
+scan-requires c κs = search needs
+
+enum-told : tie.Need-enum-told
+enum-told c = search needs
+
+stepped-requires : tie.Need-stepped-requires
+stepped-requires c κs = search needs
+
+same-length : tie.Need-same-length
+same-length c = search needs
+
+returns : tie.Need-returns
+returns c =
+    let g = c .before in
+    gap-nothing protocol2 _ _ _ _ _ _ (rw (g .enum-told .given .1) at (c .before .before .before .scan .ensures))
+    (c .stepped .ensures)
+
+deliver-requires : tie.Need-deliver-requires
+deliver-requires c κs =
+    let s = c .before .before .before .before .before .before .before in
+    let k = c .before .before in
+    let d = gap-decided protocol2 laws _ (k .before .scan .result)
+    (λ at k′ e. miss (0 ∷ 1 ∷ []) 2 tt (rw e at (k .match .keys2))) (k .before .scan .ensures) in
+    (room-for _ _ _ (d .0) (sym (length-take-le _ _ (search needs))), search needs, room-for _ _ _ (d .1) (s .pre .2))
+
+same-length-2 : tie.Need-same-length-2
+same-length-2 c = search needs
+
+same-length-3 : tie.Need-same-length-3
+same-length-3 c = search needs
+
+returns-2 : tie.Need-returns-2
+returns-2 c =
+    let k = c .before .before .before .before .before .before .before in
+    let d = gap-decided protocol2 laws _ (k .before .scan .result)
+    (λ at k′ e. miss (0 ∷ 1 ∷ []) 2 tt (rw e at (k .match .keys2))) (k .before .scan .ensures) in
+    rw (d .2) (c .before .before .before .before .deliver .ensures)
+
+pub gap-slices-spec : {M : Type 1} → statement M
+gap-slices-spec =
+    tie.close
+    (tie.spec
+    slice-reshare-prefix-scan
+    slice-aggregate-scan
+    scan-requires
+    enum-told
+    stepped-requires
+    same-length
+    returns
+    deliver-requires
+    same-length-2
+    same-length-3
+    returns-2)

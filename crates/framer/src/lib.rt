@@ -1,0 +1,342 @@
+// Finding packets in a stream of bytes, in place on the caller's buffers: the core of the reader's feeding and gap calls.
+mod buffer;
+
+use packet::Verdict;
+ghost use mathlib.Core.Path.{_≡_};
+ghost use mathlib.Core.List.{[], _∷_, _++_};
+ghost use Prim.Native.Nat.{_+_, _-_, _≤_, _<_};
+ghost use lib.ListN.{length, take, drop, replicate};
+ghost use Rattle.reading.specs.Reading.{closed};
+ghost use Rattle.reading.specs.Calls.{first, fed, gapped};
+ghost use Rattle.reading.specs.Progress.{afterTaking};
+ghost use Rattle.packet.specs.Verdict.{protocol2, answerFor, verdict, lacks};
+ghost use Rattle.framer.specs.Scan.{modeOf, Seen, onFrom, sizeOf, replyOf, Ends, Filled};
+ghost use Rattle.framer.specs.Step.{Replied, CoreCall};
+
+// What stands at the first offset that is not nothing. Waiting stands also at the end, where all has been passed.
+pub enum Sight {
+    Packet { at: usize, count: usize },
+    BadChecksum { at: usize, id: u8 },
+    Waiting { at: usize, lacks: usize },
+}
+
+// Why a feeding call stops at a window: it is done, or all held bytes have been passed, or they fill their buffer.
+pub enum Stop {
+    Done,
+    Passed,
+    Full,
+}
+
+// What was seen of a segment up to its end, how many bytes of the chunk were taken by then, and why no more.
+pub struct Window {
+    pub seen: Sight,
+    pub end: usize,
+    pub taken: usize,
+    pub stop: Stop,
+}
+
+// What a call of the core gives: a packet of so many bytes, a bad checksum with its ID, no event (of a gap call: nothing is
+// left), or a refusal.
+pub enum Event {
+    Packet(usize),
+    BadChecksum(u8),
+    Silent,
+    Refused,
+}
+
+// The bytes taken, the bytes then held, and the event.
+pub struct Step {
+    pub taken: usize,
+    pub count: usize,
+    pub event: Event,
+}
+
+fn stepped(taken: usize, count: usize, event: Event) -> Step
+    ensures { λ r. ⌜ r ≡ record { taken = taken; count = count; event = event } ⌝ }
+{
+    Step {
+        taken,
+        count,
+        event,
+    }
+}
+
+fn least(a: usize, b: usize) -> usize
+    ensures { λ r. ⌜ (r ≤ a) × (r ≤ b) × ((0 < a) → (0 < b) → 0 < r) ⌝ }
+{
+    if a < b { a } else { b }
+}
+
+// The bytes of s from `from` on, offset by offset; a waiting offset is passed once the segment is closed. At the end the rules
+// say how many bytes a packet has at least, so that as many can be taken.
+fn scan(s: &[u8], from: usize, live: bool) -> Sight
+    requires { ⌜ from ≤ length (now s) ⌝ }
+    ensures { λ r. ⌜ Seen protocol2 (modeOf live) (now (s .entry)) from r ⌝ }
+{
+    let mut at = from;
+    while at < s.len() {
+        match packet::judge(s, at) {
+            Verdict::Packet(count) => return Sight::Packet { at, count },
+            Verdict::BadChecksum(id) => return Sight::BadChecksum { at, id },
+            Verdict::Waiting(lacks) => {
+                if live {
+                    return Sight::Waiting { at, lacks };
+                }
+            }
+            Verdict::Nothing => {}
+        }
+        at += 1;
+    }
+    if let Verdict::Waiting(lacks) = packet::judge(s, at) {
+        return Sight::Waiting { at, lacks };
+    }
+    Sight::Waiting { at, lacks: 1 }
+}
+
+fn windowed(seen: Sight, end: usize, taken: usize, stop: Stop) -> Window
+    ensures { λ r. ⌜ r ≡ record { seen = seen; end = end; taken = taken; stop = stop } ⌝ }
+{
+    Window {
+        seen,
+        end,
+        taken,
+        stop,
+    }
+}
+
+// The chunk's bytes from `from` on, where none are held: as many are looked at as decide an event, and no more.
+fn advance(chunk: &[u8], from: usize) -> Window
+    requires { ⌜ from ≤ length (now chunk) ⌝ }
+    ensures { λ r. ⌜ (from ≤ r .end) × (r .end ≤ length (now (chunk .entry)))
+        × Ends protocol2 [] (drop from (now (chunk .entry))) (take (r .end) (now (chunk .entry))) (r .end - from) (r .seen) ⌝ }
+{
+    let mut at = from;
+    let mut end = from;
+    let mut lacks = 1;
+    while end < chunk.len() {
+        end += least(lacks, chunk.len() - end);
+        let seen = scan(&chunk[..end], at, true);
+        let Sight::Waiting {
+            at: next,
+            lacks: more,
+        } = seen
+        else {
+            return windowed(seen, end, end, Stop::Done);
+        };
+        at = next;
+        lacks = more;
+    }
+    windowed(Sight::Waiting { at, lacks }, end, end, Stop::Done)
+}
+
+// More bytes behind the window from `at` to `end`, which moves to the start where there is no room behind it. The answer is
+// where the window begins then.
+fn append(held: &mut [u8], at: usize, end: usize, bytes: &[u8]) -> usize
+    requires { ⌜ (at ≤ end) × (end ≤ length (now held)) × (end - at + length (now bytes) ≤ length (now held)) ⌝ }
+    ensures { λ r. ⌜ (r ≤ at) × (r + (end - at) + length (now (bytes .entry)) ≤ length (now (held .entry)))
+        × (drop r (take (r + (end - at) + length (now (bytes .entry))) (now (held .exit)))
+        ≡ drop at (take end (now (held .entry))) ++ now (bytes .entry)) ⌝ }
+{
+    if bytes.len() <= held.len() - end {
+        buffer::place(held, end, bytes);
+        return at;
+    }
+    buffer::shift(held, at, end);
+    buffer::place(held, end - at, bytes);
+    0
+}
+
+// The held bytes, and where they wait as many of the chunk's, from `from` on, as they wait for, as far as there is room.
+fn fill(held: &mut [u8], count: usize, chunk: &[u8], from: usize) -> Window
+    requires { ⌜ (count ≤ length (now held)) × (from ≤ length (now chunk)) ⌝ }
+    ensures { λ r. ⌜ (from ≤ r .taken) × (r .taken ≤ length (now (chunk .entry))) × (r .end ≤ length (now (held .entry)))
+        × Filled protocol2 (length (now (held .entry))) (take count (now (held .entry))) (drop from (now (chunk .entry)))
+        (take (r .end) (now (held .exit))) (r .taken - from) (r .seen) (r .stop) ⌝ }
+{
+    let first = scan(&held[..count], 0, true);
+    let Sight::Waiting {
+        at: start,
+        lacks: wanted,
+    } = first
+    else {
+        return windowed(first, count, from, Stop::Done);
+    };
+    let mut at = start;
+    let mut lacks = wanted;
+    let mut end = count;
+    let mut taken = from;
+    while taken < chunk.len() {
+        let waiting = end - at;
+        if waiting == 0 {
+            return windowed(Sight::Waiting { at, lacks }, end, taken, Stop::Passed);
+        }
+        let room = held.len() - waiting;
+        if room == 0 {
+            return windowed(Sight::Waiting { at, lacks }, end, taken, Stop::Full);
+        }
+        let more = least(least(lacks, room), chunk.len() - taken);
+        let moved = append(held, at, end, &chunk[taken..taken + more]);
+        end = moved + waiting + more;
+        taken += more;
+        let seen = scan(&held[..end], moved, true);
+        let Sight::Waiting {
+            at: next,
+            lacks: still,
+        } = seen
+        else {
+            return windowed(seen, end, taken, Stop::Done);
+        };
+        at = next;
+        lacks = still;
+    }
+    windowed(Sight::Waiting { at, lacks }, end, taken, Stop::Done)
+}
+
+// The window fills its buffer: with one byte more it is judged in the packet buffer. All of it but its first byte stays held.
+fn judge_longest(held: &mut [u8], byte: u8, packet: &mut [u8]) -> Verdict
+    requires { ⌜ (0 < length (now held)) × (length (now packet) ≡ length (now held) + 1) ⌝ }
+    ensures { λ r. ⌜ r ≡ answerFor (verdict (now (held .entry) ++ byte ∷ [])) (lacks (now (held .entry) ++ byte ∷ [])) ⌝ }
+    ensures { λ _. ⌜ (now (packet .exit) ≡ now (held .entry) ++ byte ∷ [])
+        × (now (held .exit) ≡ drop 1 (now (held .entry) ++ byte ∷ [])) ⌝ }
+{
+    let n = held.len();
+    buffer::place(packet, 0, &held[..n]);
+    packet[n] = byte;
+    buffer::shift(held, 1, n);
+    held[n - 1] = byte;
+    packet::judge(packet, 0)
+}
+
+// The event goes out, and the held bytes from where reading goes on stay.
+fn deliver(held: &mut [u8], seen: Sight, end: usize, taken: usize, packet: &mut [u8]) -> Step
+    requires { ⌜ (onFrom seen ≤ end) × (end ≤ length (now held)) × (sizeOf seen ≤ length (now packet)) ⌝ }
+    ensures { λ r. ⌜ Replied (replyOf (take end (now (held .entry))) taken seen) r (now (held .exit)) (now (packet .exit)) ⌝ }
+{
+    match seen {
+        Sight::Packet { at, count } => {
+            let on = at + count;
+            buffer::place(packet, 0, &held[at..on]);
+            buffer::shift(held, on, end);
+            stepped(taken, end - on, Event::Packet(count))
+        }
+        Sight::BadChecksum { at, id } => {
+            buffer::shift(held, at + 1, end);
+            stepped(taken, end - (at + 1), Event::BadChecksum(id))
+        }
+        Sight::Waiting { at, lacks: _ } => {
+            buffer::shift(held, at, end);
+            stepped(taken, end - at, Event::Silent)
+        }
+    }
+}
+
+// The event goes out, and the chunk's bytes from where reading goes on are held.
+fn deliver_chunk(held: &mut [u8], chunk: &[u8], seen: Sight, end: usize, packet: &mut [u8]) -> Step
+    requires { ⌜ (onFrom seen ≤ end) × (end ≤ length (now chunk)) × (end - onFrom seen ≤ length (now held))
+        × (sizeOf seen ≤ length (now packet)) ⌝ }
+    ensures { λ r. ⌜ Replied (replyOf (take end (now (chunk .entry))) end seen) r (now (held .exit)) (now (packet .exit)) ⌝ }
+{
+    match seen {
+        Sight::Packet { at, count } => {
+            let on = at + count;
+            buffer::place(packet, 0, &chunk[at..on]);
+            buffer::place(held, 0, &chunk[on..end]);
+            stepped(end, end - on, Event::Packet(count))
+        }
+        Sight::BadChecksum { at, id } => {
+            let on = at + 1;
+            buffer::place(held, 0, &chunk[on..end]);
+            stepped(end, end - on, Event::BadChecksum(id))
+        }
+        Sight::Waiting { at, lacks: _ } => {
+            buffer::place(held, 0, &chunk[at..end]);
+            stepped(end, end - at, Event::Silent)
+        }
+    }
+}
+
+// The chunk's bytes from `from` on, where none are held.
+fn read_chunk(held: &mut [u8], chunk: &[u8], from: usize, packet: &mut [u8]) -> Step
+    requires { ⌜ (from ≤ length (now chunk)) × (length (now held) ≡ 1030) × (length (now packet) ≡ 1031) ⌝ }
+    ensures { λ r. ⌜ Replied (afterTaking from (fed protocol2 [] (drop from (now (chunk .entry))))) r (now (held .exit)) (now (packet .exit)) ⌝ }
+{
+    let ahead = advance(chunk, from);
+    let seen = ahead.seen;
+    deliver_chunk(held, chunk, seen, ahead.end, packet)
+}
+
+// The held bytes first, then the chunk's. A byte is taken past a full buffer by each turn.
+fn feed_slices(held: &mut [u8], count: usize, chunk: &[u8], packet: &mut [u8]) -> Step
+    requires { ⌜ (count ≤ 1030) × (length (now held) ≡ 1030) × (length (now packet) ≡ 1031) ⌝ }
+    ensures { λ r. ⌜ Replied (fed protocol2 (take count (now (held .entry))) (now (chunk .entry))) r (now (held .exit)) (now (packet .exit)) ⌝ }
+{
+    let mut n = count;
+    let mut taken = 0;
+    loop {
+        let w = fill(held, n, chunk, taken);
+        let seen = w.seen;
+        let stop = w.stop;
+        let next = w.taken;
+        match stop {
+            Stop::Done => return deliver(held, seen, w.end, next, packet),
+            Stop::Passed => return read_chunk(held, chunk, next, packet),
+            Stop::Full => {}
+        }
+        n = held.len();
+        taken = next + 1;
+        match judge_longest(held, chunk[next], packet) {
+            Verdict::Packet(size) => return stepped(taken, 0, Event::Packet(size)),
+            Verdict::BadChecksum(id) => return stepped(taken, n, Event::BadChecksum(id)),
+            Verdict::Waiting(_) => {}
+            Verdict::Nothing => {}
+        }
+    }
+}
+
+// All bytes from `from` on become 0.
+pub fn clear(buffer: &mut [u8], from: usize)
+    ensures { λ _. ⌜ now (buffer .exit) ≡ take from (now (buffer .entry)) ++ replicate (length (now (buffer .entry)) - from) 0 ⌝ }
+{
+    let mut i = from;
+    while i < buffer.len() {
+        buffer[i] = 0;
+        i += 1;
+    }
+}
+
+// The core of a feeding call, in place on the caller's held bytes, of which there are `count`, and packet buffer.
+pub fn feed_in(held: &mut [u8; 1030], count: usize, chunk: &[u8], packet: &mut [u8; 1031]) -> Step
+    ensures { λ r. ⌜ CoreCall (fed protocol2 (take count (now (held .entry))) (now (chunk .entry))) count
+        (now (held .entry)) (now (packet .entry)) r (now (held .exit)) (now (packet .exit)) ⌝ }
+{
+    if 1030 < count {
+        return stepped(0, count, Event::Refused);
+    }
+    let done = feed_slices(held, count, chunk, packet);
+    clear(held, done.count);
+    done
+}
+
+fn gap_slices(held: &mut [u8], count: usize, packet: &mut [u8]) -> Step
+    requires { ⌜ (count ≤ 1030) × (length (now held) ≡ 1030) × (length (now packet) ≡ 1031) ⌝ }
+    ensures { λ r. ⌜ Replied (gapped (first protocol2 closed (take count (now (held .entry))))) r (now (held .exit)) (now (packet .exit)) ⌝ }
+{
+    let seen = scan(&held[..count], 0, false);
+    if let Sight::Waiting { at: _, lacks: _ } = seen {
+        return stepped(0, 0, Event::Silent);
+    }
+    deliver(held, seen, count, 0, packet)
+}
+
+// The core of a gap call.
+pub fn gap_in(held: &mut [u8; 1030], count: usize, packet: &mut [u8; 1031]) -> Step
+    ensures { λ r. ⌜ CoreCall (gapped (first protocol2 closed (take count (now (held .entry))))) count
+        (now (held .entry)) (now (packet .entry)) r (now (held .exit)) (now (packet .exit)) ⌝ }
+{
+    if count > 1030 {
+        return stepped(0, count, Event::Refused);
+    }
+    let last = gap_slices(held, count, packet);
+    clear(held, last.count);
+    last
+}

@@ -1,0 +1,50 @@
+-- The reader's record and the calls on it, and demand 3 over lists of these calls. The contracts of `feed` and `gap` cite
+-- `saidOn` and `leftBy`, of which the reader `records` is made.
+use mathlib.Core.Path.{_≡_}
+use mathlib.Core.List.{List}
+use mathlib.Core.Option.{Option, none, some}
+use Prim.Native.Nat.{ℕ}
+use lib.ListN.{take}
+use Rattle.reading.specs.Reading.{Event, packet, badChecksum}
+use Rattle.reading.specs.Calls.{Call, call}
+use Rattle.reading.specs.Lists.{AnyReader, after}
+use Rattle.packet.specs.Verdict.{protocol2}
+use Rattle.reader.specs.declared.Reader.{Reader}
+use Rattle.reader.specs.Answer.{Kind, aPacket, aBadChecksum, noEvent, Said, saidFor, leftFor}
+
+-- bytes past the count are ignored
+abbrev pub heldIn : Reader → List ℕ
+heldIn r = take (r .count) (r .bytes)
+
+-- what a call answers
+unfoldable pub saidOn : Reader → Call → Said
+saidOn r c = saidFor (r .count) (call protocol2 (heldIn r) c)
+
+-- how it leaves the record: the bytes past its count are 0, and a refusal leaves it as it was
+unfoldable pub leftBy : Reader → Call → Reader
+leftBy r c =
+    record { bytes = leftFor (r .count) (r .bytes) (call protocol2 (heldIn r) c); count = saidOn r c .held }
+
+-- the event that an answer gives, with all it carries
+abbrev pub eventOfKind : Kind → ℕ → ℕ → List ℕ → Option Event
+eventOfKind aPacket id n bytes = some (packet (take n bytes))
+eventOfKind aBadChecksum id n bytes = some (badChecksum id)
+eventOfKind noEvent id n bytes = none
+
+abbrev pub eventIn : Said → Option Event
+eventIn s = eventOfKind (s .kind) (s .id) (s .count) (s .bytes)
+
+-- the records as a reader: a fresh one is any with count 0, whatever lies past it
+abbrev pub records : AnyReader
+records =
+    record {
+      State = Reader;
+      Fresh = λ r. r .count ≡ 0;
+      taken = λ r c. saidOn r c .taken;
+      answer = λ r c. eventIn (saidOn r c);
+      next = λ r c. leftBy r c;
+    }
+
+-- from a fresh record on no call is refused, whatever came before
+abbrev pub NeverRefused : Type 0
+NeverRefused = (r : Reader) → r .count ≡ 0 → (cs : List Call) (c : Call) → saidOn (after records r cs) c .refusal ≡ none

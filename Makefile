@@ -92,7 +92,7 @@ rust_test: $(LIBS)
 	@$(call need,cargo)
 	@cd tests && cargo test --release --offline --quiet || $(call failed,the comparison tests)
 
-BENCH_SOURCES := tests/bench/bench.c tests/bench/baseline.c
+BENCH_SOURCES := tests/bench/bench.c tests/bench/baseline.c tests/bench/baseline_reader.c
 bench: build/c/bench
 	@build/c/bench || $(call failed,the benchmark)
 

@@ -8,8 +8,8 @@
  *   also where the length is 0 (then nothing is read or written through it).
  * - Nobody else writes that memory during the call, and memory that the call writes overlaps no other memory given to it.
  *
- * A call that can refuse answers a count, 0 or more, or minus the number of the refusal. A refused call leaves all memory as it
- * was. The refusals of a call are tested in the order in which they are listed.
+ * A call that can refuse answers a count, 0 or more, or minus the number of the refusal; the reader's calls answer its number as
+ * the kind. A refused call leaves all memory as it was. The refusals of a call are tested in the order in which they are listed.
  *
  * A count that a call answers and that passes INT64_MAX, which no memory holds, is answered as INT64_MAX.
  *
@@ -43,17 +43,22 @@ extern "C" {
  */
 uint16_t dxl_crc16(uint16_t start, const uint8_t *bytes, size_t n);
 
-/* Refusals: a call answers minus the number. */
+/* Refusals: a call answers minus the number; for 25, see struct dxl_step. */
 enum {
     DXL_BAD_ID = 11,       /* an ID of 253 or 255 */
     DXL_TOO_LONG = 12,     /* the packet's length, which counts stuffed body and checksum, would pass 1,024 */
     DXL_NO_ROOM = 13,      /* the output buffer has too little room */
     DXL_BAD_STUFFING = 14, /* the body is not well stuffed */
-    DXL_NOT_A_TABLE = 21   /* the control table is not 136 bytes long */
+    DXL_NOT_A_TABLE = 21,  /* the control table is not 136 bytes long */
+    DXL_BAD_READER = 25    /* the reader's count is above 1,030 */
 };
 
-/* The longest packet, and the control table. */
-enum { DXL_MAX_PACKET = 1031, DXL_TABLE_BYTES = 136 };
+enum {
+    DXL_MAX_PACKET = 1031, /* the longest packet */
+    DXL_MAX_BODY = 1022,   /* its body, stuffed or not */
+    DXL_MAX_HELD = 1030,   /* the most bytes that a reader holds between two calls */
+    DXL_TABLE_BYTES = 136  /* the control table */
+};
 
 /* The ID that addresses all devices. */
 enum { DXL_BROADCAST_ID = 254 };
@@ -92,6 +97,96 @@ int64_t dxl_encode(uint8_t id, uint8_t instruction, const uint8_t *params, size_
  * The bytes of out after the unstuffed body stay as they were, and so does all of out where the call refuses.
  */
 int64_t dxl_unstuff(const uint8_t *body, size_t n_body, uint8_t *out, size_t n_out);
+
+/* Kinds of events. A reader's call has DXL_BAD_READER as a fourth kind. */
+enum {
+    DXL_NO_EVENT = 0,    /* no event; of a gap call: nothing is left */
+    DXL_PACKET = 1,      /* a well-formed packet */
+    DXL_BAD_CHECKSUM = 2 /* header, ID and length of a packet, with all its bytes, and a wrong checksum */
+};
+
+/* The answer of a reader's call. */
+struct dxl_step {
+    size_t taken; /* how many bytes of the chunk were taken; 0 of a gap call */
+    size_t count; /* DXL_PACKET: the packet's byte count, 10 to 1,031; otherwise 0 */
+    uint8_t kind; /* DXL_NO_EVENT, DXL_PACKET, DXL_BAD_CHECKSUM, or DXL_BAD_READER where the call refuses */
+    uint8_t id;   /* DXL_PACKET, DXL_BAD_CHECKSUM: the packet's ID, 0 to 252 or 254; otherwise 0 */
+};
+
+/*
+ * The reader finds the packets in the bytes of the line, whatever else these are and however they are cut into chunks. A segment,
+ * the bytes between two gaps, is read from its first byte on. Where a well-formed packet stands, it is an event, and reading goes
+ * on behind it. Where only its checksum is wrong, that is an event, and reading goes on at the next byte: a packet inside a
+ * damaged one is found. Anything else is passed over byte by byte, without an event.
+ *
+ * The reader's record is the caller's: held and *count. It lives as long as the device.
+ * - To begin, set *count to 0; held may then have any bytes.
+ * - After that nobody but dxl_feed and dxl_gap writes held and *count. These keep *count at 1,030 or less and set
+ *   held[*count] to held[1029] to 0. Any other record with *count at 1,030 or less is accepted too: its first *count bytes count
+ *   as held, the others are ignored.
+ * - One call at a time on one record.
+ *
+ * The bytes that have come go to dxl_feed, chunk by chunk. After a silence of more than 1.5 ms dxl_gap ends the segment. The
+ * library has no clock, so that the caller says when that is.
+ *
+ *     static uint8_t held[DXL_MAX_HELD], packet[DXL_MAX_PACKET];
+ *     static size_t count;              // 0: a fresh reader
+ *
+ *     void hear(struct dxl_step step);  // the caller's; packet has the bytes of a DXL_PACKET event
+ *
+ *     void bytes_came(const uint8_t *chunk, size_t n)
+ *     {
+ *         for (;;) {
+ *             struct dxl_step step = dxl_feed(held, &count, chunk, n, packet);
+ *             if (step.kind == DXL_NO_EVENT || step.kind == DXL_BAD_READER)
+ *                 return;
+ *             chunk += step.taken;
+ *             n -= step.taken;          // and again, also where this is 0
+ *             hear(step);
+ *         }
+ *     }
+ *
+ *     void line_was_silent(void)
+ *     {
+ *         for (;;) {
+ *             struct dxl_step step = dxl_gap(held, &count, packet);
+ *             if (step.kind == DXL_NO_EVENT || step.kind == DXL_BAD_READER)
+ *                 return;
+ *             hear(step);
+ *         }
+ *     }
+ */
+
+/*
+ * Feeds a chunk: reads on in the held bytes and then in the chunk, up to the next event.
+ *
+ * held, count   the reader's record
+ * chunk, n      the bytes that have come; any bytes of any number
+ * packet        gets the packet of a DXL_PACKET event
+ *
+ * Answers the next event, and as taken the fewest bytes of the chunk after which it is decided, which may be none; the caller
+ * feeds the others again. Where no event is decided, answers DXL_NO_EVENT, and all n bytes are taken.
+ *
+ * Call it with the untaken rest until it answers DXL_NO_EVENT, also where that rest is empty: several events may wait in the held
+ * bytes, and a loop that stops when all bytes are taken leaves them there.
+ *
+ * The packet's bytes as received are written to packet, followed by 0 up to 1,031; beside any other answer that is no refusal
+ * packet becomes all 0. The held bytes after an event are all bytes taken so far from where reading goes on; after DXL_NO_EVENT
+ * they are the beginning of a packet that may still become complete, or none.
+ *
+ * Refuses with kind DXL_BAD_READER where *count is above 1,030; taken, count and id are then 0, and held, *count and packet stay.
+ */
+struct dxl_step dxl_feed(uint8_t held[1030], size_t *count, const uint8_t *chunk, size_t n, uint8_t packet[1031]);
+
+/*
+ * Ends the segment: answers the next event in the held bytes where no more bytes follow, or DXL_NO_EVENT where nothing is left.
+ *
+ * Call it when the line has been silent for more than 1.5 ms, until it answers DXL_NO_EVENT; then the gap is finished, and the
+ * reader holds nothing. Bytes fed earlier than that join those that are still held, as if there had been no gap.
+ *
+ * packet and held are written as by dxl_feed, and it refuses as dxl_feed does; taken is always 0.
+ */
+struct dxl_step dxl_gap(uint8_t held[1030], size_t *count, uint8_t packet[1031]);
 
 /*
  * Fills a control table as it comes from the factory: every register has its fresh value, undefined bytes are 0.

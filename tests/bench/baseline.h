@@ -1,13 +1,18 @@
-/* The same work in plain C, to measure the exports by. */
+/* The same work in plain C, to measure the exports by. Each function does what mednukals.h says of its namesake. */
 #ifndef BASELINE_H
 #define BASELINE_H
 
 #include <stddef.h>
 #include <stdint.h>
 
+#include "mednukals.h"
+
 uint16_t baseline_crc16(uint16_t start, const uint8_t *bytes, size_t n);
 
 int64_t baseline_encode(uint8_t id, uint8_t instruction, const uint8_t *params, size_t n_params, uint8_t *out, size_t n_out,
                         size_t at);
+
+struct dxl_step baseline_feed(uint8_t held[1030], size_t *count, const uint8_t *chunk, size_t n, uint8_t packet[1031]);
+struct dxl_step baseline_gap(uint8_t held[1030], size_t *count, uint8_t packet[1031]);
 
 #endif

@@ -5,13 +5,14 @@
 #define _POSIX_C_SOURCE 199309L
 #include <stdio.h>
 #include <stdlib.h>
+#include <string.h>
 #include <time.h>
 
 #include "baseline.h"
 #include "mednukals.h"
 
 enum { ROUNDS = 9, LARGEST = 1048576 };
-static const double ROUND_BYTES = 8e6;
+static const double ROUND_SECONDS = 0.04;
 
 static uint8_t input[LARGEST];
 
@@ -37,7 +38,7 @@ static double median(const double *values)
     return sorted[ROUNDS / 2];
 }
 
-/* One call on n bytes; what it answers goes into the next call, so that none can be left out or moved. */
+/* One call on n bytes, or in chunks of n; what it answers goes into the next one, so that none can be left out or moved. */
 typedef uint16_t work(uint16_t last, size_t n);
 
 static uint16_t crc_ours(uint16_t last, size_t n)
@@ -81,38 +82,162 @@ static uint16_t encode_baseline(uint16_t last, size_t n)
     return encoded(baseline_encode, last, n);
 }
 
-/* MB/s of so many calls, and what the last one answered. */
-static double rate(work *f, size_t n, size_t calls, uint16_t *answer)
+/* What comes over the line, for the reader. */
+static uint8_t line[65536];
+static size_t n_line;
+
+/* Packets of 14 bytes, one after the other. */
+static void clean_line(void)
+{
+    uint8_t params[] = {0x00, 0x06, 0x04, 0x26};
+    n_line = 0;
+    for (uint8_t id = 0; n_line + 14 <= sizeof line; id = id < 252 ? id + 1 : 0)
+        n_line += (size_t)baseline_encode(id, 0x55, params, sizeof params, line, sizeof line, n_line);
+}
+
+/* Packets of every length, most of them short, some with bytes to stuff. */
+static void mixed_line(void)
+{
+    n_line = 0;
+    for (size_t i = 0;; i++) {
+        size_t n_params = input[i] % 8 == 0 ? 4u * input[i + 1] : input[i + 1] % 24u;
+        uint8_t params[1020];
+        memcpy(params, input + i, n_params);
+        if (n_params >= 3 && input[i + 2] % 4 == 0)
+            memcpy(params + n_params / 2 - 1, "\xFF\xFF\xFD", 3);
+        int64_t count = baseline_encode(input[i] % 253, 0x03, params, n_params, line, sizeof line, n_line);
+        if (count < 0)
+            return;
+        n_line += (size_t)count;
+    }
+}
+
+/* Headers seven bytes apart, each of which promises the longest packet: a checksum of 1,029 bytes for every seven. */
+static void worst_line(void)
+{
+    static const uint8_t header[7] = {0xFF, 0xFF, 0xFD, 0x00, 0x01, 0x00, 0x04};
+    for (n_line = 0; n_line + sizeof header <= 16384; n_line += sizeof header)
+        memcpy(line + n_line, header, sizeof header);
+}
+
+static uint8_t held[DXL_MAX_HELD];
+
+typedef struct dxl_step feeder(uint8_t held[1030], size_t *count, const uint8_t *chunk, size_t n, uint8_t packet[1031]);
+typedef struct dxl_step gapper(uint8_t held[1030], size_t *count, uint8_t packet[1031]);
+
+static uint16_t mixed(uint16_t last, const struct dxl_step *step)
+{
+    uint8_t end = step->count > 0 ? packet[step->count - 1] : packet[0];
+    return (uint16_t)(last * 31u + step->taken * 7u + step->count * 5u + step->kind * 3u + step->id + end);
+}
+
+/* The whole line in chunks of n bytes, and a gap. */
+static uint16_t read_line(feeder *feed, gapper *gap, uint16_t last, size_t n)
+{
+    size_t count = 0;
+    struct dxl_step step;
+    for (size_t at = 0; at < n_line; at += n) {
+        const uint8_t *chunk = line + at;
+        size_t left = n < n_line - at ? n : n_line - at;
+        do {
+            step = feed(held, &count, chunk, left, packet);
+            chunk += step.taken;
+            left -= step.taken;
+            last = mixed(last, &step);
+        } while (step.kind != DXL_NO_EVENT);
+    }
+    do {
+        step = gap(held, &count, packet);
+        last = mixed(last, &step);
+    } while (step.kind != DXL_NO_EVENT);
+    return last;
+}
+
+static uint16_t read_ours(uint16_t last, size_t n)
+{
+    return read_line(dxl_feed, dxl_gap, last, n);
+}
+
+static uint16_t read_baseline(uint16_t last, size_t n)
+{
+    return read_line(baseline_feed, baseline_gap, last, n);
+}
+
+/* Seconds of so many calls, and what the last one answered. */
+static double seconds(work *f, size_t n, size_t calls, uint16_t *answer)
 {
     uint16_t last = 0;
     double start = now();
     for (size_t i = 0; i < calls; i++)
         last = f(last, n);
-    double seconds = now() - start;
+    double end = now();
     *answer = last;
-    return (double)n * (double)calls / seconds / 1e6;
+    return end - start;
 }
 
-static int measure(const char *what, work *ours, work *baseline, size_t n)
+/* amount: what one call gets done, in the unit that the row is given in by the second */
+static int measure(const char *what, work *ours, work *baseline, size_t n, double amount, const char *unit)
 {
     double our_rates[ROUNDS], baseline_rates[ROUNDS], ratios[ROUNDS];
-    size_t calls = (size_t)(ROUND_BYTES / (double)n) + 1;
-    for (int round = -1; round < ROUNDS; round++) {
-        uint16_t a, b;
-        double ours_now = rate(ours, n, calls, &a);
-        double baseline_now = rate(baseline, n, calls, &b);
+    uint16_t a, b;
+    size_t calls = 1;
+    while (seconds(baseline, n, calls, &b) < ROUND_SECONDS)
+        calls *= 2;
+    seconds(ours, n, calls, &a); /* so that the caches are warm for both */
+    for (int round = 0; round < ROUNDS; round++) {
+        double ours_now = amount * (double)calls / seconds(ours, n, calls, &a);
+        double baseline_now = amount * (double)calls / seconds(baseline, n, calls, &b);
         if (a != b) {
             fprintf(stderr, "%s, %zu bytes: the two answer differently\n", what, n);
             return 0;
         }
-        if (round < 0)
-            continue; /* the first round warms the caches */
         our_rates[round] = ours_now;
         baseline_rates[round] = baseline_now;
         ratios[round] = ours_now / baseline_now;
     }
-    printf("%-10s %9zu %12.0f %12.0f %8.2f\n", what, n, median(our_rates), median(baseline_rates), median(ratios));
+    printf("%-22s %8zu %-8s %10.2f %10.2f %8.2f\n", what, n, unit, median(our_rates), median(baseline_rates), median(ratios));
+    fflush(stdout);
     return 1;
+}
+
+static int measure_bytes(const char *what, work *ours, work *baseline, size_t n)
+{
+    return measure(what, ours, baseline, n, (double)n * 1e-6, "MB/s");
+}
+
+static int measure_line(const char *what, size_t chunk)
+{
+    return measure(what, read_ours, read_baseline, chunk, (double)n_line * 1e-6, "MB/s");
+}
+
+static int measure_reader(void)
+{
+    clean_line();
+    int good = measure_line("read, packets of 14", 1) && measure_line("read, packets of 14", 64)
+               && measure_line("read, packets of 14", 4096);
+    mixed_line();
+    good = good && measure_line("read, mixed packets", 1) && measure_line("read, mixed packets", 64)
+           && measure_line("read, mixed packets", 4096);
+    worst_line();
+    return good && measure_line("read, worst noise", 1) && measure_line("read, worst noise", 64)
+           && measure_line("read, worst noise", 4096);
+}
+
+/* Every reader's call clears what its answer and its record do not use, which is most of it where the chunk is one byte. */
+static void measure_clearing(void)
+{
+    static void *(*volatile clear)(void *, int, size_t) = memset;
+    enum { CALLS = 1000000 };
+    double start = now();
+    for (int i = 0; i < CALLS; i++)
+        clear(packet, 0, sizeof packet);
+    double answer = now() - start;
+    start = now();
+    for (int i = 0; i < CALLS; i++)
+        clear(held, 0, sizeof held);
+    double record = now() - start;
+    printf("a reader's call: memset takes %.0f ns for the answer's %zu bytes and %.0f ns for the record's %zu\n",
+           answer / CALLS * 1e9, sizeof packet, record / CALLS * 1e9, sizeof held);
 }
 
 int main(void)
@@ -128,11 +253,14 @@ int main(void)
         longest[i] = longest[i + 1] = 0xFF;
         longest[i + 2] = 0xFD;
     }
-    printf("%d rounds; ours and plain C in MB/s, the ratio ours to C (median)\n", ROUNDS);
-    printf("%-10s %9s %12s %12s %8s\n", "what", "bytes", "ours", "C", "ratio");
-    return measure("checksum", crc_ours, crc_baseline, 14) && measure("checksum", crc_ours, crc_baseline, 1031)
-                   && measure("checksum", crc_ours, crc_baseline, LARGEST) && measure("encode", encode_ours, encode_baseline, 14)
-                   && measure("encode", encode_ours, encode_baseline, DXL_MAX_PACKET)
-               ? 0
-               : 1;
+    printf("%d rounds; ours and plain C, the ratio ours to C (median); bytes are those of a call, for the reader of a chunk\n",
+           ROUNDS);
+    printf("%-22s %8s %-8s %10s %10s %8s\n", "what", "bytes", "unit", "ours", "C", "ratio");
+    int good = measure_bytes("checksum", crc_ours, crc_baseline, 14) && measure_bytes("checksum", crc_ours, crc_baseline, 1031)
+               && measure_bytes("checksum", crc_ours, crc_baseline, LARGEST)
+               && measure_bytes("encode", encode_ours, encode_baseline, 14)
+               && measure_bytes("encode", encode_ours, encode_baseline, DXL_MAX_PACKET) && measure_reader();
+    if (good)
+        measure_clearing();
+    return good ? 0 : 1;
 }

@@ -7,12 +7,12 @@ use native.Mathlib.Omega.{arith}
 use lib.ListN.{length, take, drop, length-take, length-drop, drop-of-length-le}
 use lib.Seq.{length-take-le, drop-drop}
 use lib.Seq.{slice-empty}
-use Rattle.reading.specs.Rules.{Rules, Laws}
+use Rattle.reading.specs.Rules.{Rules, Laws, isWaiting}
 use Rattle.reading.specs.Reading.{Event, packet, badChecksum, open′}
 use Rattle.reading.specs.Calls.{fed}
 use Rattle.reading.specs.Progress.{Reached}
 use Rattle.reading.proofs.Progress.{first-none, silent-again, reached-start, reached-past, reached-event, reached-end}
-use Rattle.reading.proofs.Progress.{reached-take, none-patient}
+use Rattle.reading.proofs.Progress.{reached-take, waiting-patient}
 use Rattle.framer.specs.declared.Sight.{Sight}
 use Rattle.framer.specs.declared.Sight.the-variants.{Packet, BadChecksum, Waiting}
 use Rattle.framer.specs.Scan.{Decides, Waits, Seen, Ends, Stops}
@@ -71,14 +71,15 @@ module _ (R : Rules) (L : Laws R) (h c : List ℕ) where
       }
 
   -- nothing is held yet, and nothing is looked at
-  pub stops-start : (s : List ℕ) (from : ℕ) → 0 < R .longest → from ≤ length s → h ≡ [] → Stops R h c (take from s) 0 from 1
-  stops-start s from l k e =
+  pub stops-start : (s : List ℕ) (from k : ℕ) → R .verdict [] ≡ isWaiting → R .lacks [] ≡ k
+      → from ≤ length s → h ≡ [] → Stops R h c (take from s) 0 from k
+  stops-start s from k l i f e =
       let z : drop from (take from s) ≡ [] = slice-empty from s in
       record {
         fits = simp length-take (omega arith);
         reached = rw (z, e) (reached-start R [] c);
         waits = rw z (first-none R open′);
-        patient = rw z (none-patient R l);
+        patient = rw (z, ← i) (waiting-patient R L [] l);
       }
 
 -- ---- looking into the chunk, where nothing is held: the window from `at` up to `end`
@@ -90,14 +91,14 @@ pub record Looked (R : Rules) (chunk : List ℕ) (from at end k : ℕ) : Type 0 
   pub stops : Stops R [] (drop from chunk) (take end chunk) (end - from) at k
 
 module _ (R : Rules) (L : Laws R) (chunk : List ℕ) (from : ℕ) where
-  pub looked-start : 0 < R .longest → from ≤ length chunk → Looked R chunk from from from 1
-  looked-start l h =
+  pub looked-start : (k : ℕ) → R .verdict [] ≡ isWaiting → R .lacks [] ≡ k → from ≤ length chunk → Looked R chunk from from from k
+  looked-start k l i h =
       let z : from - from ≡ 0 = omega arith in
       record {
         begins = omega arith;
         ordered = omega arith;
         within = h;
-        stops = rw z (stops-start R L [] (drop from chunk) chunk from l h refl);
+        stops = rw z (stops-start R L [] (drop from chunk) chunk from k l i h refl);
       }
 
   module _ (at end k m : ℕ) (w : Looked R chunk from at end k) (l : m ≤ k) (h : end + m ≤ length chunk) where

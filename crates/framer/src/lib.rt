@@ -104,7 +104,8 @@ fn windowed(seen: Sight, end: usize, taken: usize, stop: Stop) -> Window
     }
 }
 
-// The chunk's bytes from `from` on, where none are held: as many are looked at as decide an event, and no more.
+// The chunk's bytes from `from` on, where none are held: as many are looked at as decide an event, and no more. A packet has at
+// least 10.
 fn advance(chunk: &[u8], from: usize) -> Window
     requires { ⌜ from ≤ length (now chunk) ⌝ }
     ensures { λ r. ⌜ (from ≤ r .end) × (r .end ≤ length (now (chunk .entry)))
@@ -112,7 +113,7 @@ fn advance(chunk: &[u8], from: usize) -> Window
 {
     let mut at = from;
     let mut end = from;
-    let mut lacks = 1;
+    let mut lacks = 10;
     while end < chunk.len() {
         end += least(lacks, chunk.len() - end);
         let seen = scan(&chunk[..end], at, true);

@@ -231,3 +231,12 @@ laws =
       room = room;
       patient = patient;
     }
+
+-- before its first byte a packet is awaited, of at least 10 bytes
+pub none-waits : verdict [] ≡ isWaiting
+unfolding verdict frontAgrees lengthAgrees
+none-waits = refl
+
+pub none-lacks : lacks [] ≡ 10
+unfolding lacks
+none-lacks = refl

@@ -61,3 +61,68 @@ pub fn packet(rng: &mut Rng, length: usize) -> Vec<u8> {
         packet_of(id, &body)
     }
 }
+
+/// Noise that looks like the beginnings of packets: header bytes, IDs at the ends of their range, lengths that are soon there,
+/// far off, or out of bounds.
+pub fn noise(rng: &mut Rng, length: usize) -> Vec<u8> {
+    let mut noise = Vec::new();
+    while noise.len() < length {
+        match rng.between(0, 5) {
+            0 => noise.push(rng.byte()),
+            1 | 2 => noise.extend(&[0xFF, 0xFF, 0xFD, 0x00][..rng.between(1, 4)]),
+            3 => noise.push(rng.pick(&[0xFF, 0xFD, 0x00])),
+            _ => {
+                noise.extend([0xFF, 0xFF, 0xFD, 0x00, id(rng)]);
+                let promised = match rng.between(0, 9) {
+                    0..=4 => rng.between(0, 12),
+                    5 | 6 => rng.between(13, 60),
+                    7 => rng.between(61, 1_022),
+                    8 => rng.between(1_023, 1_026),
+                    _ => rng.between(0, 0xFFFF),
+                };
+                noise.extend([(promised % 256) as u8, (promised / 256) as u8]);
+            }
+        }
+    }
+    noise.truncate(length);
+    noise
+}
+
+/// A part of a segment. Longer bodies have up to so many bytes.
+fn part(rng: &mut Rng, longest: usize) -> Vec<u8> {
+    let length = if rng.one_in(3) { rng.between(1, longest) } else { rng.between(1, longest.min(12)) };
+    let mut whole = packet(rng, length);
+    match rng.between(0, 9) {
+        0 | 1 => noise(rng, length),
+        2 => {
+            let kept = rng.between(0, whole.len());
+            whole.truncate(kept);
+            whole
+        }
+        3 => {
+            let place = rng.between(0, whole.len() - 1);
+            whole[place] ^= rng.between(1, 255) as u8;
+            whole
+        }
+        4..=6 => {
+            // packets inside a packet, whose checksum or stuffing is wrong, or which is well-formed
+            let (before, after) = (rng.between(0, 3), rng.between(0, 12));
+            let inside = [noise(rng, before), whole.clone(), noise(rng, after)].concat();
+            let mut outer = match rng.between(0, 2) {
+                0 => packet_of(id(rng), &inside),
+                1 => framed(id(rng), &inside),
+                _ => framed(id(rng), &[&[0xFF, 0xFF, 0xFD][..], &inside].concat()),
+            };
+            if rng.one_in(2) {
+                *outer.last_mut().expect("no packet is empty") ^= 1;
+            }
+            outer
+        }
+        _ => whole,
+    }
+}
+
+/// Noise, packets good and bad, cut, and inside each other, one after the other.
+pub fn segment(rng: &mut Rng, parts: usize, longest: usize) -> Vec<u8> {
+    (0..parts).flat_map(|_| part(rng, longest)).collect()
+}

@@ -37,6 +37,35 @@ impl Lent {
     }
 }
 
+/// One borrowed buffer with bytes around it that no call may touch; for calls that borrow more than an input and an output, or
+/// one memory many times.
+#[derive(Clone, PartialEq, Eq)]
+pub struct Guarded {
+    memory: Vec<u8>,
+}
+
+impl Guarded {
+    /// The margins are random bytes.
+    pub fn new(rng: &mut Rng, contents: &[u8]) -> Guarded {
+        let margins = rng.bytes(2 * MARGIN);
+        Guarded { memory: [&margins[..MARGIN], contents, &margins[MARGIN..]].concat() }
+    }
+
+    pub fn bytes(&self) -> &[u8] {
+        &self.memory[MARGIN..self.memory.len() - MARGIN]
+    }
+
+    pub fn bytes_mut(&mut self) -> &mut [u8] {
+        let end = self.memory.len() - MARGIN;
+        &mut self.memory[MARGIN..end]
+    }
+
+    /// The buffer as one of a fixed length.
+    pub fn array_mut<const N: usize>(&mut self) -> &mut [u8; N] {
+        self.bytes_mut().try_into().expect("the buffer was made with this length")
+    }
+}
+
 /// An answer as the exports give it: a refusal is minus its number.
 pub fn number(answer: Answer) -> i64 {
     match answer {

@@ -3,7 +3,9 @@
 mod inputs;
 mod lent;
 mod published;
+mod reader_pair;
 
-pub use inputs::{body, body_of_stuffed_length, id, length, packet};
-pub use lent::{number, Lent};
+pub use inputs::{body, body_of_stuffed_length, id, length, noise, packet, segment};
+pub use lent::{number, Guarded, Lent};
 pub use published::{published, Published, Status};
+pub use reader_pair::ReaderPair;

@@ -1,7 +1,19 @@
 //! The exports of the proved code, as safe functions. include/mednukals.h says what each does; those under `test` are in an
 //! archive of their own, which only these tests link.
 
+/// What a feeding or a gap call answers.
+#[repr(C)]
+#[derive(Clone, Copy, PartialEq, Eq, Debug)]
+pub struct Step {
+    pub taken: usize,
+    pub count: usize,
+    pub kind: u8,
+    pub id: u8,
+}
+
 mod raw {
+    use super::Step;
+
     #[repr(C)]
     pub struct Verdict {
         pub kind: u8,
@@ -22,6 +34,12 @@ mod raw {
         ) -> i64;
         pub fn dxl_unstuff(body: *const u8, n_body: usize, out: *mut u8, n_out: usize) -> i64;
 
+        pub fn dxl_feed(held: *mut u8, count: *mut usize, chunk: *const u8, n: usize, packet: *mut u8) -> Step;
+        pub fn dxl_gap(held: *mut u8, count: *mut usize, packet: *mut u8) -> Step;
+
+        pub fn dxl_fresh(table: *mut u8, n: usize) -> i64;
+        pub fn dxl_measure(table: *mut u8, n: usize, position: i32, hardware_error: u8) -> i64;
+
         pub fn dxl_test_well_stuffed(body: *const u8, n: usize) -> u8;
         pub fn dxl_test_stuff(first: u8, rest: *const u8, n_rest: usize, out: *mut u8, n_out: usize) -> usize;
         pub fn dxl_test_verdict(segment: *const u8, n: usize, offset: usize) -> Verdict;
@@ -41,6 +59,22 @@ pub fn encode(id: u8, instruction: u8, params: &[u8], out: &mut [u8], at: usize)
 
 pub fn unstuff(body: &[u8], out: &mut [u8]) -> i64 {
     unsafe { raw::dxl_unstuff(body.as_ptr(), body.len(), out.as_mut_ptr(), out.len()) }
+}
+
+pub fn feed(held: &mut [u8; 1030], count: &mut usize, chunk: &[u8], packet: &mut [u8; 1031]) -> Step {
+    unsafe { raw::dxl_feed(held.as_mut_ptr(), count, chunk.as_ptr(), chunk.len(), packet.as_mut_ptr()) }
+}
+
+pub fn gap(held: &mut [u8; 1030], count: &mut usize, packet: &mut [u8; 1031]) -> Step {
+    unsafe { raw::dxl_gap(held.as_mut_ptr(), count, packet.as_mut_ptr()) }
+}
+
+pub fn fresh(table: &mut [u8]) -> i64 {
+    unsafe { raw::dxl_fresh(table.as_mut_ptr(), table.len()) }
+}
+
+pub fn measure(table: &mut [u8], position: i32, hardware_error: u8) -> i64 {
+    unsafe { raw::dxl_measure(table.as_mut_ptr(), table.len(), position, hardware_error) }
 }
 
 /// Exports for tests alone.

@@ -2,14 +2,20 @@
 //! with the proved code, has no table and no care for speed.
 
 mod checksum;
+mod device;
 mod packet;
+mod reader;
 mod rng;
 mod stuffing;
+mod table;
 
 pub use checksum::checksum;
+pub use device::{device_call, Heard, Registered};
 pub use packet::{encode, framed, packet_of, verdict, well_formed, Verdict, LONGEST_LENGTH, SHORTEST_LENGTH};
+pub use reader::{feed, feed_record, gap, gap_record, reading, Event, Found, Given, Step, LONGEST_PACKET, MOST_HELD};
 pub use rng::Rng;
 pub use stuffing::{stuff, stuff_into, unstuff, unstuff_into, well_stuffed};
+pub use table::{fresh, fresh_call, measure_call, Table, TABLE_BYTES};
 
 /// A call's answer: a count, or the number of a refusal. A refused call leaves all memory as it was.
 pub type Answer = Result<usize, u8>;

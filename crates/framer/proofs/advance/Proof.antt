@@ -3,7 +3,7 @@ use mathlib.Core.List.{[], _∷_}
 use types.Run.{miss}
 use lib.Seq.{length-take-le}
 use Rattle.packet.specs.Verdict.{protocol2}
-use Rattle.packet.proofs.Laws.{laws}
+use Rattle.packet.proofs.Laws.{laws, none-waits, none-lacks}
 use Rattle.framer.proofs.Windows.{Looked, looked-start, looked-next, looked-decided, looked-end}
 use mathlib.Core.Path.{sym}
 use Prim.Native.Nat.{_+_, _-_}
@@ -19,7 +19,7 @@ abbrev μ-loop : tie.MeasureT-loop
 μ-loop chunk from at₀ end₀ lacks₀ at end lacks = length chunk - end
 
 loop-holds : tie.Need-loop-holds Inv-loop μ-loop
-loop-holds c = looked-start protocol2 laws _ _ (search needs) (search needs)
+loop-holds c = looked-start protocol2 laws _ _ _ none-waits none-lacks (search needs)
 
 sub-least : tie.Need-sub-least Inv-loop μ-loop
 sub-least c = search needs

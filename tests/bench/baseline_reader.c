@@ -1,0 +1,134 @@
+#include <string.h>
+
+#include "baseline.h"
+
+enum { BEFORE_LENGTH = 5, BEFORE_BODY = 7, SHORTEST_LENGTH = 3, LONGEST_LENGTH = 1024 };
+
+/* The held bytes and those of the chunk after them, as one row that is not joined in memory. */
+struct row {
+    const uint8_t *held, *chunk;
+    size_t count, all;
+};
+
+static uint8_t byte_at(const struct row *row, size_t i)
+{
+    return i < row->count ? row->held[i] : row->chunk[i - row->count];
+}
+
+/* memmove, because the row's held bytes go back to where they come from. */
+static void copy(const struct row *row, size_t from, size_t n, uint8_t *to)
+{
+    size_t of_held = from >= row->count ? 0 : row->count - from < n ? row->count - from : n;
+    if (of_held > 0)
+        memmove(to, row->held + from, of_held);
+    if (n > of_held)
+        memcpy(to + of_held, row->chunk + (from + of_held - row->count), n - of_held);
+}
+
+static int well_stuffed(const uint8_t *body, size_t n)
+{
+    unsigned ff = 0;
+    for (size_t i = 0; i < n; i++) {
+        if (body[i] == 0xFF) {
+            ff++;
+        } else {
+            if (ff >= 2 && body[i] == 0xFD) {
+                if (i + 1 == n || body[i + 1] != 0xFD)
+                    return 0;
+                i++;
+            }
+            ff = 0;
+        }
+    }
+    return 1;
+}
+
+enum verdict { NOTHING, WAITS, WHOLE };
+
+/* Whether all of a candidate's bytes are there, and then how many they are. */
+static enum verdict look(const struct row *row, size_t at, size_t *size)
+{
+    static const uint8_t header[4] = {0xFF, 0xFF, 0xFD, 0x00};
+    size_t have = row->all - at;
+    for (size_t i = 0; i < sizeof header; i++) {
+        if (i == have)
+            return WAITS;
+        if (byte_at(row, at + i) != header[i])
+            return NOTHING;
+    }
+    if (have == sizeof header)
+        return WAITS;
+    uint8_t id = byte_at(row, at + sizeof header);
+    if (id == 253 || id == 255)
+        return NOTHING;
+    if (have < BEFORE_BODY)
+        return WAITS;
+    size_t length = byte_at(row, at + BEFORE_LENGTH) | (size_t)byte_at(row, at + BEFORE_LENGTH + 1) << 8;
+    if (length < SHORTEST_LENGTH || length > LONGEST_LENGTH)
+        return NOTHING;
+    *size = BEFORE_BODY + length;
+    return have < *size ? WAITS : WHOLE;
+}
+
+/* What is held from now on: the row's bytes between two offsets. */
+static void hold(const struct row *row, size_t from, size_t to, uint8_t *held, size_t *count)
+{
+    copy(row, from, to - from, held);
+    *count = to - from;
+    memset(held + *count, 0, DXL_MAX_HELD - *count);
+}
+
+static struct dxl_step read_on(uint8_t *held, size_t *count, const uint8_t *chunk, size_t n, uint8_t *packet, int closed)
+{
+    struct dxl_step step = {0, 0, DXL_NO_EVENT, 0};
+    if (*count > DXL_MAX_HELD) {
+        step.kind = DXL_BAD_READER;
+        return step;
+    }
+    struct row row = {held, chunk, *count, *count + n};
+    size_t at = 0;
+    /* No event is decided before the candidates looked at are whole, also one that a packet inside it ends before. */
+    size_t decided = *count;
+    for (; at < row.all; at++) {
+        size_t size = 0;
+        enum verdict verdict = look(&row, at, &size);
+        if (verdict == WAITS && !closed)
+            break;
+        if (verdict != WHOLE)
+            continue;
+        if (decided < at + size)
+            decided = at + size;
+        copy(&row, at, size, packet);
+        /* going on from the checksum of FF FF FD 00, as ours does */
+        uint16_t crc = baseline_crc16(0x0E28, packet + 4, size - 6);
+        int right = packet[size - 2] == (crc & 255) && packet[size - 1] == crc >> 8;
+        if (right && !well_stuffed(packet + BEFORE_BODY, size - BEFORE_BODY - 2))
+            continue;
+        step.taken = decided - *count;
+        step.id = packet[4];
+        if (right) {
+            step.kind = DXL_PACKET;
+            step.count = size;
+        } else {
+            step.kind = DXL_BAD_CHECKSUM;
+        }
+        memset(packet + step.count, 0, DXL_MAX_PACKET - step.count);
+        hold(&row, right ? at + size : at + 1, decided, held, count);
+        return step;
+    }
+    memset(packet, 0, DXL_MAX_PACKET);
+    step.taken = n;
+    hold(&row, at, row.all, held, count);
+    return step;
+}
+
+struct dxl_step baseline_feed(uint8_t held[1030], size_t *count, const uint8_t *chunk, size_t n, uint8_t packet[1031])
+{
+    return read_on(held, count, chunk, n, packet, 0);
+}
+
+struct dxl_step baseline_gap(uint8_t held[1030], size_t *count, uint8_t packet[1031])
+{
+    static const uint8_t none[1];
+    return read_on(held, count, none, 0, packet, 1);
+}

@@ -1,0 +1,121 @@
+use crate::Guarded;
+use exports::Step;
+use reference::{feed_record, gap_record, Event, Rng, LONGEST_PACKET, MOST_HELD};
+use std::hint::black_box;
+
+/// What a reader's calls borrow, with bytes around all of it that no call may touch.
+#[derive(Clone, PartialEq, Eq)]
+struct Borrowed {
+    held: Guarded,
+    /// The count is the one in the middle.
+    count: [usize; 3],
+    packet: Guarded,
+}
+
+/// One reader's life, lived twice: every call goes to the proved code and to the reference, and all that is answered and left
+/// must be the same.
+pub struct ReaderPair {
+    ours: Borrowed,
+    expected: Borrowed,
+    /// What the packet buffer is filled with before each call; never 0, so that a byte not written shows.
+    filler: u8,
+    pub calls: usize,
+}
+
+impl ReaderPair {
+    /// A record with these bytes and this count, which may be too large.
+    pub fn with_record(rng: &mut Rng, held: [u8; MOST_HELD], count: usize) -> ReaderPair {
+        let around = [rng.word() as usize, count, rng.word() as usize];
+        let packet = Guarded::new(rng, &[0; LONGEST_PACKET]);
+        let ours = Borrowed { held: Guarded::new(rng, &held), count: around, packet };
+        ReaderPair { expected: ours.clone(), ours, filler: 1, calls: 0 }
+    }
+
+    /// A fresh reader: it holds nothing, and its record may have any bytes.
+    pub fn fresh(rng: &mut Rng) -> ReaderPair {
+        let past = rng.byte();
+        ReaderPair::with_record(rng, [past; MOST_HELD], 0)
+    }
+
+    /// Writes a byte to all of the record that lies past its count: no call may care.
+    pub fn scribble(&mut self, byte: u8) {
+        for reader in [&mut self.ours, &mut self.expected] {
+            let count = reader.count[1].min(MOST_HELD);
+            reader.held.bytes_mut()[count..].fill(byte);
+        }
+    }
+
+    pub fn held(&self) -> &[u8] {
+        &self.ours.held.bytes()[..self.ours.count[1].min(MOST_HELD)]
+    }
+
+    pub fn feed(&mut self, chunk: &[u8]) -> (Step, Option<Event>) {
+        self.call(Some(chunk))
+    }
+
+    pub fn gap(&mut self) -> (Step, Option<Event>) {
+        self.call(None)
+    }
+
+    fn call(&mut self, chunk: Option<&[u8]>) -> (Step, Option<Event>) {
+        self.calls += 1;
+        self.filler = self.filler % 255 + 1;
+        let before = self.held().to_vec();
+        let count_before = self.ours.count[1];
+        for reader in [&mut self.ours, &mut self.expected] {
+            reader.packet.bytes_mut().fill(self.filler);
+        }
+        let mut lent = chunk.map(<[u8]>::to_vec);
+
+        let Borrowed { held, count, packet } = &mut self.ours;
+        let (held, count, packet) = (held.array_mut(), &mut count[1], packet.array_mut());
+        let step = match &lent {
+            Some(chunk) => exports::feed(held, count, chunk, packet),
+            None => exports::gap(held, count, packet),
+        };
+        let Borrowed { held, count, packet } = &mut self.expected;
+        let (held, count, packet) = (held.array_mut(), &mut count[1], packet.array_mut());
+        let wanted = match chunk {
+            Some(chunk) => feed_record(held, count, chunk, packet),
+            None => gap_record(held, count, packet),
+        };
+
+        let what = || format!("{count_before} held: {before:02x?}, chunk {chunk:02x?}");
+        let numbers = (step.kind, step.id, step.taken, step.count);
+        assert_eq!(numbers, (wanted.kind, wanted.id, wanted.taken, wanted.count), "kind, ID, taken, count; {}", what());
+        assert_eq!(self.ours.count[1], self.expected.count[1], "the count of held bytes; {}", what());
+        assert!(self.ours.held == self.expected.held, "the held bytes; {}", what());
+        assert!(self.ours.packet == self.expected.packet, "the packet buffer; {}", what());
+        assert!(self.ours.count == self.expected.count, "memory beside the count; {}", what());
+        assert!(black_box(&mut lent).as_deref() == chunk, "the chunk; {}", what());
+        (step, self.event(step))
+    }
+
+    /// The event as our call gave it.
+    fn event(&self, step: Step) -> Option<Event> {
+        match step.kind {
+            1 => Some(Event::Packet { id: step.id, bytes: self.ours.packet.bytes()[..step.count].to_vec() }),
+            2 => Some(Event::BadChecksum { id: step.id }),
+            _ => None,
+        }
+    }
+
+    /// A chunk has arrived when feeding was repeated with the untaken rest until a call gave no event.
+    pub fn arrive(&mut self, mut chunk: &[u8], events: &mut Vec<Event>) {
+        loop {
+            let (step, event) = self.feed(chunk);
+            chunk = &chunk[step.taken..];
+            match event {
+                Some(event) => events.push(event),
+                None => return,
+            }
+        }
+    }
+
+    /// Gap calls until nothing is left.
+    pub fn finish(&mut self, events: &mut Vec<Event>) {
+        while let (_, Some(event)) = self.gap() {
+            events.push(event);
+        }
+    }
+}

@@ -1,0 +1,360 @@
+//! The device: what it does on hearing something, and the status that it answers.
+
+use crate::packet_of;
+use crate::table::{self, Table};
+
+const FEWEST_REPLY_BYTES: usize = 32;
+
+/// A write that waits for Action; a count of 0 means none.
+#[derive(Clone, Copy, PartialEq, Eq, Debug, Default)]
+pub struct Registered {
+    pub address: u16,
+    pub count: u8,
+    pub bytes: [u8; 8],
+}
+
+#[derive(Clone, Copy, PartialEq, Eq, Debug)]
+pub enum Heard<'a> {
+    /// A packet event with its body unstuffed.
+    Packet {
+        id: u8,
+        body: &'a [u8],
+    },
+    BadChecksum {
+        id: u8,
+    },
+    Nothing,
+}
+
+/// The status's byte count (0: silence), the reply slot, and the registered write as it is now.
+#[derive(Clone, Copy, PartialEq, Eq, Debug)]
+pub struct Answer {
+    pub count: usize,
+    pub slot: u8,
+    pub registered: Registered,
+}
+
+#[derive(Clone, Copy, PartialEq, Eq, Debug)]
+enum Sent {
+    ToUs,
+    ToAll,
+}
+
+/// The data of a status, or its error number.
+type Outcome = Result<Vec<u8>, u8>;
+
+/// Where a status may be answered: the return level that it needs and its slot.
+struct Reply {
+    level: u8,
+    slot: u8,
+    outcome: Outcome,
+}
+
+fn reply(level: u8, slot: u8, outcome: Outcome) -> Option<Reply> {
+    Some(Reply { level, slot, outcome })
+}
+
+/// The device call on a table and a reply buffer of any length, or the number of its refusal.
+pub fn device_call(table: &mut [u8], registered: Registered, heard: Heard, out: &mut [u8]) -> Result<Answer, u8> {
+    let table: &mut Table = table.try_into().map_err(|_| 21)?;
+    if table::own_id(table) > 252 {
+        return Err(22);
+    }
+    if registered.count > 8 {
+        return Err(23);
+    }
+    if out.len() < FEWEST_REPLY_BYTES {
+        return Err(24);
+    }
+
+    let (id, level) = (table::own_id(table), table::return_level(table));
+    let mut registered = registered;
+    let reply = hear(table, &mut registered, heard).filter(|reply| level >= reply.level);
+    let Some(Reply { slot, outcome, .. }) = reply else {
+        return Ok(Answer { count: 0, slot: 0, registered });
+    };
+    let (error, data) = match outcome {
+        Ok(data) => (0, data),
+        Err(error) => (error, vec![]),
+    };
+    let alert = if table::hardware_error(table) != 0 { 0x80 } else { 0 };
+    let status = packet_of(id, &[&[0x55, error | alert], &data[..]].concat());
+    out[..status.len()].copy_from_slice(&status);
+    Ok(Answer { count: status.len(), slot, registered })
+}
+
+fn hear(table: &mut Table, registered: &mut Registered, heard: Heard) -> Option<Reply> {
+    let own = table::own_id(table);
+    match heard {
+        Heard::Nothing => None,
+        Heard::BadChecksum { id } if id == own => reply(2, 0, Err(3)),
+        Heard::BadChecksum { .. } => None,
+        Heard::Packet { id, body } if id == own => told(table, registered, Sent::ToUs, body),
+        Heard::Packet { id: 254, body } => told(table, registered, Sent::ToAll, body),
+        Heard::Packet { .. } => None,
+    }
+}
+
+fn told(table: &mut Table, registered: &mut Registered, sent: Sent, body: &[u8]) -> Option<Reply> {
+    let to_us = |level, outcome| if sent == Sent::ToUs { reply(level, 0, outcome) } else { None };
+    let Some((&instruction, parameters)) = body.split_first() else {
+        return to_us(2, Err(2));
+    };
+    match instruction {
+        0x55 => None,
+        0x01 => match (sent, ping(table, parameters)) {
+            (Sent::ToAll, Ok(data)) => reply(0, table::own_id(table), Ok(data)),
+            (_, outcome) => to_us(0, outcome),
+        },
+        0x02 => to_us(1, read(table, parameters)),
+        0x03 => to_us(2, write(table, parameters)),
+        0x04 => to_us(2, reg_write(table, registered, parameters)),
+        0x05 => to_us(2, action(table, registered, parameters)),
+        0x06 => to_us(2, factory_reset(table, registered, sent, parameters)),
+        0x08 => to_us(2, reboot(table, registered, parameters)),
+        0x82 if sent == Sent::ToAll => sync_read(table, parameters),
+        0x82 => to_us(1, Err(2)),
+        0x83 if sent == Sent::ToAll => {
+            sync_write(table, parameters);
+            None
+        }
+        _ => to_us(2, Err(2)),
+    }
+}
+
+fn number(low: u8, high: u8) -> usize {
+    usize::from(low) + 256 * usize::from(high)
+}
+
+fn ping(table: &Table, parameters: &[u8]) -> Outcome {
+    match parameters {
+        [] => Ok(table::model_and_firmware(table)),
+        _ => Err(5),
+    }
+}
+
+fn read(table: &Table, parameters: &[u8]) -> Outcome {
+    match *parameters {
+        [a, b, c, d] => table::read(table, number(a, b), number(c, d)),
+        _ => Err(5),
+    }
+}
+
+fn write(table: &mut Table, parameters: &[u8]) -> Outcome {
+    match *parameters {
+        [a, b, ref data @ ..] => store(table, number(a, b), data),
+        _ => Err(5),
+    }
+}
+
+/// A refused write leaves every byte.
+fn store(table: &mut Table, address: usize, data: &[u8]) -> Outcome {
+    *table = table::write(table, address, data)?;
+    Ok(vec![])
+}
+
+fn reg_write(table: &mut Table, registered: &mut Registered, parameters: &[u8]) -> Outcome {
+    let [a, b, ref data @ ..] = *parameters else {
+        return Err(5);
+    };
+    table::write(table, number(a, b), data)?;
+    let mut bytes = [0; 8];
+    bytes[..data.len()].copy_from_slice(data);
+    *registered = Registered { address: u16::from_le_bytes([a, b]), count: data.len() as u8, bytes };
+    table::set_registered(table, true);
+    Ok(vec![])
+}
+
+fn action(table: &mut Table, registered: &mut Registered, parameters: &[u8]) -> Outcome {
+    if !parameters.is_empty() {
+        return Err(5);
+    }
+    if registered.count == 0 {
+        return Err(2);
+    }
+    let turn = std::mem::take(registered);
+    table::set_registered(table, false);
+    store(table, usize::from(turn.address), &turn.bytes[..usize::from(turn.count)])
+}
+
+fn reboot(table: &mut Table, registered: &mut Registered, parameters: &[u8]) -> Outcome {
+    if !parameters.is_empty() {
+        return Err(5);
+    }
+    *registered = Registered::default();
+    table::reboot(table);
+    Ok(vec![])
+}
+
+fn factory_reset(table: &mut Table, registered: &mut Registered, sent: Sent, parameters: &[u8]) -> Outcome {
+    let &[option] = parameters else {
+        return Err(5);
+    };
+    let (keep_id, keep_baud_code) = match option {
+        0xFF if sent == Sent::ToAll => return Ok(vec![]),
+        0xFF => (false, false),
+        0x01 => (true, false),
+        0x02 => (true, true),
+        _ => return Err(4),
+    };
+    table::reset_rom(table, keep_id, keep_baud_code);
+    reboot(table, registered, &[])
+}
+
+/// A Sync list in its parts, or nothing if any rule is broken anywhere in it.
+struct Sync<'a> {
+    address: usize,
+    length: usize,
+    /// IDs, each with the bytes after it.
+    entries: Vec<(u8, &'a [u8])>,
+}
+
+fn sync_list(parameters: &[u8], bytes_with_ids: bool) -> Option<Sync<'_>> {
+    let [a, b, c, d, ref list @ ..] = *parameters else {
+        return None;
+    };
+    let (address, length) = (number(a, b), number(c, d));
+    let entry = if bytes_with_ids { 1 + length } else { 1 };
+    if length == 0 || list.len() % entry != 0 {
+        return None;
+    }
+    let entries: Vec<(u8, &[u8])> = list.chunks(entry).map(|entry| (entry[0], &entry[1..])).collect();
+    let ids: Vec<u8> = entries.iter().map(|&(id, _)| id).collect();
+    let twice = (0..ids.len()).any(|i| ids[..i].contains(&ids[i]));
+    if twice || ids.iter().any(|&id| id > 252) {
+        return None;
+    }
+    Some(Sync { address, length, entries })
+}
+
+fn sync_read(table: &Table, parameters: &[u8]) -> Option<Reply> {
+    let list = sync_list(parameters, false)?;
+    let slot = list.entries.iter().position(|&(id, _)| id == table::own_id(table))?;
+    reply(1, slot as u8, table::read(table, list.address, list.length))
+}
+
+fn sync_write(table: &mut Table, parameters: &[u8]) {
+    let Some(list) = sync_list(parameters, true) else {
+        return;
+    };
+    let own = table::own_id(table);
+    if let Some((_, data)) = list.entries.iter().find(|&&(id, _)| id == own) {
+        // nobody hears whether it was refused
+        let _ = store(table, list.address, data);
+    }
+}
+
+#[cfg(test)]
+mod tests {
+    use super::*;
+    use crate::{fresh, measure_call, unstuff, well_formed};
+
+    /// What a device does with a packet as it goes over the line, and its status.
+    fn answer(table: &mut Table, registered: &mut Registered, packet: &[u8]) -> Vec<u8> {
+        assert!(well_formed(packet));
+        let body = unstuff(&packet[7..packet.len() - 2]);
+        let mut out = [0; 40];
+        let answer = device_call(table, *registered, Heard::Packet { id: packet[4], body: &body }, &mut out).unwrap();
+        *registered = answer.registered;
+        out[..answer.count].to_vec()
+    }
+
+    const STATUS: [u8; 11] = [0xFF, 0xFF, 0xFD, 0x00, 0x01, 0x04, 0x00, 0x55, 0x00, 0xA1, 0x0C];
+    const PING_STATUS: [u8; 14] = [0xFF, 0xFF, 0xFD, 0x00, 0x01, 0x07, 0x00, 0x55, 0x00, 0x06, 0x04, 0x26, 0x65, 0x5D];
+
+    #[test]
+    fn published_exchanges() {
+        let (mut table, mut none) = (fresh(), Registered::default());
+        measure_call(&mut table, 166, 0).unwrap();
+        let ping = [0xFF, 0xFF, 0xFD, 0x00, 0x01, 0x03, 0x00, 0x01, 0x19, 0x4E];
+        assert_eq!(answer(&mut table, &mut none, &ping), PING_STATUS);
+        let ping_all = [0xFF, 0xFF, 0xFD, 0x00, 0xFE, 0x03, 0x00, 0x01, 0x31, 0x42];
+        assert_eq!(answer(&mut table, &mut none, &ping_all), PING_STATUS);
+
+        let read = [0xFF, 0xFF, 0xFD, 0x00, 0x01, 0x07, 0x00, 0x02, 0x84, 0x00, 0x04, 0x00, 0x1D, 0x15];
+        let present = [0xFF, 0xFF, 0xFD, 0x00, 0x01, 0x08, 0x00, 0x55, 0x00, 0xA6, 0x00, 0x00, 0x00, 0x8C, 0xC0];
+        assert_eq!(answer(&mut table, &mut none, &read), present);
+        let sync_read = [0xFF, 0xFF, 0xFD, 0x00, 0xFE, 0x09, 0x00, 0x82, 0x84, 0x00, 0x04, 0x00, 0x01, 0x02, 0xCE, 0xFA];
+        assert_eq!(answer(&mut table, &mut none, &sync_read), present);
+
+        let before = table;
+        let write = [0xFF, 0xFF, 0xFD, 0x00, 0x01, 0x09, 0x00, 0x03, 0x74, 0x00, 0x00, 0x02, 0x00, 0x00, 0xCA, 0x89];
+        assert_eq!(answer(&mut table, &mut none, &write), STATUS);
+        let mut wanted = before;
+        wanted[116..120].copy_from_slice(&512i32.to_le_bytes());
+        assert_eq!(table, wanted);
+        assert_eq!(none, Registered::default());
+    }
+
+    #[test]
+    fn registered_write() {
+        let (mut table, mut registered) = (fresh(), Registered::default());
+        let reg_write = [0xFF, 0xFF, 0xFD, 0x00, 0x01, 0x09, 0x00, 0x04, 0x68, 0x00, 0xC8, 0x00, 0x00, 0x00, 0xAE, 0x8E];
+        assert_eq!(answer(&mut table, &mut registered, &reg_write), STATUS);
+        assert_eq!(registered, Registered { address: 104, count: 4, bytes: [200, 0, 0, 0, 0, 0, 0, 0] });
+        assert_eq!((table[69], table[104]), (1, 0));
+        let action = [0xFF, 0xFF, 0xFD, 0x00, 0x01, 0x03, 0x00, 0x05, 0x02, 0xCE];
+        assert_eq!(answer(&mut table, &mut registered, &action), STATUS);
+        assert_eq!((table[69], table[104], registered), (0, 200, Registered::default()));
+        assert_eq!(answer(&mut table, &mut registered, &action)[8], 2);
+    }
+
+    /// The error byte of the status to a body sent to ID 1, or nothing.
+    fn error(table: &mut Table, body: &[u8]) -> Option<u8> {
+        answer(table, &mut Registered::default(), &packet_of(1, body)).get(8).copied()
+    }
+
+    #[test]
+    fn errors() {
+        let mut table = fresh();
+        assert_eq!(error(&mut table, &[3, 104, 0, 0xFF, 0xFF, 0xFF, 0xFF]), Some(0));
+        assert_eq!(table[104..108], [0xFF; 4]);
+        let before = table;
+        assert_eq!(error(&mut table, &[3, 104, 0, 0x4B, 0x01, 0, 0]), Some(4));
+        assert_eq!(error(&mut table, &[3, 104, 0, 1, 0]), Some(5));
+        assert_eq!(error(&mut table, &[3, 48, 0, 100, 0, 0, 0, 200, 0, 0, 0]), Some(6));
+        assert_eq!(error(&mut table, &[3, 132, 0, 1, 0, 0, 0]), Some(7));
+        assert_eq!(error(&mut table, &[0x92]), Some(2));
+        assert_eq!(error(&mut table, &[0x82]), Some(2));
+        assert_eq!(error(&mut table, &[1, 0]), Some(5));
+        assert_eq!(error(&mut table, &[6, 3]), Some(4));
+        assert_eq!(error(&mut table, &[0x55]), None);
+        assert_eq!(table, before);
+        measure_call(&mut table, 0, 4).unwrap();
+        assert_eq!(error(&mut table, &[1, 0]), Some(0x85));
+        assert_eq!(error(&mut table, &[8]), Some(0));
+    }
+
+    #[test]
+    fn levels() {
+        let answered = |level, body: &[u8]| {
+            let mut table = fresh();
+            table[68] = level;
+            error(&mut table, body).is_some()
+        };
+        for (body, lowest) in
+            [(&[1][..], 0), (&[1, 1], 0), (&[2], 1), (&[2, 0, 0, 2, 0], 1), (&[0x82], 1), (&[0x83], 2), (&[8], 2), (&[9], 2)]
+        {
+            for level in [0, 1, 2, 3, 255] {
+                assert_eq!(answered(level, body), level >= lowest, "{body:02x?} at level {level}");
+            }
+        }
+    }
+
+    #[test]
+    fn slots() {
+        let mut out = [0; 32];
+        let mut slot = |body: &[u8]| {
+            let heard = Heard::Packet { id: 254, body };
+            let answer = device_call(&mut fresh(), Registered::default(), heard, &mut out).unwrap();
+            (answer.count, answer.slot)
+        };
+        assert_eq!(slot(&[1]), (14, 1));
+        assert_eq!(slot(&[0x82, 0, 0, 2, 0, 7, 0, 1, 9]), (13, 2));
+        // its own read is refused, in its slot
+        assert_eq!(slot(&[0x82, 2, 0, 2, 0, 7, 1]), (11, 1));
+        for nothing in [&[0x82, 0, 0, 0, 0, 1][..], &[0x82, 0, 0, 1, 0, 1, 253], &[0x82, 0, 0, 1, 0, 1, 5, 5], &[0x82, 0, 0, 1]] {
+            assert_eq!(slot(nothing), (0, 0), "{nothing:02x?}");
+        }
+    }
+}

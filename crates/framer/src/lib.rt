@@ -294,6 +294,17 @@ fn feed_slices(held: &mut [u8], count: usize, chunk: &[u8], packet: &mut [u8]) -
     }
 }
 
+// Where nothing is held, the chunk is read where it lies.
+fn read_on(held: &mut [u8], count: usize, chunk: &[u8], packet: &mut [u8]) -> Step
+    requires { ⌜ (count ≤ 1030) × (length (now held) ≡ 1030) × (length (now packet) ≡ 1031) ⌝ }
+    ensures { λ r. ⌜ Replied (fed protocol2 (take count (now (held .entry))) (now (chunk .entry))) r (now (held .exit)) (now (packet .exit)) ⌝ }
+{
+    if count == 0 {
+        return read_chunk(held, chunk, 0, packet);
+    }
+    feed_slices(held, count, chunk, packet)
+}
+
 // All bytes from `from` on become 0.
 pub fn clear(buffer: &mut [u8], from: usize)
     ensures { λ _. ⌜ now (buffer .exit) ≡ take from (now (buffer .entry)) ++ replicate (length (now (buffer .entry)) - from) 0 ⌝ }
@@ -313,7 +324,7 @@ pub fn feed_in(held: &mut [u8; 1030], count: usize, chunk: &[u8], packet: &mut [
     if 1030 < count {
         return stepped(0, count, Event::Refused);
     }
-    let done = feed_slices(held, count, chunk, packet);
+    let done = read_on(held, count, chunk, packet);
     clear(held, done.count);
     done
 }

@@ -259,7 +259,8 @@ fn deliver_chunk(held: &mut [u8], chunk: &[u8], seen: Sight, end: usize, packet:
 // The chunk's bytes from `from` on, where none are held.
 fn read_chunk(held: &mut [u8], chunk: &[u8], from: usize, packet: &mut [u8]) -> Step
     requires { ⌜ (from ≤ length (now chunk)) × (length (now held) ≡ 1030) × (length (now packet) ≡ 1031) ⌝ }
-    ensures { λ r. ⌜ Replied (afterTaking from (fed protocol2 [] (drop from (now (chunk .entry))))) r (now (held .exit)) (now (packet .exit)) ⌝ }
+    ensures { λ r. ⌜ Replied (afterTaking from (fed protocol2 [] (drop from (now (chunk .entry))))) r
+        (now (held .exit)) (now (packet .exit)) ⌝ }
 {
     let ahead = advance(chunk, from);
     let seen = ahead.seen;
@@ -269,7 +270,8 @@ fn read_chunk(held: &mut [u8], chunk: &[u8], from: usize, packet: &mut [u8]) -> 
 // The held bytes first, then the chunk's. A byte is taken past a full buffer by each turn.
 fn feed_slices(held: &mut [u8], count: usize, chunk: &[u8], packet: &mut [u8]) -> Step
     requires { ⌜ (count ≤ 1030) × (length (now held) ≡ 1030) × (length (now packet) ≡ 1031) ⌝ }
-    ensures { λ r. ⌜ Replied (fed protocol2 (take count (now (held .entry))) (now (chunk .entry))) r (now (held .exit)) (now (packet .exit)) ⌝ }
+    ensures { λ r. ⌜ Replied (fed protocol2 (take count (now (held .entry))) (now (chunk .entry))) r
+        (now (held .exit)) (now (packet .exit)) ⌝ }
 {
     let mut n = count;
     let mut taken = 0;
@@ -329,9 +331,11 @@ pub fn feed_in(held: &mut [u8; 1030], count: usize, chunk: &[u8], packet: &mut [
     done
 }
 
+// The held bytes as if the segment ended with them.
 fn gap_slices(held: &mut [u8], count: usize, packet: &mut [u8]) -> Step
     requires { ⌜ (count ≤ 1030) × (length (now held) ≡ 1030) × (length (now packet) ≡ 1031) ⌝ }
-    ensures { λ r. ⌜ Replied (gapped (first protocol2 closed (take count (now (held .entry))))) r (now (held .exit)) (now (packet .exit)) ⌝ }
+    ensures { λ r. ⌜ Replied (gapped (first protocol2 closed (take count (now (held .entry))))) r
+        (now (held .exit)) (now (packet .exit)) ⌝ }
 {
     let seen = scan(&held[..count], 0, false);
     if let Sight::Waiting { at: _, lacks: _ } = seen {

@@ -5,11 +5,11 @@ SHELL := /bin/sh
 .DELETE_ON_ERROR:
 # rt works in one target/ folder, so two of its runs must never overlap.
 .NOTPARALLEL:
-.PHONY: help run lib test bench mutants fmt clean kit format promises_test c_test header_test rust_test
+.PHONY: help run events lib test bench mutants fmt clean kit format promises_test c_test header_test rust_test
 
 # Each crate listed here becomes an archive for C: capi is libmednukals.a, capi_NAME is libmednukals_NAME.a.
 EXPORT_CRATES := capi capi_test
-PROGRAMS := checksum
+PROGRAMS := checksum line
 
 archive = build/lib/$(patsubst capi%,libmednukals%,$(1)).a
 LIBS := $(foreach crate,$(EXPORT_CRATES),$(call archive,$(crate)))
@@ -27,6 +27,7 @@ failed = { echo "mednukals: FAILED: $(1)" >&2; exit 1; }
 
 help:
 	@echo 'make run    print the checksum of a file, by the proved program (CAPTURE=FILE; CAPTURE=- reads standard input)'
+	@echo 'make events  print the packets and bad checksums in a file, likewise (CAPTURE=FILE or -)'
 	@echo 'make lib    prove the exports and build the archives that C links: $(LIBS)'
 	@echo 'make test   the gate: formatting, C and Rust tests, then every proof from nothing'
 	@echo 'make bench  measure the exports beside plain C, as ratios'
@@ -39,6 +40,14 @@ run: build/bin/checksum
 	    echo 'checksum and byte count of standard input:'; build/bin/checksum; \
 	else \
 	    echo 'checksum and byte count of $(CAPTURE):'; build/bin/checksum <'$(CAPTURE)'; \
+	fi
+
+events: CAPTURE = examples/noise-and-ping.bin
+events: build/bin/line
+	@if [ '$(CAPTURE)' = - ]; then \
+	    echo 'events on standard input:'; build/bin/line; \
+	else \
+	    echo 'events in $(CAPTURE):'; build/bin/line <'$(CAPTURE)'; \
 	fi
 
 $(PROGRAMS:%=build/bin/%): build/bin/%: $(SOURCES)
@@ -88,7 +97,7 @@ promises_test:
 	@$(call need,python3)
 	@python3 tests/check_promises.py || $(call failed,docs/PROMISES.md beside the tree)
 
-rust_test: $(LIBS)
+rust_test: $(LIBS) build/bin/line
 	@$(call need,cargo)
 	@cd tests && cargo test --release --offline --quiet || $(call failed,the comparison tests)
 

@@ -1,0 +1,74 @@
+use Prim.Native.Nat.{_≤_}
+use lib.ListN.{length}
+use borrow.Author.Needs.{needs}
+use Rattle.line.proofs.feed_all.Statement.{statement}
+use Rattle.line.proofs.feed_all.Tie as tie
+
+abbrev Inv-loop : tie.InvT-loop
+Inv-loop held₀ segment found₀ count₀ at₀ left₀ held found count at left = at ≤ length segment
+
+abbrev μ-loop : tie.MeasureT-loop
+μ-loop held₀ segment found₀ count₀ at₀ left₀ held found count at left = left
+
+loop-holds : tie.Need-loop-holds Inv-loop μ-loop
+loop-holds c = search needs
+
+sub-feed-into : tie.Need-sub-feed-into Inv-loop μ-loop
+sub-feed-into c = search needs
+
+part-feed-into-start : tie.Need-part-feed-into-start Inv-loop μ-loop
+part-feed-into-start c = search needs
+
+part-feed-into-end : tie.Need-part-feed-into-end Inv-loop μ-loop
+part-feed-into-end c = search needs
+
+feed-into-requires : tie.Need-feed-into-requires Inv-loop μ-loop
+feed-into-requires c κs = search needs
+
+sub-least : tie.Need-sub-least Inv-loop μ-loop
+sub-least c = search needs
+
+least-requires : tie.Need-least-requires Inv-loop μ-loop
+least-requires c κs = search needs
+
+add-at : tie.Need-add-at Inv-loop μ-loop
+add-at c = search needs
+
+print-event-requires : tie.Need-print-event-requires Inv-loop μ-loop
+print-event-requires c κs = search needs
+
+sub-left : tie.Need-sub-left Inv-loop μ-loop
+sub-left c = search needs
+
+loop-less : tie.Need-loop-less Inv-loop μ-loop
+loop-less c = search needs
+
+loop-again : tie.Need-loop-again Inv-loop μ-loop
+loop-again c = search needs
+
+returns : tie.Need-returns Inv-loop μ-loop
+returns c = search needs
+
+returns-2 : tie.Need-returns-2 Inv-loop μ-loop
+returns-2 c = search needs
+
+pub feed-all-spec : {M : Type 1} → statement M
+feed-all-spec =
+    tie.close
+    (tie.spec
+    Inv-loop
+    μ-loop
+    loop-holds
+    sub-feed-into
+    part-feed-into-start
+    part-feed-into-end
+    feed-into-requires
+    sub-least
+    least-requires
+    add-at
+    print-event-requires
+    sub-left
+    loop-less
+    loop-again
+    returns
+    returns-2)

@@ -1,0 +1,48 @@
+use borrow.Author.Needs.{needs}
+use Rattle.line.proofs.finish.Statement.{statement}
+use Rattle.line.proofs.finish.Tie as tie
+
+abbrev Inv-loop : tie.InvT-loop
+Inv-loop held₀ from found₀ count₀ left₀ held found count left = Unit {0}
+
+abbrev μ-loop : tie.MeasureT-loop
+μ-loop held₀ from found₀ count₀ left₀ held found count left = left
+
+loop-holds : tie.Need-loop-holds Inv-loop μ-loop
+loop-holds c = search needs
+
+gap-into-requires : tie.Need-gap-into-requires Inv-loop μ-loop
+gap-into-requires c κs = search needs
+
+print-event-requires : tie.Need-print-event-requires Inv-loop μ-loop
+print-event-requires c κs = search needs
+
+sub-left : tie.Need-sub-left Inv-loop μ-loop
+sub-left c = search needs
+
+loop-less : tie.Need-loop-less Inv-loop μ-loop
+loop-less c = search needs
+
+loop-again : tie.Need-loop-again Inv-loop μ-loop
+loop-again c = search needs
+
+returns : tie.Need-returns Inv-loop μ-loop
+returns c = search needs
+
+returns-2 : tie.Need-returns-2 Inv-loop μ-loop
+returns-2 c = search needs
+
+pub finish-spec : {M : Type 1} → statement M
+finish-spec =
+    tie.close
+    (tie.spec
+    Inv-loop
+    μ-loop
+    loop-holds
+    gap-into-requires
+    print-event-requires
+    sub-left
+    loop-less
+    loop-again
+    returns
+    returns-2)

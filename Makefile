@@ -81,10 +81,11 @@ kit:
 format:
 	@rt fmt --check || $(call failed,the layout of a Rattle file; make fmt puts it right)
 
-c_test: build/c/published
+c_test: build/c/published build/c/exchange
 	@build/c/published tests/vectors/packets.txt || $(call failed,the C test)
+	@build/c/exchange || $(call failed,the C test of the loop in the header)
 
-build/c/published: tests/c/published.c include/mednukals.h build/lib/libmednukals.a
+build/c/published build/c/exchange: build/c/%: tests/c/%.c include/mednukals.h build/lib/libmednukals.a
 	@$(call need,$(CC))
 	@mkdir -p $(@D)
 	@$(CC) $(WARNINGS) -O2 -Iinclude -o $@ $< build/lib/libmednukals.a || $(call failed,compiling the C test)
@@ -101,7 +102,7 @@ rust_test: $(LIBS) build/bin/line
 	@$(call need,cargo)
 	@cd tests && cargo test --release --offline --quiet || $(call failed,the comparison tests)
 
-BENCH_SOURCES := tests/bench/bench.c tests/bench/baseline.c tests/bench/baseline_reader.c
+BENCH_SOURCES := tests/bench/bench.c tests/bench/baseline.c tests/bench/baseline_reader.c tests/bench/baseline_device.c
 bench: build/c/bench
 	@build/c/bench || $(call failed,the benchmark)
 

@@ -45,19 +45,23 @@ uint16_t dxl_crc16(uint16_t start, const uint8_t *bytes, size_t n);
 
 /* Refusals: a call answers minus the number; for 25, see struct dxl_step. */
 enum {
-    DXL_BAD_ID = 11,       /* an ID of 253 or 255 */
-    DXL_TOO_LONG = 12,     /* the packet's length, which counts stuffed body and checksum, would pass 1,024 */
-    DXL_NO_ROOM = 13,      /* the output buffer has too little room */
-    DXL_BAD_STUFFING = 14, /* the body is not well stuffed */
-    DXL_NOT_A_TABLE = 21,  /* the control table is not 136 bytes long */
-    DXL_BAD_READER = 25    /* the reader's count is above 1,030 */
+    DXL_BAD_ID = 11,         /* an ID of 253 or 255 */
+    DXL_TOO_LONG = 12,       /* the packet's length, which counts stuffed body and checksum, would pass 1,024 */
+    DXL_NO_ROOM = 13,        /* the output buffer has too little room */
+    DXL_BAD_STUFFING = 14,   /* the body is not well stuffed */
+    DXL_NOT_A_TABLE = 21,    /* the control table is not 136 bytes long */
+    DXL_BAD_TABLE_ID = 22,   /* the control table's ID, byte 7, is above 252 */
+    DXL_BAD_REGISTERED = 23, /* the registered write's count is above 8 */
+    DXL_SHORT_REPLY = 24,    /* the reply buffer has fewer than 32 bytes */
+    DXL_BAD_READER = 25      /* the reader's count is above 1,030 */
 };
 
 enum {
     DXL_MAX_PACKET = 1031, /* the longest packet */
     DXL_MAX_BODY = 1022,   /* its body, stuffed or not */
     DXL_MAX_HELD = 1030,   /* the most bytes that a reader holds between two calls */
-    DXL_TABLE_BYTES = 136  /* the control table */
+    DXL_TABLE_BYTES = 136, /* the control table */
+    DXL_MIN_REPLY = 32     /* the shortest reply buffer; the longest status packet of dxl_device has 21 bytes */
 };
 
 /* The ID that addresses all devices. */
@@ -98,7 +102,7 @@ int64_t dxl_encode(uint8_t id, uint8_t instruction, const uint8_t *params, size_
  */
 int64_t dxl_unstuff(const uint8_t *body, size_t n_body, uint8_t *out, size_t n_out);
 
-/* Kinds of events. A reader's call has DXL_BAD_READER as a fourth kind. */
+/* Kinds of events: of a reader's call, and for dxl_device. A reader's call has DXL_BAD_READER as a fourth kind. */
 enum {
     DXL_NO_EVENT = 0,    /* no event; of a gap call: nothing is left */
     DXL_PACKET = 1,      /* a well-formed packet */
@@ -129,10 +133,22 @@ struct dxl_step {
  * The bytes that have come go to dxl_feed, chunk by chunk. After a silence of more than 1.5 ms dxl_gap ends the segment. The
  * library has no clock, so that the caller says when that is.
  *
- *     static uint8_t held[DXL_MAX_HELD], packet[DXL_MAX_PACKET];
- *     static size_t count;              // 0: a fresh reader
+ *     static uint8_t held[DXL_MAX_HELD], packet[DXL_MAX_PACKET], body[DXL_MAX_BODY];
+ *     static uint8_t table[DXL_TABLE_BYTES], reply[DXL_MIN_REPLY];
+ *     static struct dxl_registered registered;  // all 0: none
+ *     static size_t count;                      // 0: a fresh reader
  *
- *     void hear(struct dxl_step step);  // the caller's; packet has the bytes of a DXL_PACKET event
+ *     static void hear(struct dxl_step step)
+ *     {
+ *         int64_t n = 0;
+ *         if (step.kind == DXL_PACKET)          // a packet event's body is well stuffed and fits
+ *             n = dxl_unstuff(packet + 7, step.count - 9, body, sizeof body);
+ *         struct dxl_answer answer =
+ *             dxl_device(table, sizeof table, registered, step.kind, step.id, body, (size_t)n, reply, sizeof reply);
+ *         registered = answer.registered;
+ *         if (answer.count > 0)
+ *             send_in_slot(reply, (size_t)answer.count, answer.slot);
+ *     }
  *
  *     void bytes_came(const uint8_t *chunk, size_t n)
  *     {
@@ -141,7 +157,7 @@ struct dxl_step {
  *             if (step.kind == DXL_NO_EVENT || step.kind == DXL_BAD_READER)
  *                 return;
  *             chunk += step.taken;
- *             n -= step.taken;          // and again, also where this is 0
+ *             n -= step.taken;                  // and again, also where this is 0
  *             hear(step);
  *         }
  *     }
@@ -202,6 +218,45 @@ int64_t dxl_fresh(uint8_t *table, size_t n);
  * Answers 0, or -21 where n is not 136; then the table stays as it was.
  */
 int64_t dxl_measure(uint8_t *table, size_t n, int32_t position, uint8_t hardware_error);
+
+/* A write that waits for Action. Begin with all 0, and hand each call of dxl_device what the last one answered. */
+struct dxl_registered {
+    uint16_t address;
+    uint8_t count; /* how many of bytes are to be written, at most 8; 0 where no write waits */
+    uint8_t bytes[8];
+};
+
+/* The device's answer. */
+struct dxl_answer {
+    int64_t count; /* the status packet's bytes, 0 for silence, or minus the number of a refusal */
+    size_t slot;   /* when to send it: 0 at once; to Ping for all devices the own ID; to Sync Read the place in its list, from 0.
+                      0 for silence and for a refusal */
+    struct dxl_registered registered; /* the registered write as it is now; as it was given, where the call refuses */
+};
+
+/*
+ * Carries out what was heard on the line, and writes the status packet that answers it.
+ *
+ * table, n_table   the control table, filled by dxl_fresh; any other contents are accepted, but for those that 22 refuses
+ * registered       the registered write
+ * kind             DXL_PACKET: a packet; DXL_BAD_CHECKSUM: a packet with a wrong checksum; with any other kind nothing was heard,
+ *                  and the device is silent
+ * id               the packet's ID; what is sent neither to the table's ID nor to 254 leaves everything as it was, in silence
+ * body, n_body     DXL_PACKET: the unstuffed body, instruction and parameters, of any number of bytes; otherwise it is ignored
+ * reply, n_reply   the buffer for the status packet
+ *
+ * Answers the status packet's byte count, 11 to 21, with its slot, 0 for silence, or
+ *   -21  n_table is not 136
+ *   -22  the table's ID (byte 7) is above 252
+ *   -23  the registered write's count is above 8
+ *   -24  n_reply is below 32, also where the device would have been silent
+ *
+ * The table becomes what the instruction makes of it; an instruction that is refused with an error in the status leaves it as it
+ * was, except that Action drops the registered write that it found and sets byte 69 to 0. The status packet starts at byte 0 of
+ * reply, and the bytes after it stay as they were; for silence all of reply stays.
+ */
+struct dxl_answer dxl_device(uint8_t *table, size_t n_table, struct dxl_registered registered, uint8_t kind, uint8_t id,
+                             const uint8_t *body, size_t n_body, uint8_t *reply, size_t n_reply);
 
 #ifdef __cplusplus
 }

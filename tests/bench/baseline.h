@@ -15,4 +15,9 @@ int64_t baseline_encode(uint8_t id, uint8_t instruction, const uint8_t *params, 
 struct dxl_step baseline_feed(uint8_t held[1030], size_t *count, const uint8_t *chunk, size_t n, uint8_t packet[1031]);
 struct dxl_step baseline_gap(uint8_t held[1030], size_t *count, uint8_t packet[1031]);
 
+int64_t baseline_fresh(uint8_t *table, size_t n);
+int64_t baseline_measure(uint8_t *table, size_t n, int32_t position, uint8_t hardware_error);
+struct dxl_answer baseline_device(uint8_t *table, size_t n_table, struct dxl_registered registered, uint8_t kind, uint8_t id,
+                                  const uint8_t *body, size_t n_body, uint8_t *reply, size_t n_reply);
+
 #endif

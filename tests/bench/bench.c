@@ -163,6 +163,60 @@ static uint16_t read_baseline(uint16_t last, size_t n)
     return read_line(baseline_feed, baseline_gap, last, n);
 }
 
+/* What the device hears: a body that has a goal position at an offset, or none. */
+static uint8_t table[DXL_TABLE_BYTES];
+static uint8_t body[1 + 4 + 200 * 5];
+static size_t goal_at;
+
+static void instruct(const uint8_t *bytes, size_t n, size_t goal)
+{
+    baseline_fresh(table, sizeof table);
+    memcpy(body, bytes, n);
+    goal_at = goal;
+}
+
+/* 200 devices with a goal each, ours the last. */
+static size_t instruct_200(void)
+{
+    static const uint8_t first[5] = {0x83, 116, 0, 4, 0};
+    instruct(first, sizeof first, 0);
+    size_t n = sizeof first;
+    for (unsigned i = 0; i < 200; i++) {
+        body[n] = i < 199 ? (uint8_t)(i + 2) : 1;
+        memset(body + n + 1, 0, 4);
+        n += 5;
+    }
+    goal_at = n - 4;
+    return n;
+}
+
+typedef struct dxl_answer device(uint8_t *table, size_t n_table, struct dxl_registered registered, uint8_t kind, uint8_t id,
+                                 const uint8_t *body, size_t n_body, uint8_t *reply, size_t n_reply);
+
+static uint16_t told(device *hear, uint16_t last, size_t n)
+{
+    static uint8_t reply[DXL_MIN_REPLY];
+    static const struct dxl_registered none;
+    if (goal_at > 0) {
+        body[goal_at] = (uint8_t)last;
+        body[goal_at + 1] = (uint8_t)(last >> 8 & 15);
+    }
+    uint8_t id = body[0] == 0x83 ? 254 : 1;
+    struct dxl_answer answer = hear(table, sizeof table, none, DXL_PACKET, id, body, n, reply, sizeof reply);
+    size_t end = answer.count > 0 ? (size_t)answer.count - 1 : 0;
+    return (uint16_t)(last * 31u + (uint16_t)answer.count + reply[end] + table[116] + 1);
+}
+
+static uint16_t device_ours(uint16_t last, size_t n)
+{
+    return told(dxl_device, last, n);
+}
+
+static uint16_t device_baseline(uint16_t last, size_t n)
+{
+    return told(baseline_device, last, n);
+}
+
 /* Seconds of so many calls, and what the last one answered. */
 static double seconds(work *f, size_t n, size_t calls, uint16_t *answer)
 {
@@ -210,6 +264,11 @@ static int measure_line(const char *what, size_t chunk)
     return measure(what, read_ours, read_baseline, chunk, (double)n_line * 1e-6, "MB/s");
 }
 
+static int measure_device(const char *what, size_t n)
+{
+    return measure(what, device_ours, device_baseline, n, 1e-6, "Mcalls/s");
+}
+
 static int measure_reader(void)
 {
     clean_line();
@@ -221,6 +280,19 @@ static int measure_reader(void)
     worst_line();
     return good && measure_line("read, worst noise", 1) && measure_line("read, worst noise", 64)
            && measure_line("read, worst noise", 4096);
+}
+
+static int measure_instructions(void)
+{
+    static const uint8_t ping[] = {0x01}, get[] = {0x02, 132, 0, 4, 0}, put[] = {0x03, 116, 0, 0, 0, 0, 0};
+    instruct(ping, sizeof ping, 0);
+    int good = measure_device("device, Ping", sizeof ping);
+    instruct(get, sizeof get, 0);
+    good = good && measure_device("device, Read", sizeof get);
+    instruct(put, sizeof put, 3);
+    good = good && measure_device("device, Write", sizeof put);
+    size_t n = instruct_200();
+    return good && measure_device("device, Sync Write", n);
 }
 
 /* Every reader's call clears what its answer and its record do not use, which is most of it where the chunk is one byte. */
@@ -259,7 +331,8 @@ int main(void)
     int good = measure_bytes("checksum", crc_ours, crc_baseline, 14) && measure_bytes("checksum", crc_ours, crc_baseline, 1031)
                && measure_bytes("checksum", crc_ours, crc_baseline, LARGEST)
                && measure_bytes("encode", encode_ours, encode_baseline, 14)
-               && measure_bytes("encode", encode_ours, encode_baseline, DXL_MAX_PACKET) && measure_reader();
+               && measure_bytes("encode", encode_ours, encode_baseline, DXL_MAX_PACKET) && measure_reader()
+               && measure_instructions();
     if (good)
         measure_clearing();
     return good ? 0 : 1;

@@ -1,6 +1,9 @@
 // What C calls. Each function hands on to a crate of the project and keeps that crate's promise, as numbers and byte slices;
 // include/mednukals.h declares and documents them. A `&[u8]` is a pointer and a length in C.
 use control_table::Outcome;
+use device::RegisteredWrite;
+use device::Replied;
+use device::Response;
 use packet::Encoded;
 use reader::Heard;
 use reader::Told;
@@ -18,7 +21,8 @@ ghost use Rattle.reading.specs.Reading.{closed};
 ghost use Rattle.reading.specs.Calls.{first, fed, gapped};
 ghost use Rattle.packet.specs.Verdict.{protocol2};
 ghost use Rattle.reader.specs.Answer.{saidBy, saidFor, leftFor, packetFor};
-ghost use Rattle.capi.specs.Exported.{exported, exportedRefusal, stepNumbers};
+ghost use Rattle.device.specs.Answers.{repliedAnswer, callAnswer, callRegistered, callTable, callOut};
+ghost use Rattle.capi.specs.Exported.{exported, exportedRefusal, stepNumbers, deviceNumbers, heardBy, idBy};
 
 // What a feeding or gap call answers. kind 0: no event, of a gap call: nothing is left; 1: a packet of `count` bytes; 2: a bad
 // checksum; 25: the reader's count is above 1,030. `id` is that of the packet or of the bad checksum.
@@ -28,6 +32,15 @@ pub struct StepNumbers {
     pub count: usize,
     pub kind: u8,
     pub id: u8,
+}
+
+// What the device answers: the status's byte count, 0 for silence, or minus the number of a refusal; the reply slot; and the
+// registered write from now on.
+#[repr(C)]
+pub struct DeviceNumbers {
+    pub count: i64,
+    pub slot: usize,
+    pub registered: RegisteredWrite,
 }
 
 fn count_number(n: usize) -> i64
@@ -180,4 +193,63 @@ pub extern "C" fn dxl_gap(
     let told = reader::gap_into(held, n, packet);
     *count = told.held;
     step_numbers(told)
+}
+
+fn device_numbers(response: Response) -> DeviceNumbers
+    ensures { λ r. ⌜ r ≡ deviceNumbers (repliedAnswer (response .replied)) (response .registered) ⌝ }
+{
+    let registered = response.registered;
+    let replied = response.replied;
+    match replied {
+        Replied::Sent(n, slot) => DeviceNumbers {
+            count: count_number(n),
+            slot,
+            registered,
+        },
+        Replied::NotTable => DeviceNumbers {
+            count: -21,
+            slot: 0,
+            registered,
+        },
+        Replied::BadId => DeviceNumbers {
+            count: -22,
+            slot: 0,
+            registered,
+        },
+        Replied::BadRegistered => DeviceNumbers {
+            count: -23,
+            slot: 0,
+            registered,
+        },
+        Replied::NoRoom => DeviceNumbers {
+            count: -24,
+            slot: 0,
+            registered,
+        },
+    }
+}
+
+// Kind 1 is a packet, 2 a bad checksum. Of any other kind nothing was heard, as of what is sent to an ID that no device has.
+#[no_mangle]
+pub extern "C" fn dxl_device(
+    table: &mut [u8],
+    registered: RegisteredWrite,
+    kind: u8,
+    id: u8,
+    body: &[u8],
+    reply: &mut [u8],
+) -> DeviceNumbers
+    ensures { λ r. ⌜ r ≡ deviceNumbers
+        (callAnswer (now (table .entry)) registered (heardBy kind) (idBy kind id) (now (body .entry)) (now (reply .entry)))
+        (callRegistered (now (table .entry)) registered (heardBy kind) (idBy kind id) (now (body .entry)) (now (reply .entry))) ⌝ }
+    ensures { λ _. ⌜ (now (table .exit) ≡ callTable (now (table .entry)) registered (heardBy kind) (idBy kind id) (now (body .entry)) (now (reply .entry)))
+        × (now (reply .exit) ≡ callOut (now (table .entry)) registered (heardBy kind) (idBy kind id) (now (body .entry)) (now (reply .entry))) ⌝ }
+{
+    if kind == 1 {
+        return device_numbers(device::hear(table, registered, device::Heard::Packet, id, body, reply));
+    }
+    if kind == 2 {
+        return device_numbers(device::hear(table, registered, device::Heard::BadChecksum, id, body, reply));
+    }
+    device_numbers(device::hear(table, registered, device::Heard::BadChecksum, 255, body, reply))
 }

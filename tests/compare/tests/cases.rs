@@ -45,6 +45,55 @@ fn packets() {
     }
 }
 
+/// The packet goes through the reader to a device, and its status comes back.
+fn exchange(table: &mut [u8; 136], packet: &[u8]) -> Vec<u8> {
+    let (mut held, mut count, mut found) = ([0; 1030], 0, [0; 1031]);
+    let step = exports::feed(&mut held, &mut count, packet, &mut found);
+    assert_eq!((step.kind, step.id, step.taken, step.count), (1, packet[4], packet.len(), packet.len()));
+    let mut body = [0; 1022];
+    let n = exports::unstuff(&found[7..step.count - 2], &mut body) as usize;
+    let mut reply = [0; 32];
+    let answer = exports::device(table, exports::Registered::default(), step.kind, step.id, &body[..n], &mut reply);
+    reply[..answer.count as usize].to_vec()
+}
+
+/// Instruction and status, as they go over the line, of a fresh device that has measured 166.
+#[test]
+fn exchanges() {
+    let mut table = [0; 136];
+    assert_eq!(exports::fresh(&mut table), 0);
+    assert_eq!(exports::measure(&mut table, 166, 0), 0);
+    let packets = PACKETS.map(|(_, _, packet)| packet);
+    let [ping, ping_status, ping_all, read, read_status, write, write_status] = packets;
+    assert_eq!(exchange(&mut table, ping), ping_status);
+    assert_eq!(exchange(&mut table, ping_all), ping_status);
+    assert_eq!(exchange(&mut table, read), read_status);
+    let mut wanted = table;
+    wanted[116..120].copy_from_slice(&512i32.to_le_bytes());
+    assert_eq!(exchange(&mut table, write), write_status);
+    assert_eq!(table, wanted);
+}
+
+/// Bodies sent to a fresh device: the error of the status, and what is then stored from address on.
+#[test]
+fn writes() {
+    let cases: [(&[u8], u8, usize, &[u8]); 4] = [
+        // -1 is a velocity, 331 is none, and two bytes are no item
+        (&[0x03, 104, 0, 0xFF, 0xFF, 0xFF, 0xFF], 0, 104, &[0xFF; 4]),
+        (&[0x03, 104, 0, 0x4B, 0x01, 0, 0], 4, 104, &[0; 4]),
+        (&[0x03, 104, 0, 1, 0], 5, 104, &[0; 4]),
+        // max 100 with min 200
+        (&[0x03, 48, 0, 100, 0, 0, 0, 200, 0, 0, 0], 6, 48, &[0xFF, 0x0F, 0, 0, 0, 0, 0, 0]),
+    ];
+    for (body, error, address, stored) in cases {
+        let mut table = [0; 136];
+        assert_eq!(exports::fresh(&mut table), 0);
+        let status = exchange(&mut table, &packet_of(1, body));
+        assert_eq!(status, packet_of(1, &[0x55, error]), "{body:02x?}");
+        assert_eq!(&table[address..address + stored.len()], stored, "{body:02x?}");
+    }
+}
+
 #[test]
 fn stuffing() {
     for (body, stuffed) in STUFFED {

@@ -1,16 +1,7 @@
 //! The calls on a control table by itself: the proved ones and the reference answer the same and leave the same table.
 
-use compare::Guarded;
-use reference::{fresh_call, measure_call, Rng};
-
-/// The call on two copies of the memory, one for each side. Answers what both answered.
-fn both(lent: &mut Guarded, reference: impl Fn(&mut [u8]) -> Result<(), u8>, export: impl Fn(&mut [u8]) -> i64) -> i64 {
-    let mut wanted = lent.clone();
-    let answer = reference(wanted.bytes_mut()).map_or_else(|refusal| -i64::from(refusal), |()| 0);
-    assert_eq!(export(lent.bytes_mut()), answer);
-    assert!(*lent == wanted);
-    answer
-}
+use compare::DevicePair;
+use reference::{Registered, Rng, TABLE_BYTES};
 
 /// Tables of every length up to 300, whatever they hold; many of the right one.
 #[test]
@@ -21,18 +12,12 @@ fn fresh_and_measurement() {
         if rng.one_in(2) && length > 7 {
             bytes[7] = 255;
         }
-        let mut table = Guarded::new(&mut rng, &bytes);
-        let wanted = if length == 136 { 0 } else { -21 };
+        let mut device = DevicePair::new(&mut rng, &bytes, Registered::default(), 0);
+        let wanted = if length == TABLE_BYTES { 0 } else { -21 };
         let any = rng.word() as i32;
         let position = rng.pick(&[0, 1, -1, i32::MIN, i32::MAX, 166, any]);
-        for call in 0..3 {
-            let error = rng.byte();
-            let answer = if call == 1 {
-                both(&mut table, fresh_call, exports::fresh)
-            } else {
-                both(&mut table, |t| measure_call(t, position, error), |t| exports::measure(t, position, error))
-            };
-            assert_eq!(answer, wanted);
-        }
+        assert_eq!(device.measure(position, rng.byte()), wanted);
+        assert_eq!(device.fresh(), wanted);
+        assert_eq!(device.measure(position, rng.byte()), wanted);
     }
 }

@@ -1,6 +1,15 @@
 //! The exports of the proved code, as safe functions. include/mednukals.h says what each does; those under `test` are in an
 //! archive of their own, which only these tests link.
 
+/// A write that waits for Action, as it goes in and comes back.
+#[repr(C)]
+#[derive(Clone, Copy, PartialEq, Eq, Debug, Default)]
+pub struct Registered {
+    pub address: u16,
+    pub count: u8,
+    pub bytes: [u8; 8],
+}
+
 /// What a feeding or a gap call answers.
 #[repr(C)]
 #[derive(Clone, Copy, PartialEq, Eq, Debug)]
@@ -11,8 +20,17 @@ pub struct Step {
     pub id: u8,
 }
 
+/// What the device answers.
+#[repr(C)]
+#[derive(Clone, Copy, PartialEq, Eq, Debug)]
+pub struct Answer {
+    pub count: i64,
+    pub slot: usize,
+    pub registered: Registered,
+}
+
 mod raw {
-    use super::Step;
+    use super::{Answer, Registered, Step};
 
     #[repr(C)]
     pub struct Verdict {
@@ -39,6 +57,17 @@ mod raw {
 
         pub fn dxl_fresh(table: *mut u8, n: usize) -> i64;
         pub fn dxl_measure(table: *mut u8, n: usize, position: i32, hardware_error: u8) -> i64;
+        pub fn dxl_device(
+            table: *mut u8,
+            n_table: usize,
+            registered: Registered,
+            kind: u8,
+            id: u8,
+            body: *const u8,
+            n_body: usize,
+            reply: *mut u8,
+            n_reply: usize,
+        ) -> Answer;
 
         pub fn dxl_test_well_stuffed(body: *const u8, n: usize) -> u8;
         pub fn dxl_test_stuff(first: u8, rest: *const u8, n_rest: usize, out: *mut u8, n_out: usize) -> usize;
@@ -75,6 +104,22 @@ pub fn fresh(table: &mut [u8]) -> i64 {
 
 pub fn measure(table: &mut [u8], position: i32, hardware_error: u8) -> i64 {
     unsafe { raw::dxl_measure(table.as_mut_ptr(), table.len(), position, hardware_error) }
+}
+
+pub fn device(table: &mut [u8], registered: Registered, kind: u8, id: u8, body: &[u8], reply: &mut [u8]) -> Answer {
+    unsafe {
+        raw::dxl_device(
+            table.as_mut_ptr(),
+            table.len(),
+            registered,
+            kind,
+            id,
+            body.as_ptr(),
+            body.len(),
+            reply.as_mut_ptr(),
+            reply.len(),
+        )
+    }
 }
 
 /// Exports for tests alone.

@@ -1,0 +1,90 @@
+-- A reply has at most 8 data bytes, and the own ID or 0.
+use mathlib.Core.Path.{_≡_, refl, ap}
+use mathlib.Core.Bool.{Bool, true, false, cond}
+use mathlib.Core.List.{List, []}
+use mathlib.Core.Option.{Option, none, some}
+use Prim.Native.Nat.{ℕ, _≤_}
+use native.Mathlib.Omega.{arith}
+use lib.Dec.{eqb, leb}
+use lib.ListN.{length, take, drop, getD, length-append, length-take}
+use borrow.Author.Tests.{eq-eqb}
+use Rattle.lists.specs.Answer.{unlessRefused}
+use Rattle.control_table.specs.Registers.{tableSize}
+use Rattle.control_table.specs.Rules.{readRule}
+use Rattle.control_table.proofs.Theorems.{read-short}
+use Rattle.device.proofs.Every.{pick, every}
+use Rattle.device.specs.Instructions.{Effect, ping, read, write, regWrite, action}
+use Rattle.device.specs.Device.{Voice, silent, speaks, ownId, reaction, replyBy, Carried, carried, carryOut}
+use Rattle.device.specs.Registered.{silence}
+use Rattle.device.specs.declared.RegisteredWrite.{RegisteredWrite}
+use Rattle.device.specs.declared.Reply.{Reply}
+use Rattle.device.specs.declared.Heard.{Heard}
+
+pub record Sendable (r : Reply) : Type 0 where
+  pub known : r .id ≤ 252
+  pub short : r .count ≤ 8
+
+Small : Effect → Type 0
+Small e = length (e .bytes) ≤ 8
+
+none-small : (e : Effect) → e .bytes ≡ [] → Small e
+unfolding Small
+none-small e h = omega (arith, ap length h)
+
+module _ (table : List ℕ) (w : RegisteredWrite) (sized : length table ≡ tableSize) where
+  ping-small : Small (ping table w)
+  unfolding Small
+  ping-small = simp (length-append, length-take) (omega arith)
+
+  read-small : (address n : ℕ) → Small (read table w address n)
+  unfolding Small read
+  read-small address n = by-rule (readRule address n) refl
+    where
+      by-rule : (rule : Option ℕ) → readRule address n ≡ rule → length (unlessRefused rule [] (take n (drop address table))) ≤ 8
+      by-rule (some error) e = omega arith
+      by-rule none e =
+          let s = read-short table address n (rw (eq-eqb (length table) tableSize sized) e) in
+          simp length-take (omega arith)
+
+  write-small : (t : List ℕ) (v : RegisteredWrite) (address : ℕ) (bytes : List ℕ) → Small (write t v address bytes)
+  unfolding write
+  write-small t v address bytes = none-small _ refl
+
+  reg-write-small : (address : ℕ) (bytes : List ℕ) → Small (regWrite table w address bytes)
+  unfolding regWrite
+  reg-write-small address bytes = none-small _ refl
+
+  action-small : Small (action table w)
+  unfolding action
+  action-small = pick Small (eqb (w .count) 0) _ _ (none-small _ refl) (write-small _ _ _ _)
+
+  reaction-small : (heard : Heard) (all : Bool) (body : List ℕ) → Small (reaction heard all table w body .effect)
+  reaction-small =
+      every Small table w (λ error. none-small _ refl) (none-small _ refl) ping-small read-small (write-small table w) reg-write-small action-small
+      (λ t. none-small _ refl)
+
+  -- the reply can be sent
+  module _ (own : ownId table ≤ 252) where
+    pick-sendable : (b : Bool) (x y : Reply) → Sendable x → Sendable y → Sendable (cond b x y)
+    pick-sendable true x y f g = f
+    pick-sendable false x y f g = g
+
+    silence-sendable : Sendable silence
+    silence-sendable = record { known = omega arith; short = omega arith }
+
+    by-voice : (voice : Voice) (e : Effect) → Small e → Sendable (replyBy voice table e)
+    unfolding Small
+    by-voice silent e s = silence-sendable
+    by-voice (speaks least slot) e s = pick-sendable (leb least (getD table 68 0)) _ silence (record { known = own; short = s }) silence-sendable
+
+    heeded : (heard : Heard) (all : Bool) (body : List ℕ) → Sendable (carried table (reaction heard all table w body) .reply)
+    heeded heard all body = by-voice (reaction heard all table w body .voice) (reaction heard all table w body .effect) (reaction-small heard all body)
+
+    pick-carried : (b : Bool) (x y : Carried) → Sendable (x .reply) → Sendable (y .reply) → Sendable (cond b x y .reply)
+    pick-carried true x y f g = f
+    pick-carried false x y f g = g
+
+    pub sendable : (heard : Heard) (id : ℕ) (body : List ℕ) → Sendable (carryOut table w heard id body .reply)
+    unfolding carryOut
+    sendable heard id body =
+        pick-carried (eqb id (ownId table)) _ _ (heeded heard false body) (pick-carried (eqb id 254) _ _ (heeded heard true body) silence-sendable)

@@ -1,0 +1,122 @@
+-- A wrong count of parameters, and a right one, in the reaction to an instruction.
+use mathlib.Core.Path.{_≡_, refl, sym, ap, _∙_}
+use mathlib.Core.Bool.{Bool, true, false}
+use mathlib.Core.List.{List, [], _∷_}
+use Prim.Native.Nat.{ℕ}
+use native.Mathlib.Omega.{arith}
+use lib.Dec.{eqb}
+use lib.ListN.{length, getD, drop}
+use borrow.Author.Tests.{eq-eqb, ne-eqb}
+use Rattle.device.specs.Instructions.{Effect, refusing, wordAt, ping, read}
+use Rattle.device.specs.Device.{Voice, silent, speaks, replyBy, Carried, carried, carryOut, ownOnly, reaction, Reaction, reacting, counted, ownId, heardPing, heardRead, heardUndefined, syncSearch, syncReadBy, heardSyncRead, heardInstruction}
+use Rattle.device.specs.declared.Heard.{Heard}
+use Rattle.device.specs.declared.Heard.the-variants.{Packet, BadChecksum}
+use Rattle.device.specs.declared.Found.{Found}
+use Rattle.device.specs.declared.Found.the-variants.{At, Nothing}
+use Rattle.device.specs.Steps.{doneWith, doneOf, reactedBy, reactedOf, replyTo}
+use Rattle.device.specs.Registered.{silence}
+use Rattle.device.specs.declared.Done.{Done}
+use Rattle.device.specs.declared.Reacted.{Reacted}
+use Rattle.device.specs.declared.RegisteredWrite.{RegisteredWrite}
+
+module _ (voice : Voice) (table : List ℕ) (w : RegisteredWrite) (e : Effect) (right : Bool) where
+  pub wrong-count : right ≡ false → (r : Reacted) (d : Done) → r ≡ reactedBy voice d → d ≡ doneWith 0x05 [] w
+      → r ≡ reactedOf (reacting (counted right table w e) voice)
+  wrong-count h r d a b = a ∙ ap (reactedBy voice) b ∙ ap (λ (c : Bool). reactedOf (reacting (counted c table w e) voice)) (sym h)
+
+  pub wrong-table : right ≡ false → table ≡ counted right table w e .table
+  wrong-table h = ap (λ (c : Bool). counted c table w e .table) (sym h)
+
+  pub right-count : right ≡ true → (r : Reacted) (d : Done) → r ≡ reactedBy voice d → d ≡ doneOf e
+      → r ≡ reactedOf (reacting (counted right table w e) voice)
+  right-count h r d a b = a ∙ ap (reactedBy voice) b ∙ ap (λ (c : Bool). reactedOf (reacting (counted c table w e) voice)) (sym h)
+
+  pub right-table : right ≡ true → (t : List ℕ) → t ≡ e .table → t ≡ counted right table w e .table
+  right-table h t a = a ∙ ap (λ (c : Bool). counted c table w e .table) (sym h)
+
+-- ---- instructions that leave the table
+
+module _ (table : List ℕ) (w : RegisteredWrite) where
+  counted-keeps : (right : Bool) (e : Effect) → table ≡ e .table → table ≡ counted right table w e .table
+  counted-keeps true e h = h
+  counted-keeps false e h = refl
+
+  pub ping-keeps : (all : Bool) (params : List ℕ) → table ≡ heardPing all table w params .effect .table
+  ping-keeps all params = counted-keeps (eqb (length params) 0) (ping table w) refl
+
+  pub read-keeps : (all : Bool) (params : List ℕ) → table ≡ heardRead all table w params .effect .table
+  unfolding read
+  read-keeps all params = counted-keeps (eqb (length params) 4) (read table w (wordAt params 0) (wordAt params 2)) refl
+
+  pub sync-read-keeps : (all : Bool) (params : List ℕ) → table ≡ heardSyncRead all table w params .effect .table
+  unfolding read
+  sync-read-keeps false params = refl
+  sync-read-keeps true params = by-entry (syncSearch 1 (ownId table) params)
+    where
+      by-entry : (found : Found) → table ≡ syncReadBy found table w params .effect .table
+      by-entry (At slot at) = refl
+      by-entry Nothing = refl
+
+-- ---- an instruction by its number, and one that is none of those defined
+
+pub by-number : (i k : ℕ) (all : Bool) (table : List ℕ) (w : RegisteredWrite) (params : List ℕ) (r : Reacted) (t : List ℕ) → i ≡ k
+    → r ≡ reactedOf (heardInstruction k all table w params) → t ≡ heardInstruction k all table w params .effect .table
+    → (r ≡ reactedOf (heardInstruction i all table w params)) × (t ≡ heardInstruction i all table w params .effect .table)
+by-number i k all table w params r t e a b =
+    let f = ap (λ (n : ℕ). heardInstruction n all table w params) (sym e) in
+    (a ∙ ap reactedOf f, b ∙ ap (λ (q : Reaction). q .effect .table) f)
+
+pub undefined-instruction : (i : ℕ) (all : Bool) (table : List ℕ) (w : RegisteredWrite) (params : List ℕ)
+    → (i ≡ 0x01 → ⊥) → (i ≡ 0x02 → ⊥) → (i ≡ 0x03 → ⊥) → (i ≡ 0x04 → ⊥) → (i ≡ 0x05 → ⊥) → (i ≡ 0x06 → ⊥) → (i ≡ 0x08 → ⊥)
+    → (i ≡ 0x55 → ⊥) → (i ≡ 0x82 → ⊥) → (i ≡ 0x83 → ⊥) → heardUndefined all table w ≡ heardInstruction i all table w params
+unfolding heardInstruction
+undefined-instruction i all table w params n₁ n₂ n₃ n₄ n₅ n₆ n₇ n₈ n₉ n₁₀ =
+    rw
+    (ne-eqb i 0x01 n₁, ne-eqb i 0x02 n₂, ne-eqb i 0x03 n₃, ne-eqb i 0x04 n₄, ne-eqb i 0x05 n₅, ne-eqb i 0x06 n₆, ne-eqb i 0x08 n₇, ne-eqb i 0x55 n₈, ne-eqb i 0x82 n₉, ne-eqb i 0x83 n₁₀)
+
+-- ---- what was heard
+
+module _ (all : Bool) (table : List ℕ) (w : RegisteredWrite) (heard : Heard) where
+  pub bad-checksum : (body : List ℕ) → heard ≡ BadChecksum → reacting (refusing table w 0x03) (ownOnly all 2) ≡ reaction heard all table w body
+  bad-checksum body e = rw e
+
+  pub empty-body : (body : List ℕ) → heard ≡ Packet → length body ≡ 0 → heardUndefined all table w ≡ reaction heard all table w body
+  empty-body [] e h = rw e
+  empty-body (x ∷ xs) e h = absurd (omega arith)
+
+  pub some-body : (body : List ℕ) → heard ≡ Packet → (length body ≡ 0 → ⊥)
+      → heardInstruction (getD body 0 0) all table w (drop 1 body) ≡ reaction heard all table w body
+  some-body [] e h = absurd (h refl)
+  some-body (x ∷ xs) e h = rw e
+
+-- ---- the reply
+
+pub reacted-done : (q : Reaction) → reactedOf q .done ≡ doneOf (q .effect)
+reacted-done q = by-voice (q .voice)
+  where
+    by-voice : (voice : Voice) → reactedBy voice (doneOf (q .effect)) .done ≡ doneOf (q .effect)
+    by-voice silent = refl
+    by-voice (speaks least slot) = refl
+
+pub reply-of : (table : List ℕ) (q : Reaction)
+    → replyTo (q .effect .table) (getD table 7 0) (getD table 68 0) (reactedOf q) ≡ replyBy (q .voice) table (q .effect)
+reply-of table q = by-voice (q .voice)
+  where
+    by-voice : (voice : Voice)
+        → replyTo (q .effect .table) (getD table 7 0) (getD table 68 0) (reactedBy voice (doneOf (q .effect))) ≡ replyBy voice table (q .effect)
+    by-voice silent = refl
+    by-voice (speaks least slot) = refl
+
+module _ (table : List ℕ) (w : RegisteredWrite) (heard : Heard) (id : ℕ) (body : List ℕ) where
+  pub to-own : id ≡ getD table 7 0 → carried table (reaction heard false table w body) ≡ carryOut table w heard id body
+  unfolding carryOut
+  to-own e = rw (eq-eqb id (getD table 7 0) e)
+
+  pub to-all : (id ≡ getD table 7 0 → ⊥) → id ≡ 254 → carried table (reaction heard true table w body) ≡ carryOut table w heard id body
+  unfolding carryOut
+  to-all n e = rw (ne-eqb id (getD table 7 0) n, eq-eqb id 254 e)
+
+  pub to-another : (id ≡ getD table 7 0 → ⊥) → (id ≡ 254 → ⊥)
+      → _≡_ {A = Carried} (record { table = table; registered = w; reply = silence }) (carryOut table w heard id body)
+  unfolding carryOut
+  to-another n m = rw (ne-eqb id (getD table 7 0) n, ne-eqb id 254 m)

@@ -1,0 +1,71 @@
+use mathlib.Core.Path.{_≡_, ap, _∙_}
+use native.Mathlib.Omega.{arith}
+use lib.ListN.{length, length-set, length-take}
+use Rattle.device.specs.Instructions.{Effect}
+use Rattle.device.specs.Steps.{doneOf}
+use Rattle.device.proofs.Effects.{action-none, action-some}
+use borrow.Author.Needs.{needs}
+use Rattle.device.proofs.action.Statement.{statement}
+use Rattle.device.proofs.action.Tie as tie
+
+cast-n : tie.Need-cast-n
+cast-n c = search needs
+
+without-data-requires : tie.Need-without-data-requires
+without-data-requires c κs = search needs
+
+returns : tie.Need-returns
+returns c =
+    let a = c .before .before .before .before in
+    let e = action-none (a .args .table .now) (a .args .registered) (a .pre .0) (c .before .if1 .taken) in
+    (c .without-data .ensures ∙ ap doneOf e, ap (λ (f : Effect). f .table) e)
+
+slice-write-table : tie.Need-slice-write-table
+slice-write-table c = search needs
+
+dropped-requires : tie.Need-dropped-requires
+dropped-requires c κs = search needs
+
+array-share-prefix-held : tie.Need-array-share-prefix-held
+array-share-prefix-held c =
+    let a = c .before .before .before .before .before .before in
+    let e : length (a .args .registered .bytes) ≡ 8 = search needs in
+    let p = a .pre .1 in
+    omega arith
+
+slice-aggregate-write : tie.Need-slice-aggregate-write
+slice-aggregate-write c =
+    let a = c .before .before .before .before .before .before .before in
+    let e : length (a .args .registered .bytes) ≡ 8 = search needs in
+    let p = a .pre .1 in
+    simp length-take (omega arith)
+
+write-requires : tie.Need-write-requires
+write-requires c κs = search needs
+
+same-length : tie.Need-same-length
+same-length c = simp length-set at (c .before .before .write .kept .0)
+
+returns-2 : tie.Need-returns-2
+returns-2 c =
+    let r = c .before .before in
+    let k = r .before .before in
+    let a = k .before .before .before .before .before .before in
+    let e = action-some (a .args .table .now) (a .args .registered) (a .pre .0) (k .before .before .before .if1 .left) in (
+      (rw (k .dropped .ensures) at (r .write .ensures .0)) ∙ ap doneOf e,
+      (rw (k .dropped .ensures) at (r .write .ensures .1)) ∙ ap (λ (f : Effect). f .table) e,
+    )
+
+pub action-spec : {M : Type 1} → statement M
+action-spec =
+    tie.close
+    (tie.spec
+    cast-n
+    without-data-requires
+    returns
+    slice-write-table
+    dropped-requires array-share-prefix-held
+    slice-aggregate-write
+    write-requires
+    same-length
+    returns-2)

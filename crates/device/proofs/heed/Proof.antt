@@ -1,0 +1,55 @@
+use mathlib.Core.Path.{ap, _∙_}
+use mathlib.Core.List.{List}
+use Prim.Native.Nat.{ℕ}
+use lib.ListN.{getD}
+use Rattle.device.specs.declared.Done.{Done}
+use Rattle.device.specs.declared.Reacted.{Reacted}
+use Rattle.device.specs.declared.Reply.{Reply}
+use Rattle.device.specs.Device.{reaction, replyBy}
+use Rattle.device.specs.Steps.{replyTo}
+use Rattle.device.proofs.Reactions.{reacted-done, reply-of}
+use borrow.Author.Needs.{needs}
+use Rattle.device.proofs.heed.Statement.{statement}
+use Rattle.device.proofs.heed.Tie as tie
+
+slice-read-own : tie.Need-slice-read-own
+slice-read-own c = search needs
+
+slice-read-level : tie.Need-slice-read-level
+slice-read-level c = search needs
+
+reaction-requires : tie.Need-reaction-requires
+reaction-requires c κs = search needs
+
+reply-to-requires : tie.Need-reply-to-requires
+reply-to-requires c κs = search needs
+
+same-length : tie.Need-same-length
+same-length c = search needs
+
+returns : tie.Need-returns
+returns c =
+    let r = c .before .before .before .before .before .before in
+    let a = r .before .before .before .before .before .before .args in
+    let q = reaction (a .heard) (a .all) (a .table .now) (a .registered) (a .body .now) in
+    let own = getD (a .table .now) 7 0 in
+    let level = getD (a .table .now) 68 0 in (
+      ap (λ (x : Reply). record { reply = x; registered = r .reaction .result .done .registered })
+          (c .reply-to .ensures
+          ∙ ap (λ (t : List ℕ). replyTo t own level (r .reaction .result)) (r .reaction .ensures .1)
+          ∙ ap (replyTo (q .effect .table) own level) (r .reaction .ensures .0)
+          ∙ reply-of (a .table .now) q)
+          ∙ ap (λ (x : Done). record { reply = replyBy (q .voice) (a .table .now) (q .effect); registered = x .registered }) (ap (λ (x : Reacted). x .done) (r .reaction .ensures .0) ∙ reacted-done q),
+      r .reaction .ensures .1,
+    )
+
+pub heed-spec : {M : Type 1} → statement M
+heed-spec =
+    tie.close
+    (tie.spec
+    slice-read-own
+    slice-read-level
+    reaction-requires
+    reply-to-requires
+    same-length
+    returns)

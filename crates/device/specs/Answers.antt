@@ -1,0 +1,66 @@
+-- The device call: refusals, the status packet, and what is answered and left.
+use mathlib.Core.Bool.{cond}
+use mathlib.Core.List.{List, [], _∷_}
+use mathlib.Core.Option.{Option, none, some}
+use Prim.Native.Nat.{ℕ}
+use lib.Dec.{leb, eqb}
+use lib.ListN.{length, take}
+use Rattle.lists.specs.Answer.{firstFailing, unlessRefused}
+use Rattle.lists.specs.Write.{overwritten}
+use Rattle.packet.specs.Packet.{packetOf}
+use Rattle.control_table.specs.Registers.{tableSize}
+use Rattle.device.specs.Registered.{keptBy}
+use Rattle.device.specs.Device.{ownId, carryOut}
+use Rattle.device.specs.declared.RegisteredWrite.{RegisteredWrite}
+use Rattle.device.specs.declared.Reply.{Reply}
+use Rattle.device.specs.declared.Heard.{Heard}
+use Rattle.device.specs.declared.Replied.{Replied}
+use Rattle.device.specs.declared.Replied.the-variants.{Sent, NotTable, BadId, BadRegistered, NoRoom}
+
+-- instruction 55, error byte, data
+abbrev pub statusPacket : Reply → List ℕ
+statusPacket r = packetOf (r .id) (0x55 ∷ r .error ∷ take (r .count) (r .bytes))
+
+-- silence is no bytes
+abbrev pub replyBytes : Reply → List ℕ
+replyBytes r = cond (r .speaks) (statusPacket r) []
+
+-- faults of the caller come first, whatever was heard
+unfoldable pub callRefusal : List ℕ → RegisteredWrite → List ℕ → Option ℕ
+callRefusal table w out =
+    firstFailing
+    ((eqb (length table) tableSize, 21)
+    ∷ (leb (ownId table) 252, 22)
+    ∷ (leb (w .count) 8, 23)
+    ∷ (leb 32 (length out), 24)
+    ∷ [])
+
+-- the status's byte count and the reply slot, both 0 when silent; or a refusal by its number
+pub data Answer : Type 0 where
+  sent : ℕ → ℕ → Answer
+  refused : ℕ → Answer
+
+abbrev pub repliedAnswer : Replied → Answer
+repliedAnswer (Sent n slot) = sent n slot
+repliedAnswer NotTable = refused 21
+repliedAnswer BadId = refused 22
+repliedAnswer BadRegistered = refused 23
+repliedAnswer NoRoom = refused 24
+
+abbrev pub answeredBy : Option ℕ → Reply → Answer
+answeredBy none reply = sent (length (replyBytes reply)) (reply .slot)
+answeredBy (some number) reply = refused number
+
+module _ (table : List ℕ) (w : RegisteredWrite) (heard : Heard) (id : ℕ) (body out : List ℕ) where
+  abbrev pub callAnswer : Answer
+  callAnswer = answeredBy (callRefusal table w out) (carryOut table w heard id body .reply)
+
+  abbrev pub callTable : List ℕ
+  callTable = unlessRefused (callRefusal table w out) table (carryOut table w heard id body .table)
+
+  abbrev pub callRegistered : RegisteredWrite
+  callRegistered = keptBy (callRefusal table w out) w (carryOut table w heard id body .registered)
+
+  -- the bytes after the status stay, and so do all of them when silent
+  abbrev pub callOut : List ℕ
+  callOut = unlessRefused (callRefusal table w out) out (overwritten out (replyBytes (carryOut table w heard id body .reply)))

@@ -1,0 +1,160 @@
+/*
+ * A device in C, by the loop that mednukals.h shows: it hears what the maker's pages print as sent to device 1, in chunks of
+ * several sizes and with noise before it, and answers as they print.
+ */
+#include <stdio.h>
+#include <string.h>
+
+#include "mednukals.h"
+
+static uint8_t held[DXL_MAX_HELD], packet[DXL_MAX_PACKET], body[DXL_MAX_BODY];
+static uint8_t table[DXL_TABLE_BYTES], reply[DXL_MIN_REPLY];
+static struct dxl_registered registered;
+static size_t count;
+
+/* What was sent, and in which slot at last. */
+static uint8_t sent[512];
+static size_t n_sent;
+static size_t last_slot;
+
+static void send_in_slot(const uint8_t *bytes, size_t n, size_t slot)
+{
+    if (n <= sizeof sent - n_sent) {
+        memcpy(sent + n_sent, bytes, n);
+        n_sent += n;
+    }
+    last_slot = slot;
+}
+
+static void hear(struct dxl_step step)
+{
+    int64_t n = 0;
+    if (step.kind == DXL_PACKET)
+        n = dxl_unstuff(packet + 7, step.count - 9, body, sizeof body);
+    struct dxl_answer answer =
+        dxl_device(table, sizeof table, registered, step.kind, step.id, body, (size_t)n, reply, sizeof reply);
+    registered = answer.registered;
+    if (answer.count > 0)
+        send_in_slot(reply, (size_t)answer.count, answer.slot);
+}
+
+static void bytes_came(const uint8_t *chunk, size_t n)
+{
+    for (;;) {
+        struct dxl_step step = dxl_feed(held, &count, chunk, n, packet);
+        if (step.kind == DXL_NO_EVENT || step.kind == DXL_BAD_READER)
+            return;
+        chunk += step.taken;
+        n -= step.taken;
+        hear(step);
+    }
+}
+
+static void line_was_silent(void)
+{
+    for (;;) {
+        struct dxl_step step = dxl_gap(held, &count, packet);
+        if (step.kind == DXL_NO_EVENT || step.kind == DXL_BAD_READER)
+            return;
+        hear(step);
+    }
+}
+
+/* The first bytes promise a packet that never comes; what stands in it is heard at the gap. */
+static const uint8_t noise[] = {0xFF, 0xFF, 0xFD, 0xFF, 0xFF, 0xFD, 0x00, 0x07, 0x00, 0x04};
+static const uint8_t line[] = {
+    0xFF, 0xFF, 0xFD, 0x00, 0x01, 0x03, 0x00, 0x01, 0x19, 0x4E,                                     /* Ping */
+    0xFF, 0xFF, 0xFD, 0x00, 0x01, 0x07, 0x00, 0x02, 0x84, 0x00, 0x04, 0x00, 0x1D, 0x15,             /* Read at 132 */
+    0xFF, 0xFF, 0xFD, 0x00, 0x01, 0x09, 0x00, 0x03, 0x74, 0x00, 0x00, 0x02, 0x00, 0x00, 0xCA, 0x89, /* Write of 512 at 116 */
+    0xFF, 0xFF, 0xFD, 0x00, 0x01, 0x09, 0x00, 0x04, 0x68, 0x00, 0xC8, 0x00, 0x00, 0x00, 0xAE, 0x8E, /* Reg Write of 200 at 104 */
+    0xFF, 0xFF, 0xFD, 0x00, 0x01, 0x03, 0x00, 0x05, 0x02, 0xCE,                                     /* Action */
+    0xFF, 0xFF, 0xFD, 0x00, 0xFE, 0x09, 0x00, 0x82, 0x84, 0x00, 0x04, 0x00, 0x01, 0x02, 0xCE, 0xFA, /* Sync Read at 132 */
+    0xFF, 0xFF, 0xFD, 0x00, 0xFE, 0x03, 0x00, 0x01, 0x31, 0x42,                                     /* Ping to all */
+};
+static const uint8_t wanted[] = {
+    0xFF, 0xFF, 0xFD, 0x00, 0x01, 0x07, 0x00, 0x55, 0x00, 0x06, 0x04, 0x26, 0x65, 0x5D,
+    0xFF, 0xFF, 0xFD, 0x00, 0x01, 0x08, 0x00, 0x55, 0x00, 0xA6, 0x00, 0x00, 0x00, 0x8C, 0xC0,
+    0xFF, 0xFF, 0xFD, 0x00, 0x01, 0x04, 0x00, 0x55, 0x00, 0xA1, 0x0C,
+    0xFF, 0xFF, 0xFD, 0x00, 0x01, 0x04, 0x00, 0x55, 0x00, 0xA1, 0x0C,
+    0xFF, 0xFF, 0xFD, 0x00, 0x01, 0x04, 0x00, 0x55, 0x00, 0xA1, 0x0C,
+    0xFF, 0xFF, 0xFD, 0x00, 0x01, 0x08, 0x00, 0x55, 0x00, 0xA6, 0x00, 0x00, 0x00, 0x8C, 0xC0,
+    0xFF, 0xFF, 0xFD, 0x00, 0x01, 0x07, 0x00, 0x55, 0x00, 0x06, 0x04, 0x26, 0x65, 0x5D,
+};
+
+static unsigned failures;
+
+static void expect(int holds, const char *what, size_t chunk)
+{
+    if (!holds) {
+        fprintf(stderr, "C: chunks of %zu: %s\n", chunk, what);
+        failures++;
+    }
+}
+
+static void feed_all(const uint8_t *bytes, size_t n, size_t chunk)
+{
+    for (size_t at = 0; at < n; at += chunk)
+        bytes_came(bytes + at, chunk < n - at ? chunk : n - at);
+}
+
+static void exchange(size_t chunk, int with_noise)
+{
+    n_sent = 0;
+    expect(dxl_fresh(table, sizeof table) == 0, "the table is refused", chunk);
+    expect(dxl_measure(table, sizeof table, 166, 0) == 0, "the measurement is refused", chunk);
+    if (with_noise)
+        feed_all(noise, sizeof noise, chunk);
+    feed_all(line, sizeof line, chunk);
+    if (with_noise) {
+        expect(n_sent == 0, "a packet inside one that is still arriving is answered", chunk);
+        line_was_silent();
+    }
+    expect(count == 0, "bytes are held at the end", chunk);
+    expect(n_sent == sizeof wanted && memcmp(sent, wanted, sizeof wanted) == 0, "the answers are not those printed", chunk);
+    expect(last_slot == 1, "Ping to all is not answered in the slot of the own ID", chunk);
+    expect(table[116] == 0 && table[117] == 2, "the goal position is not 512", chunk);
+    expect(table[104] == 200 && table[69] == 0 && registered.count == 0, "the registered write is not carried out", chunk);
+}
+
+/* Every refusal once; nothing else changes. */
+static void refusals(void)
+{
+    static const struct dxl_registered none;
+    struct dxl_registered long_one = {104, 9, {1, 2, 3, 4, 5, 6, 7, 8}};
+    const uint8_t ping[] = {0x01};
+    uint8_t other[DXL_TABLE_BYTES];
+    dxl_fresh(other, sizeof other);
+    expect(dxl_fresh(other, 135) == -DXL_NOT_A_TABLE && dxl_measure(other, 135, 1, 1) == -DXL_NOT_A_TABLE, "a short table", 0);
+    struct dxl_answer answer = dxl_device(other, 135, long_one, DXL_PACKET, 1, ping, 1, reply, 0);
+    expect(answer.count == -DXL_NOT_A_TABLE && answer.slot == 0, "a short table is heard", 0);
+    other[7] = 253;
+    answer = dxl_device(other, sizeof other, long_one, DXL_PACKET, 1, ping, 1, reply, 0);
+    expect(answer.count == -DXL_BAD_TABLE_ID && answer.registered.bytes[7] == 8, "ID 253 is accepted", 0);
+    other[7] = 1;
+    answer = dxl_device(other, sizeof other, long_one, DXL_PACKET, 1, ping, 1, reply, 0);
+    expect(answer.count == -DXL_BAD_REGISTERED && answer.registered.address == 104 && answer.registered.count == 9
+               && memcmp(answer.registered.bytes, long_one.bytes, 8) == 0,
+           "a registered write of nine bytes is accepted or changed", 0);
+    answer = dxl_device(other, sizeof other, none, DXL_NO_EVENT, 1, ping, 1, reply, DXL_MIN_REPLY - 1);
+    expect(answer.count == -DXL_SHORT_REPLY, "a short reply buffer is accepted", 0);
+
+    size_t too_many = DXL_MAX_HELD + 1;
+    struct dxl_step step = dxl_feed(held, &too_many, line, sizeof line, packet);
+    expect(step.kind == DXL_BAD_READER && step.taken == 0 && step.count == 0 && step.id == 0, "1,031 held bytes are fed", 0);
+    step = dxl_gap(held, &too_many, packet);
+    expect(step.kind == DXL_BAD_READER && too_many == DXL_MAX_HELD + 1, "1,031 held bytes meet a gap", 0);
+}
+
+int main(void)
+{
+    static const size_t chunks[] = {1, 3, 7, 64, sizeof line};
+    for (size_t i = 0; i < sizeof chunks / sizeof chunks[0]; i++) {
+        exchange(chunks[i], 0);
+        exchange(chunks[i], 1);
+    }
+    refusals();
+    if (failures != 0)
+        return 1;
+    printf("C: a device answers the published exchanges as printed, however they are cut\n");
+    return 0;
+}

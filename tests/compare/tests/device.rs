@@ -1,0 +1,608 @@
+//! The device and the rules of its control table: the proved call and the reference answer the same and leave the same table,
+//! registered write and reply buffer.
+
+use compare::{DevicePair, Told, BAD_CHECKSUM, PACKET};
+use reference::{fresh, Registered, Rng, Table, TABLE_BYTES};
+use std::collections::BTreeMap;
+
+const REPLY_BYTES: usize = 32;
+
+/// Address and bytes of each item.
+const ITEMS: [(usize, usize); 15] = [
+    (0, 2),
+    (6, 1),
+    (7, 1),
+    (8, 1),
+    (20, 4),
+    (48, 4),
+    (52, 4),
+    (64, 1),
+    (65, 1),
+    (68, 1),
+    (69, 1),
+    (70, 1),
+    (104, 4),
+    (116, 4),
+    (132, 4),
+];
+const WRITABLE: [(usize, usize); 10] = [(7, 1), (8, 1), (20, 4), (48, 4), (52, 4), (64, 1), (65, 1), (68, 1), (104, 4), (116, 4)];
+/// The writable items that lie side by side, and what a write of all of them has.
+const SIDE_BY_SIDE: [(usize, usize); 3] = [(7, 2), (48, 8), (64, 2)];
+
+const INSTRUCTIONS: [u8; 9] = [0x01, 0x02, 0x03, 0x04, 0x05, 0x06, 0x08, 0x82, 0x83];
+
+/// Numbers at the ends of the ranges and beside them; near the limits that the table has.
+fn value(rng: &mut Rng, table: &[u8]) -> i32 {
+    let stored = |address: usize| i32::from_le_bytes(table[address..address + 4].try_into().unwrap());
+    match rng.between(0, 4) {
+        0 | 1 => rng.between(0, 4_095) as i32,
+        2 => rng.pick(&[
+            0,
+            1,
+            -1,
+            2,
+            3,
+            7,
+            8,
+            252,
+            253,
+            254,
+            255,
+            256,
+            330,
+            331,
+            -330,
+            -331,
+            4_094,
+            4_095,
+            4_096,
+            65_535,
+            65_536,
+            1_044_479,
+            1_044_480,
+            -1_044_479,
+            -1_044_480,
+            i32::MIN,
+            i32::MAX,
+            -4_095,
+            -256,
+        ]),
+        3 => {
+            let limit = stored(rng.pick(&[48, 52]));
+            limit.wrapping_add(rng.pick(&[-1, 0, 0, 1]))
+        }
+        _ => rng.word() as i32,
+    }
+}
+
+fn set(table: &mut [u8], address: usize, bytes: &[u8]) {
+    table[address..address + bytes.len()].copy_from_slice(bytes);
+}
+
+/// Fresh tables, lived-in ones, and any bytes; their ID is valid.
+fn table(rng: &mut Rng) -> Table {
+    let mut table = fresh();
+    if rng.one_in(5) {
+        return table;
+    }
+    if rng.one_in(4) {
+        table = rng.bytes(TABLE_BYTES).try_into().unwrap();
+        if rng.one_in(2) {
+            table[64] = 0;
+        }
+    } else {
+        for (address, bytes) in ITEMS {
+            if rng.one_in(2) && bytes == 4 {
+                let value = value(rng, &table);
+                set(&mut table, address, &value.to_le_bytes());
+            }
+        }
+        if rng.one_in(2) {
+            let (a, b) = (rng.between(0, 4_095) as i32, rng.between(0, 4_095) as i32);
+            set(&mut table, 48, &a.max(b).to_le_bytes());
+            set(&mut table, 52, &a.min(b).to_le_bytes());
+        }
+        table[64] = rng.pick(&[0, 0, 0, 1, 2, 255]);
+        if rng.one_in(3) {
+            let undefined = rng.pick(&[2, 5, 9, 19, 24, 47, 56, 63, 66, 67, 71, 103, 108, 115, 120, 131]);
+            table[undefined] = rng.byte();
+        }
+    }
+    if rng.one_in(5) {
+        // what has to be stuffed in a status
+        for address in [0, 1, 6].into_iter().chain(20..24).chain(48..56).chain(104..108).chain(116..120).chain(132..136) {
+            table[address] = rng.pick(&[0xFF, 0xFF, 0xFD]);
+        }
+    }
+    table[7] = rng.pick(&[0, 1, 1, 7, 251, 252]);
+    table[68] = rng.pick(&[0, 1, 2, 2, 2, 3, 128, 255]);
+    table[70] = rng.pick(&[0, 0, 0, 1, 0x20, 0x80, 0xFF]);
+    table
+}
+
+/// Registered writes: none, good ones, and such as no call has left; the count may be too large.
+fn registered(rng: &mut Rng, table: &[u8]) -> Registered {
+    let bytes: [u8; 8] = match rng.between(0, 2) {
+        0 => [0; 8],
+        1 => {
+            let (a, b) = (value(rng, table), value(rng, table));
+            [a.to_le_bytes(), b.to_le_bytes()].concat().try_into().unwrap()
+        }
+        _ => rng.bytes(8).try_into().unwrap(),
+    };
+    let (address, count) = rng.pick(&WRITABLE);
+    match rng.between(0, 9) {
+        0 | 1 => Registered::default(),
+        2 => Registered { address: rng.word() as u16, count: 0, bytes },
+        3 => Registered { address: rng.word() as u16, count: rng.byte(), bytes },
+        4 => Registered { address: rng.between(0, 140) as u16, count: rng.between(0, 9) as u8, bytes },
+        5 => Registered { address: (address + 256 * rng.between(1, 255)) as u16, count: count as u8, bytes },
+        6 => {
+            let (address, count) = rng.pick(&SIDE_BY_SIDE);
+            Registered { address: address as u16, count: count as u8, bytes }
+        }
+        _ => Registered { address: address as u16, count: count as u8, bytes },
+    }
+}
+
+/// An address and data to write there: mostly whole items, now and then cut, too long, or anywhere.
+fn write(rng: &mut Rng, table: &[u8]) -> Vec<u8> {
+    let (mut address, mut length) = match rng.between(0, 9) {
+        0 => rng.pick(&ITEMS),
+        1 => (rng.between(0, 140), rng.between(0, 12)),
+        2 => rng.pick(&SIDE_BY_SIDE),
+        _ => rng.pick(&WRITABLE),
+    };
+    if rng.one_in(12) {
+        address = match rng.between(0, 3) {
+            0 => address.saturating_sub(1),
+            1 => address + 1,
+            2 => rng.between(130, 140),
+            // the low byte is that of an item
+            _ => address + 256 * rng.between(1, 255),
+        };
+    }
+    if rng.one_in(12) {
+        length = rng.pick(&[0, 1, 2, 3, 4, 5, 7, 8, 9, length + 1]);
+    }
+    let mut data = Vec::new();
+    while data.len() < length {
+        match length {
+            1 | 2 => data.push(if rng.one_in(2) { rng.between(0, 3) as u8 } else { value(rng, table) as u8 }),
+            _ => data.extend(value(rng, table).to_le_bytes()),
+        }
+    }
+    data.truncate(length);
+    [&(address as u16).to_le_bytes()[..], &data].concat()
+}
+
+fn read(rng: &mut Rng) -> Vec<u8> {
+    let (address, length) = match rng.between(0, 4) {
+        0 => (rng.between(0, 140), rng.between(0, 12)),
+        1 => (rng.word() as u16 as usize, rng.word() as u16 as usize),
+        2 => rng.pick(&SIDE_BY_SIDE),
+        _ => rng.pick(&ITEMS),
+    };
+    // address or length with the low byte of a good one
+    let (address, length) = match rng.between(0, 19) {
+        0 => (address + 256 * rng.between(1, 255), length),
+        1 => (address, length + 256 * rng.between(1, 255)),
+        _ => (address, length),
+    };
+    [(address as u16).to_le_bytes(), (length as u16).to_le_bytes()].concat()
+}
+
+/// IDs, none of them twice, with ours among them or not.
+fn ids(rng: &mut Rng, own: u8, count: usize) -> Vec<u8> {
+    let mut ids: Vec<u8> = (0..=252).collect();
+    for i in 0..ids.len() {
+        let j = rng.between(i, ids.len() - 1);
+        ids.swap(i, j);
+    }
+    ids.truncate(count);
+    if rng.one_in(8) {
+        ids.retain(|&id| id != own);
+    } else if !ids.contains(&own) && !ids.is_empty() {
+        let place = rng.between(0, ids.len() - 1);
+        ids[place] = own;
+    }
+    ids
+}
+
+/// A Sync list, whole or broken in one of the ways that the rules name, far behind our entry too.
+fn sync(rng: &mut Rng, table: &[u8], with_bytes: bool) -> Vec<u8> {
+    let own = table[7];
+    let count = if rng.one_in(6) { rng.between(100, 253) } else { rng.between(0, 12) };
+    let mut ids = ids(rng, own, count);
+    if !ids.is_empty() && rng.one_in(6) {
+        let wrong = if rng.one_in(2) { rng.pick(&[253, 254, 255]) } else { rng.pick(&ids) };
+        let place = if rng.one_in(2) { ids.len() } else { rng.between(0, ids.len()) };
+        ids.insert(place, wrong);
+    }
+    let first = if with_bytes { write(rng, table) } else { read(rng) };
+    let length = if with_bytes { first.len() - 2 } else { usize::from(first[2]) + 256 * usize::from(first[3]) };
+    let mut parameters = [&first[..2], &(length as u16).to_le_bytes()].concat();
+    for id in ids {
+        parameters.push(id);
+        if with_bytes {
+            let data = if id == own { first[2..].to_vec() } else { rng.bytes(length) };
+            parameters.extend(data);
+        }
+    }
+    if rng.one_in(10) {
+        let kept = parameters.len() - rng.between(1, parameters.len().min(6));
+        parameters.truncate(kept);
+    }
+    if rng.one_in(20) {
+        parameters.push(rng.byte());
+    }
+    parameters
+}
+
+/// A body for this instruction, mostly with the right count of parameters.
+fn body(rng: &mut Rng, table: &[u8], instruction: u8) -> Vec<u8> {
+    let mut parameters = match instruction {
+        0x02 => read(rng),
+        0x03 | 0x04 => write(rng, table),
+        0x06 => vec![if rng.one_in(6) { rng.byte() } else { rng.pick(&[1, 2, 255]) }],
+        0x82 => sync(rng, table, false),
+        0x83 => sync(rng, table, true),
+        _ => vec![],
+    };
+    if rng.one_in(15) {
+        let count = rng.between(0, 20);
+        parameters.resize(count, 1);
+    }
+    [&[instruction], &parameters[..]].concat()
+}
+
+fn id(rng: &mut Rng, own: u8) -> u8 {
+    match rng.between(0, 19) {
+        0 => rng.byte(),
+        1 => rng.pick(&[253, 255]),
+        2..=5 => 254,
+        _ => own,
+    }
+}
+
+/// How often each instruction (256 for a bad checksum, 257 for an empty body) met with each error, the alert bit aside.
+type Errors = BTreeMap<(u16, u8), usize>;
+
+fn count(errors: &mut Errors, kind: u8, body: &[u8], told: Told) {
+    let what = match (kind, body.first()) {
+        (BAD_CHECKSUM, _) => 256,
+        (_, None) => 257,
+        (_, Some(&instruction)) => u16::from(instruction),
+    };
+    if let Some(error) = told.error {
+        *errors.entry((what, error & 0x7F)).or_insert(0) += 1;
+    }
+}
+
+/// Every error that an instruction can meet with came up often.
+fn assert_all_seen(errors: &Errors, least: usize) {
+    let possible: [(u16, &[u8]); 11] = [
+        (0x01, &[0, 5]),
+        (0x02, &[0, 5, 7]),
+        (0x03, &[0, 4, 5, 6, 7]),
+        (0x04, &[0, 4, 5, 6, 7]),
+        (0x05, &[0, 2, 4, 5, 6, 7]),
+        (0x06, &[0, 4, 5]),
+        (0x08, &[0, 5]),
+        (0x82, &[0, 2, 7]),
+        (0x83, &[2]),
+        (256, &[3]),
+        (257, &[2]),
+    ];
+    for (instruction, all) in possible {
+        for &error in all {
+            let seen = errors.get(&(instruction, error)).copied().unwrap_or(0);
+            assert!(seen >= least, "instruction {instruction:#x} met with error {error} only {seen} times");
+        }
+        let impossible = (0..=255).find(|error| !all.contains(error) && errors.contains_key(&(instruction, *error)));
+        assert_eq!(impossible, None, "instruction {instruction:#x}");
+    }
+}
+
+/// Every instruction byte to every sort of ID with 0 to 20 parameters.
+#[test]
+fn every_instruction_id_and_parameter_count() {
+    let mut rng = Rng::new(50);
+    for instruction in 0..=255 {
+        for parameters in 0..=20 {
+            for sort in 0..7 {
+                let table = table(&mut rng);
+                let registered = registered(&mut rng, &table);
+                let id = [table[7], table[7], 254, 253, 255, table[7] ^ 1, rng.byte()][sort];
+                let mut device = DevicePair::new(&mut rng, &table, registered, REPLY_BYTES);
+                let mut body = body(&mut rng, &table, instruction);
+                body.resize(1 + parameters, 0);
+                device.hear(PACKET, id, &body);
+            }
+        }
+    }
+}
+
+#[test]
+fn random_calls() {
+    let mut rng = Rng::new(51);
+    let mut errors = Errors::new();
+    let (mut silent, mut refused, mut longest) = (0, [0; 5], 0);
+    for _ in 0..200_000 {
+        let table = table(&mut rng);
+        let registered = registered(&mut rng, &table);
+        let room = REPLY_BYTES + rng.pick(&[0, 0, 1, 8]);
+        let mut device = DevicePair::new(&mut rng, &table, registered, room);
+        let instruction = if rng.one_in(20) { rng.byte() } else { rng.pick(&INSTRUCTIONS) };
+        let mut body = body(&mut rng, &table, instruction);
+        if rng.one_in(50) {
+            body.clear();
+        }
+        let kind = if rng.one_in(20) { rng.pick(&[0, 2, 2, 2, 3, 25, 255]) } else { PACKET };
+        let id = id(&mut rng, table[7]);
+        let told = device.hear(kind, id, &body);
+        longest = longest.max(told.count);
+        if told.count < 0 {
+            refused[(-told.count - 20) as usize] += 1;
+        } else if told.count == 0 {
+            silent += 1;
+        } else {
+            count(&mut errors, kind, &body, told);
+        }
+    }
+    assert_all_seen(&errors, 40);
+    // eight bytes with two places to stuff
+    assert_eq!(longest, 21);
+    assert!(silent > 20_000 && refused[3] > 5_000 && refused[1] + refused[2] + refused[4] == 0, "{silent}, {refused:?}");
+}
+
+/// Reads of every address and every length up to 10, and writes likewise, with the torque off and on.
+#[test]
+fn every_address_and_length() {
+    let mut rng = Rng::new(52);
+    for address in (0..=140).chain(256..=396).chain(65_280..=65_535) {
+        for length in 0..=10 {
+            for torque in [0, 1, 255] {
+                let mut table = table(&mut rng);
+                (table[64], table[68]) = (torque, 2);
+                let mut device = DevicePair::new(&mut rng, &table, Registered::default(), REPLY_BYTES);
+                let [low, high] = u16::to_le_bytes(address);
+                device.hear(PACKET, table[7], &[2, low, high, length as u8, 0]);
+                device.hear(PACKET, 254, &[0x82, low, high, length as u8, 0, table[7]]);
+                let mut data = rng.bytes(length);
+                device.hear(PACKET, table[7], &[&[4, low, high], &data[..]].concat());
+                device.hear(PACKET, table[7], &[&[3, low, high], &data[..]].concat());
+                data.fill(0);
+                device.hear(PACKET, table[7], &[&[3, low, high], &data[..]].concat());
+            }
+        }
+    }
+}
+
+/// A write of each four-byte item at, and one beside, both ends of its range, and of each one-byte item with every value.
+#[test]
+fn ends_of_the_ranges() {
+    let mut rng = Rng::new(53);
+    let four: [(u8, i32, i32); 5] =
+        [(20, -1_044_479, 1_044_479), (48, 0, 4_095), (52, 0, 4_095), (104, -330, 330), (116, 0, 4_095)];
+    for (address, lowest, highest) in four {
+        for (value, good) in [
+            (lowest - 1, false),
+            (lowest, true),
+            (lowest + 1, true),
+            (highest - 1, true),
+            (highest, true),
+            (highest + 1, false),
+            (i32::MIN, false),
+            (i32::MAX, false),
+        ] {
+            let mut device = DevicePair::new(&mut rng, &fresh(), Registered::default(), REPLY_BYTES);
+            let told = device.hear(PACKET, 1, &[&[3, address, 0][..], &value.to_le_bytes()].concat());
+            assert_eq!(told.error, Some(if good { 0 } else { 4 }), "{value} at {address}");
+            let stored = &device.table()[usize::from(address)..usize::from(address) + 4] == value.to_le_bytes();
+            assert_eq!(stored, good, "{value} at {address}");
+        }
+    }
+    for (address, highest) in [(7, 252), (8, 7), (64, 1), (65, 1), (68, 2)] {
+        for value in 0..=255 {
+            let mut device = DevicePair::new(&mut rng, &fresh(), Registered::default(), REPLY_BYTES);
+            let told = device.hear(PACKET, 1, &[3, address, 0, value]);
+            assert_eq!(told.error, Some(if value <= highest { 0 } else { 4 }), "{value} at {address}");
+            assert_eq!(device.table()[usize::from(address)] == value, value <= highest || fresh()[usize::from(address)] == value);
+        }
+    }
+}
+
+/// Tables and reply buffers of other lengths, IDs above 252, counts above 8: refused in their order, whatever was heard.
+#[test]
+fn refusals() {
+    let mut rng = Rng::new(54);
+    let mut seen = [0; 5];
+    for length in (0..=5).chain(130..=142).chain([272, 1_000]) {
+        for own in [1, 252, 253, 254, 255] {
+            for count in [0, 8, 9, 255] {
+                for reply in [0, 1, 21, 31, 32, 33] {
+                    for (kind, id) in [(PACKET, 1), (PACKET, 254), (PACKET, own), (BAD_CHECKSUM, 1), (BAD_CHECKSUM, 9), (0, 1)] {
+                        let mut bytes = fresh().to_vec();
+                        bytes.resize(length, 3);
+                        if length > 7 {
+                            bytes[7] = own;
+                        }
+                        let registered = Registered { address: 65, count, bytes: [1, 2, 3, 4, 5, 6, 7, 8] };
+                        let mut device = DevicePair::new(&mut rng, &bytes, registered, reply);
+                        let body: &[u8] = rng.pick(&[&[1][..], &[], &[8], &[6, 1], &[0x55], &[3, 65, 0, 1], &[5]]);
+                        let told = device.hear(kind, id, body);
+                        let wanted = match (length, own, count, reply) {
+                            (0..=135 | 137.., _, _, _) => 21,
+                            (_, 253.., _, _) => 22,
+                            (_, _, 9.., _) => 23,
+                            (_, _, _, 0..=31) => 24,
+                            _ => 20,
+                        };
+                        assert_eq!(told.count.min(0), if wanted == 20 { 0 } else { -wanted });
+                        if wanted != 20 {
+                            assert!(device.table() == bytes && device.registered == registered);
+                        }
+                        seen[(wanted - 20) as usize] += 1;
+                    }
+                }
+            }
+        }
+    }
+    assert!(seen.iter().all(|&count| count > 40), "{seen:?}");
+}
+
+/// Whole lives: one table from fresh on, thousands of calls of every sort, the registered write handed on.
+#[test]
+fn lives() {
+    let mut rng = Rng::new(56);
+    let mut errors = Errors::new();
+    let (mut synced, mut slots) = (0, 0);
+    for _ in 0..60 {
+        let mut device = DevicePair::new(&mut rng, &[0; TABLE_BYTES], Registered::default(), REPLY_BYTES);
+        device.fresh();
+        for _ in 0..5_000 {
+            if rng.one_in(30) {
+                let hardware_error = if rng.one_in(3) { rng.byte() } else { 0 };
+                let position = value(&mut rng, device.table());
+                device.measure(position, hardware_error);
+            }
+            if rng.one_in(400) {
+                // a board that somebody has tampered with
+                let (place, byte) = (rng.between(8, TABLE_BYTES - 1), rng.byte());
+                device.change(|table| table[place] = byte);
+            }
+            if rng.one_in(100) {
+                device.registered = registered(&mut rng, device.table());
+                device.registered.count %= 9;
+            }
+            let instruction = match rng.between(0, 99) {
+                0..=6 => 0x01,
+                7..=20 => 0x02,
+                21..=50 => 0x03,
+                51..=68 => 0x04,
+                69..=80 => 0x05,
+                81 => 0x06,
+                82..=83 => 0x08,
+                84..=88 => 0x82,
+                89..=97 => 0x83,
+                _ => rng.byte(),
+            };
+            let body = if rng.one_in(60) { vec![] } else { body(&mut rng, device.table(), instruction) };
+            let kind = if rng.one_in(40) { rng.pick(&[0, 2, 2, 9]) } else { PACKET };
+            let id = match instruction {
+                0x82 | 0x83 if !rng.one_in(5) => 254,
+                _ => id(&mut rng, device.table()[7]),
+            };
+            let before = device.table().to_vec();
+            let told = device.hear(kind, id, &body);
+            count(&mut errors, kind, &body, told);
+            synced += usize::from(instruction == 0x83 && device.table() != before);
+            slots += usize::from(instruction == 0x82 && told.slot > 0);
+            // a device that has gone quiet or is locked would try nothing any more
+            if rng.one_in(40) {
+                device.hear(PACKET, 254, &[8]);
+            }
+        }
+    }
+    assert_all_seen(&errors, 20);
+    assert!(synced > 1_000 && slots > 500, "{synced} Sync Writes carried out, {slots} slots above 0");
+}
+
+/// A registered write is judged again by the table as it is at Action, and is dropped also where it is refused then.
+#[test]
+fn overtaken_registered_writes() {
+    let mut rng = Rng::new(58);
+    let cases: [(&[u8], &[u8], u8); 6] = [
+        // the goal lies outside the limits by now
+        (&[116, 0, 0, 8, 0, 0], &[3, 48, 0, 0, 4, 0, 0], 6),
+        (&[116, 0, 0, 4, 0, 0], &[3, 52, 0, 0, 8, 0, 0], 6),
+        // the other limit has moved
+        (&[48, 0, 100, 0, 0, 0], &[3, 52, 0, 200, 0, 0, 0], 6),
+        // the torque locks ROM by now, and not RAM
+        (&[8, 0, 3], &[3, 64, 0, 1], 7),
+        (&[65, 0, 1], &[3, 64, 0, 1], 0),
+        (&[116, 0, 0, 8, 0, 0], &[3, 48, 0, 0, 8, 0, 0], 0),
+    ];
+    for (turn, between, error) in cases {
+        let mut device = DevicePair::new(&mut rng, &fresh(), Registered::default(), REPLY_BYTES);
+        assert_eq!(device.hear(PACKET, 1, &[&[4], turn].concat()).error, Some(0));
+        assert_eq!((device.table()[69], usize::from(device.registered.count)), (1, turn.len() - 2));
+        assert_eq!(device.hear(PACKET, 1, between).error, Some(0));
+        let stored = device.table().to_vec();
+        // a refused Reg Write and an Action with a parameter leave it
+        assert_eq!(device.hear(PACKET, 1, &[4, 104, 0, 1]).error, Some(5));
+        assert_eq!(device.hear(PACKET, 1, &[5, 0]).error, Some(5));
+        assert_eq!(device.table(), stored);
+        assert_eq!(device.hear(PACKET, 1, &[5]).error, Some(error));
+        assert_eq!((device.table()[69], device.registered), (0, Registered::default()));
+        let at = usize::from(turn[0]);
+        assert_eq!(device.table()[at..at + turn.len() - 2] == turn[2..], error == 0);
+        assert_eq!(device.hear(PACKET, 1, &[5]).error, Some(2));
+    }
+}
+
+/// Every place of our own entry in a list of 253, and lists that go wrong only at their last entry.
+#[test]
+fn long_sync_lists() {
+    let mut rng = Rng::new(57);
+    for place in 0..=252 {
+        let table = table(&mut rng);
+        let mut ids: Vec<u8> = (0..=252).collect();
+        ids.swap(place, usize::from(table[7]));
+        let mut bad_end = ids.clone();
+        bad_end.push(rng.pick(&[253, 254, 255, table[7], ids[0]]));
+        for ids in [ids, bad_end] {
+            let mut device = DevicePair::new(&mut rng, &table, Registered::default(), REPLY_BYTES);
+            device.change(|table| table[68] = 2);
+            let told = device.hear(PACKET, 254, &[&[0x82, 132, 0, 4, 0], &ids[..]].concat());
+            let whole = ids.len() == 253;
+            assert_eq!((told.count > 0, told.slot), (whole, if whole { place } else { 0 }));
+            for (address, data) in [(104, &[9, 0, 0, 0][..]), (65, &[1]), (104, &[0, 1]), (116, &[0; 4])] {
+                let entries: Vec<u8> = ids.iter().flat_map(|&id| [&[id], data].concat()).collect();
+                let body = [&[0x83, address, 0, data.len() as u8, 0], &entries[..]].concat();
+                device.hear(PACKET, 254, &body);
+                device.hear(PACKET, 254, &body[..body.len() - 1]);
+            }
+        }
+    }
+}
+
+/// Bodies longer than any packet carries, lengths whose low byte is 0, lists with more entries than there are IDs.
+#[test]
+fn long_bodies() {
+    let mut rng = Rng::new(59);
+    for length in [20usize, 128, 135, 136, 137, 255, 256, 257, 260, 512, 1_022, 4_096, 65_280, 65_534, 65_535] {
+        let [low, high] = (length as u16).to_le_bytes();
+        for address in [0u16, 7, 48, 104, 116, 132, 135, 136, 65_280, 65_535] {
+            let [a, b] = address.to_le_bytes();
+            let table = table(&mut rng);
+            let (own, other) = (table[7], if table[7] == 0 { 252 } else { table[7] - 1 });
+            let mut device = DevicePair::new(&mut rng, &table, Registered::default(), REPLY_BYTES);
+            device.change(|table| table[68] = 2);
+            let data = vec![rng.pick(&[0, 1, 0xFF]); length];
+            for instruction in [3, 4] {
+                let body = [&[instruction, a, b], &data[..]].concat();
+                assert!(device.hear(PACKET, own, &body).error.is_some_and(|error| error & 0x7F == 7));
+                device.hear(PACKET, 254, &body);
+            }
+            assert!(device.hear(PACKET, own, &[2, a, b, low, high]).error.is_some_and(|error| error & 0x7F == 7));
+            // the own read is refused, in its slot: an X of 256 is not 0
+            let told = device.hear(PACKET, 254, &[0x82, a, b, low, high, other, own]);
+            assert!(told.slot == 1 && told.error.is_some_and(|error| error & 0x7F == 7));
+            let list = [&[other], &data[..], &[own], &data[..]].concat();
+            for cut in [0, 1, length, length + 1] {
+                device.hear(PACKET, 254, &[&[0x83, a, b, low, high], &list[..list.len() - cut]].concat());
+            }
+        }
+    }
+    for count in [253, 254, 255, 256, 257, 300, 1_018, 5_000] {
+        let ids: Vec<u8> = (0..count).map(|i| (i % 253) as u8).collect();
+        let mut device = DevicePair::new(&mut rng, &fresh(), Registered::default(), REPLY_BYTES);
+        let told = device.hear(PACKET, 254, &[&[0x82, 7, 0, 1, 0], &ids[..]].concat());
+        assert_eq!((told.count > 0, told.slot), (count == 253, usize::from(count == 253)));
+        let entries: Vec<u8> = ids.iter().flat_map(|&id| [id, 1]).collect();
+        device.hear(PACKET, 254, &[&[0x83, 65, 0, 1, 0], &entries[..]].concat());
+        assert_eq!(device.table()[65] == 1, count == 253);
+    }
+}

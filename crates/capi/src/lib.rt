@@ -246,10 +246,31 @@ pub extern "C" fn dxl_device(
         × (now (reply .exit) ≡ callOut (now (table .entry)) registered (heardBy kind) (idBy kind id) (now (body .entry)) (now (reply .entry))) ⌝ }
 {
     if kind == 1 {
-        return device_numbers(device::hear(table, registered, device::Heard::Packet, id, body, reply));
+        return device_numbers(device::hear(
+            table,
+            registered,
+            device::Heard::Packet,
+            id,
+            body,
+            reply,
+        ));
     }
     if kind == 2 {
-        return device_numbers(device::hear(table, registered, device::Heard::BadChecksum, id, body, reply));
+        return device_numbers(device::hear(
+            table,
+            registered,
+            device::Heard::BadChecksum,
+            id,
+            body,
+            reply,
+        ));
     }
-    device_numbers(device::hear(table, registered, device::Heard::BadChecksum, 255, body, reply))
+    device_numbers(device::hear(
+        table,
+        registered,
+        device::Heard::BadChecksum,
+        255,
+        body,
+        reply,
+    ))
 }

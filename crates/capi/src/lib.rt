@@ -246,31 +246,13 @@ pub extern "C" fn dxl_device(
         × (now (reply .exit) ≡ callOut (now (table .entry)) registered (heardBy kind) (idBy kind id) (now (body .entry)) (now (reply .entry))) ⌝ }
 {
     if kind == 1 {
-        return device_numbers(device::hear(
-            table,
-            registered,
-            device::Heard::Packet,
-            id,
-            body,
-            reply,
-        ));
+        let heard = device::Heard::Packet;
+        return device_numbers(device::hear(table, registered, heard, id, body, reply));
     }
     if kind == 2 {
-        return device_numbers(device::hear(
-            table,
-            registered,
-            device::Heard::BadChecksum,
-            id,
-            body,
-            reply,
-        ));
+        let bad = device::Heard::BadChecksum;
+        return device_numbers(device::hear(table, registered, bad, id, body, reply));
     }
-    device_numbers(device::hear(
-        table,
-        registered,
-        device::Heard::BadChecksum,
-        255,
-        body,
-        reply,
-    ))
+    let nothing = device::Heard::BadChecksum;
+    device_numbers(device::hear(table, registered, nothing, 255, body, reply))
 }

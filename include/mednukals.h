@@ -120,8 +120,9 @@ struct dxl_step {
 /*
  * The reader finds the packets in the bytes of the line, whatever else these are and however they are cut into chunks. A segment,
  * the bytes between two gaps, is read from its first byte on. Where a well-formed packet stands, it is an event, and reading goes
- * on behind it. Where only its checksum is wrong, that is an event, and reading goes on at the next byte: a packet inside a
- * damaged one is found. Anything else is passed over byte by byte, without an event.
+ * on behind it. Where header, ID and length are those of a packet, all its bytes are there and its checksum is wrong, that is an
+ * event, and reading goes on at the next byte: a packet inside a damaged one is found. Anything else is passed over byte by byte,
+ * without an event.
  *
  * The reader's record is the caller's: held and *count. It lives as long as the device.
  * - To begin, set *count to 0; held may then have any bytes.
@@ -134,7 +135,8 @@ struct dxl_step {
  * library has no clock, so that the caller says when that is.
  *
  *     static uint8_t held[DXL_MAX_HELD], packet[DXL_MAX_PACKET], body[DXL_MAX_BODY];
- *     static uint8_t table[DXL_TABLE_BYTES], reply[DXL_MIN_REPLY];
+ *     static uint8_t table[DXL_TABLE_BYTES];    // filled once, by dxl_fresh
+ *     static uint8_t reply[DXL_MIN_REPLY];
  *     static struct dxl_registered registered;  // all 0: none
  *     static size_t count;                      // 0: a fresh reader
  *
@@ -183,12 +185,12 @@ struct dxl_step {
  * Answers the next event, and as taken the fewest bytes of the chunk after which it is decided, which may be none; the caller
  * feeds the others again. Where no event is decided, answers DXL_NO_EVENT, and all n bytes are taken.
  *
- * Call it with the untaken rest until it answers DXL_NO_EVENT, also where that rest is empty: several events may wait in the held
- * bytes, and a loop that stops when all bytes are taken leaves them there.
+ * Call it with the untaken rest until it answers DXL_NO_EVENT, or refuses, also where that rest is empty: several events may wait
+ * in the held bytes, and a loop that stops when all bytes are taken leaves them there.
  *
  * The packet's bytes as received are written to packet, followed by 0 up to 1,031; beside any other answer that is no refusal
  * packet becomes all 0. The held bytes after an event are all bytes taken so far from where reading goes on; after DXL_NO_EVENT
- * they are the beginning of a packet that may still become complete, or none.
+ * they are the beginning of what may be a packet and is not all there, or none.
  *
  * Refuses with kind DXL_BAD_READER where *count is above 1,030; taken, count and id are then 0, and held, *count and packet stay.
  */
@@ -197,8 +199,9 @@ struct dxl_step dxl_feed(uint8_t held[1030], size_t *count, const uint8_t *chunk
 /*
  * Ends the segment: answers the next event in the held bytes where no more bytes follow, or DXL_NO_EVENT where nothing is left.
  *
- * Call it when the line has been silent for more than 1.5 ms, until it answers DXL_NO_EVENT; then the gap is finished, and the
- * reader holds nothing. Bytes fed earlier than that join those that are still held, as if there had been no gap.
+ * Call it when the line has been silent for more than 1.5 ms, until it answers DXL_NO_EVENT, or refuses; then the gap is
+ * finished, and the reader holds nothing. Bytes fed earlier than that join those that are still held. Without gap calls a packet
+ * behind noise may be told only when 1,030 bytes have followed the noise.
  *
  * packet and held are written as by dxl_feed, and it refuses as dxl_feed does; taken is always 0.
  */

@@ -25,7 +25,7 @@ unfoldable pub leftBy : Reader → Call → Reader
 leftBy r c =
     record { bytes = leftFor (r .count) (r .bytes) (call protocol2 (heldIn r) c); count = saidOn r c .held }
 
--- the event that an answer gives, with all it carries
+-- the event that an answer gives: the bytes of a packet, whose ID `saidOn` gives too, or the ID of a bad checksum
 abbrev pub eventOfKind : Kind → ℕ → ℕ → List ℕ → Option Event
 eventOfKind aPacket id n bytes = some (packet (take n bytes))
 eventOfKind aBadChecksum id n bytes = some (badChecksum id)
@@ -34,7 +34,8 @@ eventOfKind noEvent id n bytes = none
 abbrev pub eventIn : Said → Option Event
 eventIn s = eventOfKind (s .kind) (s .id) (s .count) (s .bytes)
 
--- the records as a reader: a fresh one is any with count 0, whatever lies past it
+-- The records as a reader, of which demand 3 is promised: a fresh one is any with count 0, whatever lies past it. The longest
+-- packet has 1,031 bytes, so that `Followed` says that at least 1,030 bytes have followed the noise.
 abbrev pub records : AnyReader
 records =
     record {

@@ -50,7 +50,7 @@ abbrev pub since : List (List ℕ) → ℕ → List Call
 since chunks g = feeds chunks ++ gaps g
 
 module _ (M : AnyReader) where
-  -- c is the last of these calls on a reader that was x, and gave no event; a gap call then said that nothing is left
+  -- c is the last of these calls on a reader that was x, and gave no event; of a gap call this says that nothing is left
   abbrev pub EndsSilent : M .State → List Call → Call → Type 0
   EndsSilent x cs c = (cs′ : List Call) × (cs ≡ cs′ ++ c ∷ []) × (M .answer (after M x cs′) c ≡ none)
 
@@ -90,7 +90,8 @@ pub record Promised (R : Rules) (M : AnyReader) (x : M .State) (chunks : List (L
     (packets : List (List ℕ)) (rest : List ℕ) : Type 0 where
   -- the bytes looked at are those that the rule of the fewest bytes takes: a reader that takes none is not let off
   pub counted : took M x (since chunks g) ≡ took (model R) [] (since chunks g)
-  -- the events given, with all they carry, are the first of the reading of the bytes taken as one segment, in its order
+  -- the events given, with the bytes of a packet and the ID of a bad checksum, are the first of the reading of the bytes
+  -- taken as one segment, in its order
   pub firsts : map what (givenAt R M x chunks g) ≡ given M x (since chunks g)
   -- and all of them, once the gap is finished
   pub all : Finished M x chunks g → givenAt R M x chunks g ≡ reading R (took M x (since chunks g))

@@ -7,7 +7,7 @@ use Rattle.reading.specs.Rules.{Verdict, isPacket, isBadChecksum, isWait
 pub data Event : Type 0 where
   -- a packet, with its bytes as received
   packet : List ℕ → Event
-  -- a packet but for its checksum, with its ID (in the papers: a bad sum)
+  -- all bytes of a packet, by header, ID and length, with a wrong checksum; and its ID (in the papers: a bad sum)
   badChecksum : ℕ → Event
 
 -- an event, and the offset where it begins (in the papers: its place)

@@ -9,9 +9,9 @@ use lib.ListN.{length, take}
 pub data Verdict : Type 0 where
   -- a well-formed packet of so many bytes
   isPacket : ℕ → Verdict
-  -- a packet but for its checksum, with its ID (in the papers: a bad sum)
+  -- all bytes of a packet, by header, ID and length, with a wrong checksum; and its ID (in the papers: a bad sum)
   isBadChecksum : ℕ → Verdict
-  -- a beginning: more bytes could make a packet of it
+  -- a beginning: as far as it goes it agrees with a packet, and not all bytes are there
   isWaiting : Verdict
   -- none of these
   isNothing : Verdict

@@ -155,6 +155,6 @@ int main(void)
     refusals();
     if (failures != 0)
         return 1;
-    printf("C: a device answers the published exchanges as printed, however they are cut\n");
+    printf("C: a device answers the published exchanges as printed, in chunks of 1, 3, 7 and 64 bytes and in one\n");
     return 0;
 }

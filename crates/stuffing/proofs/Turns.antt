@@ -1,101 +1,135 @@
 -- What a loop over the bytes does with the byte at i, and at the end.
 use mathlib.Core.Path.{_≡_, refl, sym, ap, _∙_}
-use mathlib.Core.Bool.{Bool, true, false, not, cond, _&&_, _||_}
+use mathlib.Core.Bool.{Bool, true, false, not, cond, _&&_, _||_, true≢false}
 use mathlib.Core.List.{List, [], _∷_}
 use Prim.Native.Nat.{ℕ, _+_, _≤_, _<_}
 use native.Mathlib.Numerals.{add-one}
 use native.Mathlib.Omega.{arith}
+use native.Mathlib.Decide.{decLt, ℕ-discrete}
 use lib.Dec.{eqb}
 use lib.ListN.{length, getD, set, drop, drop-of-length-le}
 use lib.Seq.{drop-cons}
 use borrow.Author.Tests.{eq-eqb, ne-eqb}
 use Rattle.lists.proofs.Filling.{Filling, drop-lt, fill-next}
-use Rattle.stuffing.specs.Stuffing.{mark, stuffAfter, wellAfter, unstuffAfter}
+use Rattle.stuffing.specs.Stuffing.{mark, markAt, stuffAfter, wellAfter, unstuffAfter}
+use Rattle.stuffing.proofs.Mark.{mark-last, no-mark}
 
--- the test and the removal, after the bytes a, b, c
-module _ (a b c : ℕ) (s : List ℕ) (i : ℕ) where
-  well-turn : i < length s
-      → wellAfter a b c (drop i s) ≡ ((not (mark a b c) || eqb (getD s i 0) 0xFD) && wellAfter b c (getD s i 0) (drop (i + 1) s))
+-- ---- the test and the removal: the bytes of s from i on, after the three that stand before them
+
+module _ (s : List ℕ) (i : ℕ) where
+  abbrev pub wellAt : Bool
+  wellAt = wellAfter (getD (0 ∷ 0 ∷ 0 ∷ s) i 0) (getD (0 ∷ 0 ∷ s) i 0) (getD (0 ∷ s) i 0) (drop i s)
+
+  abbrev pub unstuffedAt : List ℕ
+  unstuffedAt = unstuffAfter (getD (0 ∷ 0 ∷ 0 ∷ s) i 0) (getD (0 ∷ 0 ∷ s) i 0) (getD (0 ∷ s) i 0) (drop i s)
+
+  -- a mark ends right before i
+  abbrev pub marked : Bool
+  marked = mark (getD (0 ∷ 0 ∷ 0 ∷ s) i 0) (getD (0 ∷ 0 ∷ s) i 0) (getD (0 ∷ s) i 0)
+
+module _ (s : List ℕ) (i : ℕ) where
+  pub marked-next : marked s (i + 1) ≡ markAt 0 s i
+  marked-next = rw add-one refl
+
+  well-turn : i < length s → wellAt s i ≡ ((not (marked s i) || eqb (getD s i 0) 0xFD) && wellAt s (i + 1))
   unfolding wellAfter
-  well-turn h = rw (add-one, drop-cons s i 0)
+  well-turn h = rw (add-one, drop-cons s i 0) refl
 
-  -- no mark stands before, or its FD follows
-  pub well-kept : mark a b c ≡ false → i < length s → wellAfter b c (getD s i 0) (drop (i + 1) s) ≡ wellAfter a b c (drop i s)
-  well-kept e h = sym (well-turn h ∙ rw e)
+  unstuff-turn : i < length s → unstuffedAt s i ≡ cond (marked s i) (unstuffedAt s (i + 1)) (getD s i 0 ∷ unstuffedAt s (i + 1))
+  unfolding unstuffAfter
+  unstuff-turn h = rw (add-one, drop-cons s i 0) refl
 
-  pub well-skipped : mark a b c ≡ true → getD s i 0 ≡ 0xFD → i < length s
-      → wellAfter b c (getD s i 0) (drop (i + 1) s) ≡ wellAfter a b c (drop i s)
-  well-skipped e f h = sym (well-turn h ∙ rw (e, eq-eqb _ _ f))
-
-  -- a mark stands before, and another byte follows
-  pub well-fails : mark a b c ≡ true → (getD s i 0 ≡ 0xFD → ⊥) → i < length s → wellAfter a b c (drop i s) ≡ false
-  well-fails e f h = well-turn h ∙ rw (e, ne-eqb _ _ f)
-
-  pub well-end : length s ≤ i → wellAfter a b c (drop i s) ≡ not (mark a b c)
+  pub well-end : length s ≤ i → wellAt s i ≡ not (marked s i)
   unfolding wellAfter
-  well-end h = ap (wellAfter a b c) (drop-of-length-le s h)
+  well-end h =
+      ap (wellAfter (getD (0 ∷ 0 ∷ 0 ∷ s) i 0) (getD (0 ∷ 0 ∷ s) i 0) (getD (0 ∷ s) i 0)) (drop-of-length-le s h)
 
-  unstuff-turn : i < length s
-      → unstuffAfter a b c (drop i s)
-      ≡ cond (mark a b c) (unstuffAfter b c (getD s i 0) (drop (i + 1) s)) (getD s i 0 ∷ unstuffAfter b c (getD s i 0) (drop (i + 1) s))
+  pub unstuff-end : length s ≤ i → unstuffedAt s i ≡ []
   unfolding unstuffAfter
-  unstuff-turn h = rw (add-one, drop-cons s i 0)
+  unstuff-end h =
+      ap (unstuffAfter (getD (0 ∷ 0 ∷ 0 ∷ s) i 0) (getD (0 ∷ 0 ∷ s) i 0) (getD (0 ∷ s) i 0)) (drop-of-length-le s h)
 
-  pub unstuff-kept : mark a b c ≡ false → i < length s
-      → unstuffAfter a b c (drop i s) ≡ getD s i 0 ∷ unstuffAfter b c (getD s i 0) (drop (i + 1) s)
-  unstuff-kept e h = unstuff-turn h ∙ rw e
+module _ (s : List ℕ) (i : ℕ) (free : marked s i ≡ false) (h : i < length s) where
+  pub well-kept : wellAt s (i + 1) ≡ wellAt s i
+  well-kept = sym (well-turn s i h ∙ rw free refl)
 
-  pub unstuff-skipped : mark a b c ≡ true → i < length s
-      → unstuffAfter a b c (drop i s) ≡ unstuffAfter b c (getD s i 0) (drop (i + 1) s)
-  unstuff-skipped e h = unstuff-turn h ∙ rw e
+  pub unstuff-kept : unstuffedAt s i ≡ getD s i 0 ∷ unstuffedAt s (i + 1)
+  unstuff-kept = unstuff-turn s i h ∙ rw free refl
 
-  pub unstuff-end : length s ≤ i → unstuffAfter a b c (drop i s) ≡ []
-  unfolding unstuffAfter
-  unstuff-end h = ap (unstuffAfter a b c) (drop-of-length-le s h)
+  -- the byte at i ends a mark
+  module _ (m : markAt 0 s i ≡ true) where
+    m′ : marked s (i + 1) ≡ true
+    m′ = marked-next s i ∙ m
 
-  -- the byte at i is kept: it is written at j, where there is room
-  module _ (new old out : List ℕ) (j : ℕ) (e : mark a b c ≡ false) (h : i < length s)
-      (f : Filling new old out j (unstuffAfter a b c (drop i s))) (room : length new ≤ length old) where
-    keeps : Filling new old out j (getD s i 0 ∷ unstuffAfter b c (getD s i 0) (drop (i + 1) s))
-    keeps = rw (unstuff-kept e h) at f
+    -- none ends with the byte after it
+    pub free-after : marked s (i + 1 + 1) ≡ false
+    free-after =
+        no-mark (getD (0 ∷ 0 ∷ 0 ∷ s) (i + 1 + 1) 0) (getD (0 ∷ 0 ∷ s) (i + 1 + 1) 0) (getD (0 ∷ s) (i + 1 + 1) 0)
+        (ap (λ (x : ℕ). eqb x 0xFF) (here ∙ mark-last (getD (0 ∷ 0 ∷ s) i 0) (getD (0 ∷ s) i 0) (getD s i 0) m))
+      where
+        here : getD (0 ∷ 0 ∷ s) (i + 1 + 1) 0 ≡ getD s i 0
+        here = rw (add-one, add-one) refl
 
-    pub keep-room : j < length old
-    keep-room = omega (arith, drop-lt new j (getD s i 0) (unstuffAfter b c (getD s i 0) (drop (i + 1) s)) (keeps .rest))
+    pub mark-at-end : length s ≤ i + 1 → wellAt s i ≡ false
+    mark-at-end l = sym well-kept ∙ well-end s (i + 1) l ∙ rw m′ refl
 
-    pub keep-next : Filling new old (set out j (getD s i 0)) (j + 1) (unstuffAfter b c (getD s i 0) (drop (i + 1) s))
-    keep-next = fill-next new old out j (getD s i 0) (unstuffAfter b c (getD s i 0) (drop (i + 1) s)) keeps keep-room
+    module _ (l : i + 1 < length s) where
+      pub mark-unstuffed : (getD s (i + 1) 0 ≡ 0xFD → ⊥) → wellAt s i ≡ false
+      mark-unstuffed f = sym well-kept ∙ well-turn s (i + 1) l ∙ rw (m′, ne-eqb (getD s (i + 1) 0) 0xFD f) refl
 
--- the writing, after the bytes a, b
-module _ (a b : ℕ) (s : List ℕ) (i : ℕ) where
+      pub well-skipped : getD s (i + 1) 0 ≡ 0xFD → wellAt s (i + 1 + 1) ≡ wellAt s i
+      well-skipped f = sym (well-turn s (i + 1) l ∙ rw (m′, eq-eqb (getD s (i + 1) 0) 0xFD f) refl) ∙ well-kept
+
+      pub unstuff-skipped : unstuffedAt s i ≡ getD s i 0 ∷ unstuffedAt s (i + 1 + 1)
+      unstuff-skipped = unstuff-kept ∙ ap (λ (t : List ℕ). getD s i 0 ∷ t) (unstuff-turn s (i + 1) l ∙ rw m′ refl)
+
+    -- well stuffed, its FD follows
+    pub well-next : wellAt s i ≡ true → (i + 1 < length s) × (getD s (i + 1) 0 ≡ 0xFD)
+    well-next w = by (decLt (i + 1) (length s))
+      where
+        is-false : wellAt s i ≡ false → ⊥
+        is-false e = let z : true ≡ false = sym w ∙ e in true≢false z
+
+        by : Dec (i + 1 < length s) → (i + 1 < length s) × (getD s (i + 1) 0 ≡ 0xFD)
+        by (no l) = absurd (is-false (mark-at-end (omega arith)))
+        by (yes l) = (l, at (ℕ-discrete (getD s (i + 1) 0) 0xFD))
+          where
+            at : Dec (getD s (i + 1) 0 ≡ 0xFD) → getD s (i + 1) 0 ≡ 0xFD
+            at (yes e) = e
+            at (no e) = absurd (is-false (mark-unstuffed l e))
+
+-- ---- the writing: the stuffed form of the bytes of s from i on, after the byte `before` and those of s before them
+
+module _ (before : ℕ) (s : List ℕ) (i : ℕ) where
+  abbrev pub stuffedAt : List ℕ
+  stuffedAt = stuffAfter (getD (0 ∷ before ∷ s) i 0) (getD (before ∷ s) i 0) (drop i s)
+
+module _ (before : ℕ) (s : List ℕ) (i : ℕ) where
   stuff-turn : i < length s
-      → stuffAfter a b (drop i s)
-      ≡ getD s i 0 ∷ cond (mark a b (getD s i 0)) (0xFD ∷ stuffAfter b (getD s i 0) (drop (i + 1) s)) (stuffAfter b (getD s i 0) (drop (i + 1) s))
+      → stuffedAt before s i ≡ getD s i 0 ∷ cond (markAt before s i) (0xFD ∷ stuffedAt before s (i + 1)) (stuffedAt before s (i + 1))
   unfolding stuffAfter
-  stuff-turn h = rw (add-one, drop-cons s i 0)
+  stuff-turn h = rw (add-one, drop-cons s i 0) refl
 
-  pub stuff-plain : mark a b (getD s i 0) ≡ false → i < length s
-      → stuffAfter a b (drop i s) ≡ getD s i 0 ∷ stuffAfter b (getD s i 0) (drop (i + 1) s)
-  stuff-plain e h = stuff-turn h ∙ rw e
+  pub stuff-plain : markAt before s i ≡ false → i < length s → stuffedAt before s i ≡ getD s i 0 ∷ stuffedAt before s (i + 1)
+  stuff-plain e h = stuff-turn h ∙ rw e refl
 
-  pub stuff-marked : mark a b (getD s i 0) ≡ true → i < length s
-      → stuffAfter a b (drop i s) ≡ getD s i 0 ∷ 0xFD ∷ stuffAfter b (getD s i 0) (drop (i + 1) s)
-  stuff-marked e h = stuff-turn h ∙ rw e
+  pub stuff-marked : markAt before s i ≡ true → i < length s → stuffedAt before s i ≡ getD s i 0 ∷ 0xFD ∷ stuffedAt before s (i + 1)
+  stuff-marked e h = stuff-turn h ∙ rw e refl
 
   -- a byte more makes the stuffed form longer
-  pub stuff-some : i < length s → 0 < length (stuffAfter a b (drop i s))
+  pub stuff-some : i < length s → 0 < length (stuffedAt before s i)
   stuff-some h = omega (arith, ap length (stuff-turn h))
 
-  pub stuff-end : length s ≤ i → stuffAfter a b (drop i s) ≡ []
+  pub stuff-end : length s ≤ i → stuffedAt before s i ≡ []
   unfolding stuffAfter
-  stuff-end h = ap (stuffAfter a b) (drop-of-length-le s h)
+  stuff-end h = ap (stuffAfter (getD (0 ∷ before ∷ s) i 0) (getD (before ∷ s) i 0)) (drop-of-length-le s h)
 
   -- the byte at i is written at j, and FD after it where it ends a mark
-  module _ (new old out : List ℕ) (j : ℕ) (h : i < length s) (f : Filling new old out j (stuffAfter a b (drop i s)))
+  module _ (new old out : List ℕ) (j : ℕ) (h : i < length s) (f : Filling new old out j (stuffedAt before s i))
       (room : j < length old) where
-    pub put-plain : mark a b (getD s i 0) ≡ false
-        → Filling new old (set out j (getD s i 0)) (j + 1) (stuffAfter b (getD s i 0) (drop (i + 1) s))
+    pub put-plain : markAt before s i ≡ false → Filling new old (set out j (getD s i 0)) (j + 1) (stuffedAt before s (i + 1))
     put-plain e = fill-next new old out j (getD s i 0) _ (rw (stuff-plain e h) at f) room
 
-    pub put-marked : mark a b (getD s i 0) ≡ true
-        → Filling new old (set out j (getD s i 0)) (j + 1) (0xFD ∷ stuffAfter b (getD s i 0) (drop (i + 1) s))
+    pub put-marked : markAt before s i ≡ true
+        → Filling new old (set out j (getD s i 0)) (j + 1) (0xFD ∷ stuffedAt before s (i + 1))
     put-marked e = fill-next new old out j (getD s i 0) _ (rw (stuff-marked e h) at f) room

@@ -3,10 +3,15 @@ use mathlib.Core.Bool.{Bool, true, false, not, cond, _&&_, _||_}
 use mathlib.Core.List.{List, [], _∷_}
 use Prim.Native.Nat.{ℕ, _+_}
 use lib.Dec.{eqb}
+use lib.ListN.{getD}
 
 -- three bytes side by side are FF FF FD
 abbrev pub mark : ℕ → ℕ → ℕ → Bool
 mark a b c = eqb a 0xFF && (eqb b 0xFF && eqb c 0xFD)
+
+-- the byte at i of s ends such three; `before` is the byte right before s, and what stands before that is no mark's
+abbrev pub markAt : ℕ → List ℕ → ℕ → Bool
+markAt before s i = mark (getD (0 ∷ before ∷ s) i 0) (getD (before ∷ s) i 0) (getD s i 0)
 
 -- Each definition below goes through the bytes with those that stand right before: at the start there are none, and 0 serves,
 -- which no mark holds.

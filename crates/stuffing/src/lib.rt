@@ -1,11 +1,11 @@
-// Byte stuffing of packet bodies: the test, the removal, the writing. Each loop carries the bytes that stand right before,
-// so that every byte is looked at once.
+// Byte stuffing of packet bodies: the test, the removal, the writing.
 ghost use mathlib.Core.Path.{_≡_};
 ghost use mathlib.Core.List.{_∷_};
-ghost use Prim.Native.Nat.{_≤_, min};
+ghost use mathlib.Core.Bool.{true};
+ghost use Prim.Native.Nat.{_≤_, _<_, min};
 ghost use lib.ListN.{length, take};
 ghost use Rattle.lists.specs.Write.{overwritten};
-ghost use Rattle.stuffing.specs.Stuffing.{mark, stuff, wellStuffed, unstuff};
+ghost use Rattle.stuffing.specs.Stuffing.{markAt, stuff, wellStuffed, unstuff};
 ghost use Rattle.stuffing.specs.Answers.{checked, lengthWithin, unstuffedAnswer, removalAnswer, removalOut};
 
 // Whether a body is well stuffed, and how many bytes it has without its stuffing.
@@ -27,68 +27,61 @@ pub enum Unstuffed {
     NoRoom,
 }
 
-// Three bytes side by side are FF FF FD. The last is tested first: it is rarely FD.
-fn is_mark(a: u8, b: u8, c: u8) -> bool
-    ensures { λ r. ⌜ r ≡ mark a b c ⌝ }
+// The byte at i ends FF FF FD; `before` stands right before the bytes. The last byte is tested first: it is rarely FD.
+fn ends_mark(before: u8, bytes: &[u8], i: usize) -> bool
+    requires { ⌜ i < length (now bytes) ⌝ }
+    ensures { λ r. ⌜ r ≡ markAt before (now (bytes .entry)) i ⌝ }
 {
-    if c != 0xFD {
+    if bytes[i] != 0xFD {
         return false;
     }
-    if b != 0xFF {
+    if i == 0 {
         return false;
     }
-    a == 0xFF
+    if bytes[i - 1] != 0xFF {
+        return false;
+    }
+    if i == 1 {
+        return before == 0xFF;
+    }
+    bytes[i - 2] == 0xFF
 }
 
 // The stuffing test: every FF FF FD is followed by FD within the body.
 pub fn check(body: &[u8]) -> Checked
     ensures { λ r. ⌜ r ≡ checked (now (body .entry)) ⌝ }
 {
-    let mut a = 0;
-    let mut b = 0;
-    let mut c = 0;
     let mut n = 0;
     let mut i = 0;
     while i < body.len() {
-        let d = body[i];
-        if is_mark(a, b, c) {
-            if d != 0xFD {
+        if ends_mark(0, body, i) {
+            i += 1;
+            if body.len() <= i {
                 return Checked::Bad;
             }
-        } else {
-            n += 1;
+            if body[i] != 0xFD {
+                return Checked::Bad;
+            }
         }
-        a = b;
-        b = c;
-        c = d;
+        n += 1;
         i += 1;
     }
-    if is_mark(a, b, c) {
-        Checked::Bad
-    } else {
-        Checked::Good(n)
-    }
+    Checked::Good(n)
 }
 
 // The body without its stuffing at the start of out, which has room for it.
 fn write_unstuffed(body: &[u8], out: &mut [u8])
-    requires { ⌜ length (unstuff (now body)) ≤ length (now out) ⌝ }
+    requires { ⌜ (wellStuffed (now body) ≡ true) × (length (unstuff (now body)) ≤ length (now out)) ⌝ }
     ensures { λ _. ⌜ now (out .exit) ≡ overwritten (now (out .entry)) (unstuff (now (body .entry))) ⌝ }
 {
-    let mut a = 0;
-    let mut b = 0;
-    let mut c = 0;
     let mut j = 0;
     let mut i = 0;
     while i < body.len() {
-        let d = body[i];
-        if !is_mark(a, b, c) {
-            out[j] = d;
-            j += 1;
+        out[j] = body[i];
+        j += 1;
+        if ends_mark(0, body, i) {
+            i += 1;
         }
-        a = b;
-        b = c;
-        c = d;
         i += 1;
     }
 }
@@ -113,24 +106,19 @@ pub fn unstuff_into(body: &[u8], out: &mut [u8]) -> Unstuffed
 pub fn stuffed_len(first: u8, rest: &[u8], most: usize) -> Length
     ensures { λ r. ⌜ r ≡ lengthWithin most (length (stuff (first ∷ now (rest .entry)))) ⌝ }
 {
-    let mut a = 0;
-    let mut b = first;
     let mut n = 1;
     let mut i = 0;
     while i < rest.len() {
         if most <= n {
             return Length::Past;
         }
-        let c = rest[i];
         n += 1;
-        if is_mark(a, b, c) {
+        if ends_mark(first, rest, i) {
             if most <= n {
                 return Length::Past;
             }
             n += 1;
         }
-        a = b;
-        b = c;
         i += 1;
     }
     if n <= most {
@@ -150,26 +138,21 @@ pub fn write_stuffed(first: u8, rest: &[u8], out: &mut [u8]) -> usize
         return 0;
     }
     out[0] = first;
-    let mut a = 0;
-    let mut b = first;
     let mut j = 1;
     let mut i = 0;
     while i < rest.len() {
         if out.len() <= j {
             return j;
         }
-        let c = rest[i];
-        out[j] = c;
+        out[j] = rest[i];
         j += 1;
-        if is_mark(a, b, c) {
+        if ends_mark(first, rest, i) {
             if out.len() <= j {
                 return j;
             }
             out[j] = 0xFD;
             j += 1;
         }
-        a = b;
-        b = c;
         i += 1;
     }
     j

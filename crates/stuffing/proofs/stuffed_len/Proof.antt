@@ -5,18 +5,18 @@ use Prim.Native.Nat.{ℕ, _+_, _-_, _≤_, _<_}
 use native.Mathlib.Omega.{arith}
 use lib.ListN.{length, getD, drop}
 use borrow.Author.Tests.{le-leb, lt-leb}
-use Rattle.stuffing.specs.Stuffing.{mark, stuffAfter, stuff}
-use Rattle.stuffing.proofs.Turns.{stuff-plain, stuff-marked, stuff-some, stuff-end}
+use Rattle.stuffing.specs.Stuffing.{stuffAfter, stuff}
+use Rattle.stuffing.proofs.Turns.{stuffedAt, stuff-plain, stuff-marked, stuff-some, stuff-end}
 use borrow.Author.Needs.{needs}
 use Rattle.stuffing.proofs.stuffed_len.Statement.{statement}
 use Rattle.stuffing.proofs.stuffed_len.Tie as tie
 
 abbrev Inv-loop : tie.InvT-loop
-Inv-loop first rest most a₀ b₀ n₀ i₀ a b n i =
-    (i ≤ length rest) × (n + length (stuffAfter a b (drop i rest)) ≡ length (stuff (first ∷ rest)))
+Inv-loop first rest most n₀ i₀ n i =
+    (i ≤ length rest) × (n + length (stuffedAt first rest i) ≡ length (stuff (first ∷ rest)))
 
 abbrev μ-loop : tie.MeasureT-loop
-μ-loop first rest most a₀ b₀ n₀ i₀ a b n i = length rest - i
+μ-loop first rest most n₀ i₀ n i = length rest - i
 
 loop-holds : tie.Need-loop-holds Inv-loop μ-loop
 unfolding stuffAfter
@@ -27,24 +27,21 @@ returns c =
     let h = c .before .before .loop in
     let a = c .before .before .before .before .args in
     simp (lt-leb (length (stuff (a .first ∷ a .rest .now))) (a .most)
-    (omega (arith, stuff-some (h .a) (h .b) (a .rest .now) (h .i) (c .before .loop-test .taken))))
-
-shared-slice-read-c : tie.Need-shared-slice-read-c Inv-loop μ-loop
-shared-slice-read-c c = search needs
+    (omega (arith, stuff-some (a .first) (a .rest .now) (h .i) (c .before .loop-test .taken))))
 
 add-n : tie.Need-add-n Inv-loop μ-loop
 add-n c = search needs
 
-is-mark-requires : tie.Need-is-mark-requires Inv-loop μ-loop
-is-mark-requires c κs = search needs
+ends-mark-requires : tie.Need-ends-mark-requires Inv-loop μ-loop
+ends-mark-requires c κs = search needs
 
 returns-2 : tie.Need-returns-2 Inv-loop μ-loop
 returns-2 c =
-    let h = c .before .before .before .before .before .before .loop in
-    let a = c .before .before .before .before .before .before .before .before .args in
-    let e = sym (c .before .before .is-mark .ensures) ∙ c .before .if2 .taken in
+    let p = c .before .before .before .before .before in
+    let a = p .before .before .args in
+    let e = sym (c .before .before .ends-mark .ensures) ∙ c .before .if2 .taken in
     simp (lt-leb (length (stuff (a .first ∷ a .rest .now))) (a .most)
-    (omega (arith, ap length (stuff-marked (h .a) (h .b) (a .rest .now) (h .i) e (c .before .before .before .before .before .loop-test .taken)))))
+    (omega (arith, ap length (stuff-marked (a .first) (a .rest .now) (p .loop .i) e (c .before .before .before .before .loop-test .taken)))))
 
 add-n-2 : tie.Need-add-n-2 Inv-loop μ-loop
 add-n-2 c = search needs
@@ -57,13 +54,14 @@ loop-less c = search needs
 
 loop-again : tie.Need-loop-again Inv-loop μ-loop
 loop-again c =
-    let h = c .before .before .before .before .before .loop in
-    let s = c .before .before .before .before .before .before .before .args .rest .now in
-    let t = c .before .before .before .before .loop-test .taken in
-    let m = c .before .is-mark .ensures in
+    let p = c .before .before .before .before in
+    let h = p .loop in
+    let a = p .before .before .args in
+    let t = c .before .before .before .loop-test .taken in
+    let m = c .before .ends-mark .ensures in
     ⊎-elim
-    (λ w. (search needs, omega (arith, ap length (stuff-marked (h .a) (h .b) s (h .i) (sym m ∙ w .0 .taken) t))))
-    (λ w. (search needs, omega (arith, ap length (stuff-plain (h .a) (h .b) s (h .i) (sym m ∙ w .0 .left) t))))
+    (λ w. (search needs, omega (arith, ap length (stuff-marked (a .first) (a .rest .now) (h .i) (sym m ∙ w .0 .taken) t))))
+    (λ w. (search needs, omega (arith, ap length (stuff-plain (a .first) (a .rest .now) (h .i) (sym m ∙ w .0 .left) t))))
     (c .if2 .came)
 
 returns-3 : tie.Need-returns-3 Inv-loop μ-loop
@@ -71,7 +69,7 @@ returns-3 c =
     let h = c .before .before .loop in
     let a = c .before .before .before .before .args in
     let n : length (stuff (a .first ∷ a .rest .now)) ≡ h .n =
-    omega (arith, ap length (stuff-end (h .a) (h .b) (a .rest .now) (h .i) (c .before .loop-test .left))) in
+    omega (arith, ap length (stuff-end (a .first) (a .rest .now) (h .i) (c .before .loop-test .left))) in
     rw (n, le-leb (h .n) (a .most) (c .if4 .taken))
 
 returns-4 : tie.Need-returns-4 Inv-loop μ-loop
@@ -79,7 +77,7 @@ returns-4 c =
     let h = c .before .before .loop in
     let a = c .before .before .before .before .args in
     let n : length (stuff (a .first ∷ a .rest .now)) ≡ h .n =
-    omega (arith, ap length (stuff-end (h .a) (h .b) (a .rest .now) (h .i) (c .before .loop-test .left))) in
+    omega (arith, ap length (stuff-end (a .first) (a .rest .now) (h .i) (c .before .loop-test .left))) in
     rw (n, lt-leb (h .n) (a .most) (c .if4 .left))
 
 pub stuffed-len-spec : {M : Type 1} → statement M
@@ -90,9 +88,8 @@ stuffed-len-spec =
     μ-loop
     loop-holds
     returns
-    shared-slice-read-c
     add-n
-    is-mark-requires
+    ends-mark-requires
     returns-2
     add-n-2
     add-i

@@ -38,7 +38,7 @@ write-unstuffed-requires : tie.Need-write-unstuffed-requires
 write-unstuffed-requires c κs =
     let a = c .before .before .before .before .before .before .before .before .args in
     let g = checked-good (a .body .now) _ (sym (c .before .before .before .before .before .check .ensures) ∙ c .before .before .before .n .given .1) in
-    omega arith
+    (g .0, omega arith)
 
 same-length : tie.Need-same-length
 same-length c = search needs

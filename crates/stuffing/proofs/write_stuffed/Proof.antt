@@ -8,18 +8,18 @@ use lib.ListN.{length, take, drop, getD, set, length-set}
 use borrow.Author.Tests.{not-true, not-false}
 use Rattle.lists.specs.Write.{overwritten}
 use Rattle.lists.proofs.Filling.{Filling, fill-first, fill-next, fill-length, filled-all, filled-room}
-use Rattle.stuffing.specs.Stuffing.{mark, stuffAfter, stuff}
-use Rattle.stuffing.proofs.Turns.{stuff-end, put-plain, put-marked}
+use Rattle.stuffing.specs.Stuffing.{stuffAfter, stuff}
+use Rattle.stuffing.proofs.Turns.{stuffedAt, stuff-end, put-plain, put-marked}
 use borrow.Author.Needs.{needs}
 use Rattle.stuffing.proofs.write_stuffed.Statement.{statement}
 use Rattle.stuffing.proofs.write_stuffed.Tie as tie
 
 abbrev Inv-loop : tie.InvT-loop
-Inv-loop first rest out₀ a₀ b₀ j₀ i₀ out a b j i =
-    (i ≤ length rest) × Filling (stuff (first ∷ rest)) out₀ out j (stuffAfter a b (drop i rest))
+Inv-loop first rest out₀ j₀ i₀ out j i =
+    (i ≤ length rest) × Filling (stuff (first ∷ rest)) out₀ out j (stuffedAt first rest i)
 
 abbrev μ-loop : tie.MeasureT-loop
-μ-loop first rest out₀ a₀ b₀ j₀ i₀ out a b j i = length rest - i
+μ-loop first rest out₀ j₀ i₀ out j i = length rest - i
 
 empty : (old new : List ℕ) → length old ≡ 0 → (0 ≡ min (length old) (length new)) × (old ≡ overwritten old (take (length old) new))
 empty [] new e = (omega arith, refl)
@@ -62,8 +62,8 @@ returns-2 c =
     (omega (arith, kept p, c .if2 .taken)) (some p) in
     (r .written, r .holds)
 
-shared-slice-read-c : tie.Need-shared-slice-read-c Inv-loop μ-loop
-shared-slice-read-c c = search needs
+shared-slice-read-out : tie.Need-shared-slice-read-out Inv-loop μ-loop
+shared-slice-read-out c = search needs
 
 slice-write-out-2 : tie.Need-slice-write-out-2 Inv-loop μ-loop
 slice-write-out-2 c = c .before .if2 .left
@@ -73,8 +73,8 @@ add-j c =
     let l = kept (c .before .before .before) in
     omega (arith, c .before .if2 .left)
 
-is-mark-requires : tie.Need-is-mark-requires Inv-loop μ-loop
-is-mark-requires c κs = search needs
+ends-mark-requires : tie.Need-ends-mark-requires Inv-loop μ-loop
+ends-mark-requires c κs = search needs
 
 same-length-2 : tie.Need-same-length-2 Inv-loop μ-loop
 same-length-2 c =
@@ -86,8 +86,8 @@ returns-3 c =
     let p = c .before .before .before .before .before .before in
     let a = p .before .before .before .before .args in
     let h = p .loop in
-    let m = sym (c .before .before .is-mark .ensures) ∙ c .before .if3 .taken in
-    let f = put-marked (h .a) (h .b) (a .rest .now) (h .i) _ _ (h .out) (h .j) (c .before .before .before .before .before .loop-test .taken) (h .inv .1)
+    let m = sym (c .before .before .ends-mark .ensures) ∙ c .before .if3 .taken in
+    let f = put-marked (a .first) (a .rest .now) (h .i) _ _ (h .out) (h .j) (c .before .before .before .before .before .loop-test .taken) (h .inv .1)
     (simp (length-set) (omega (arith, kept p, c .before .before .before .before .if2 .left))) m in
     let r =
     filled-room (stuff (a .first ∷ a .rest .now)) (a .out .now) _ (a .first) (h .j + 1) _ f
@@ -114,20 +114,20 @@ loop-again c =
     let a = p .before .before .before .before .args in
     let h = p .loop in
     let t = c .before .before .before .before .loop-test .taken in
-    let m = c .before .is-mark .ensures in
+    let m = c .before .ends-mark .ensures in
     let room : h .j < length (set (a .out .now) 0 (a .first)) = simp length-set (omega (arith, kept p, c .before .before .before .if2 .left)) in
     ⊎-elim
     (λ w. (
       search needs,
       rw (w .2, w .3)
           (fill-next _ _ _ (h .j + 1) 0xFD _
-          (put-marked (h .a) (h .b) (a .rest .now) (h .i) _ _ (h .out) (h .j) t (h .inv .1) room (sym m ∙ w .0 .taken))
+          (put-marked (a .first) (a .rest .now) (h .i) _ _ (h .out) (h .j) t (h .inv .1) room (sym m ∙ w .0 .taken))
           (simp length-set (omega (arith, kept p, length-set (h .out) (h .j) (getD (a .rest .now) (h .i) 0), w .1 .left)))),
     ))
     (λ w. (
       search needs,
       rw (w .1, w .2)
-          (put-plain (h .a) (h .b) (a .rest .now) (h .i) _ _ (h .out) (h .j) t (h .inv .1) room (sym m ∙ w .0 .left)),
+          (put-plain (a .first) (a .rest .now) (h .i) _ _ (h .out) (h .j) t (h .inv .1) room (sym m ∙ w .0 .left)),
     ))
     (c .if3 .came)
 
@@ -141,7 +141,7 @@ returns-4 c =
     let h = p .loop in
     let r =
     filled-all (stuff (a .first ∷ a .rest .now)) (a .out .now) (h .out) (a .first) (h .j)
-    (rw (stuff-end (h .a) (h .b) (a .rest .now) (h .i) (c .loop-test .left)) at (h .inv .1)) (stuffed-some (a .first) (a .rest .now)) in
+    (rw (stuff-end (a .first) (a .rest .now) (h .i) (c .loop-test .left)) at (h .inv .1)) (stuffed-some (a .first) (a .rest .now)) in
     (r .written, r .holds)
 
 pub write-stuffed-spec : {M : Type 1} → statement M
@@ -155,10 +155,10 @@ write-stuffed-spec =
     loop-holds
     same-length
     returns-2
-    shared-slice-read-c
+    shared-slice-read-out
     slice-write-out-2
     add-j
-    is-mark-requires
+    ends-mark-requires
     same-length-2
     returns-3
     slice-write-out-3

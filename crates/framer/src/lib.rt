@@ -4,6 +4,7 @@ mod buffer;
 use packet::Verdict;
 ghost use mathlib.Core.Path.{_≡_};
 ghost use mathlib.Core.List.{[], _∷_, _++_};
+ghost use mathlib.Core.Logic.{_⊎_};
 ghost use Prim.Native.Nat.{_+_, _-_, _≤_, _<_};
 ghost use lib.ListN.{length, take, drop, replicate};
 ghost use Rattle.reading.specs.Reading.{closed};
@@ -67,6 +68,12 @@ fn least(a: usize, b: usize) -> usize
     if a < b { a } else { b }
 }
 
+fn greatest(a: usize, b: usize) -> usize
+    ensures { λ r. ⌜ (a ≤ r) × (b ≤ r) × ((r ≡ a) ⊎ (r ≡ b)) ⌝ }
+{
+    if a < b { b } else { a }
+}
+
 // The bytes of s from `from` on, offset by offset; a waiting offset is passed once the segment is closed. At the end the rules
 // say how many bytes a packet has at least, so that as many can be taken.
 fn scan(s: &[u8], from: usize, live: bool) -> Sight
@@ -104,8 +111,8 @@ fn windowed(seen: Sight, end: usize, taken: usize, stop: Stop) -> Window
     }
 }
 
-// The chunk's bytes from `from` on, where none are held: as many are looked at as decide an event, and no more. A packet has at
-// least 10.
+// The chunk's bytes from `from` on, where none are held. Each offset is judged once, by all the bytes that follow; what is taken
+// are those that settle the offsets up to the event.
 fn advance(chunk: &[u8], from: usize) -> Window
     requires { ⌜ from ≤ length (now chunk) ⌝ }
     ensures { λ r. ⌜ (from ≤ r .end) × (r .end ≤ length (now (chunk .entry)))
@@ -113,21 +120,27 @@ fn advance(chunk: &[u8], from: usize) -> Window
 {
     let mut at = from;
     let mut end = from;
-    let mut lacks = 10;
-    while end < chunk.len() {
-        end += least(lacks, chunk.len() - end);
-        let seen = scan(&chunk[..end], at, true);
-        let Sight::Waiting {
-            at: next,
-            lacks: more,
-        } = seen
-        else {
-            return windowed(seen, end, end, Stop::Done);
-        };
-        at = next;
-        lacks = more;
+    while at < chunk.len() {
+        match packet::judge(chunk, at) {
+            Verdict::Packet(count) => {
+                let last = greatest(end, at + count);
+                return windowed(Sight::Packet { at, count }, last, last, Stop::Done);
+            }
+            Verdict::BadChecksum(id) => {
+                let last = greatest(end, at + packet::settled(chunk, at));
+                return windowed(Sight::BadChecksum { at, id }, last, last, Stop::Done);
+            }
+            Verdict::Waiting(lacks) => {
+                let all = chunk.len();
+                return windowed(Sight::Waiting { at, lacks }, all, all, Stop::Done);
+            }
+            Verdict::Nothing => {}
+        }
+        end = greatest(end, at + packet::settled(chunk, at));
+        at += 1;
     }
-    windowed(Sight::Waiting { at, lacks }, end, end, Stop::Done)
+    let all = chunk.len();
+    windowed(Sight::Waiting { at, lacks: 1 }, all, all, Stop::Done)
 }
 
 // More bytes behind the window from `at` to `end`, which moves to the start where there is no room behind it. The answer is

@@ -7,15 +7,16 @@ use Prim.Native.Nat.{ℕ, _+_, _-_, _≤_, _<_}
 use native.Mathlib.Omega.{arith}
 use lib.Dec.{leb, ltb, eqb}
 use lib.ListN.{length, take, drop, getD, length-append, take-append-drop, List·getD-append}
-use lib.Seq.{take-append-le, take-length, length-take-le, getD-take}
+use lib.Seq.{take-all, take-append-le, take-length, length-take-le, getD-take}
 use borrow.Author.Tests.{leb-true, leb-false, ltb-true, ltb-false, eqb-true, eq-eqb}
 use Rattle.lists.proofs.Bools.{and-left, and-right, contrary, both-ways}
-use Rattle.reading.specs.Rules.{Laws, Undecided, isPacket, isWaiting, isNothing, Verdict as Ruling}
+use Rattle.reading.specs.Rules.{Laws, Undecided, isPacket, isBadChecksum, isWaiting, isNothing, Verdict as Ruling}
+use Rattle.reading.specs.Progress.{Settles}
 use Rattle.stuffing.specs.Stuffing.{wellStuffed}
 use Rattle.packet.specs.Packet.{goodId, idOf, lengthOf, bodyOf, checksumRight, WellFormed}
-use Rattle.packet.specs.Verdict.{soFar, frontAgrees, lengthAgrees, sizeOf, complete, ruling, verdict, lacks, protocol2}
+use Rattle.packet.specs.Verdict.{soFar, frontAgrees, lengthAgrees, sizeOf, complete, ruling, verdict, lacks, begunAs, settledAs, settledBy, protocol2}
 use Rattle.packet.proofs.Lists.{four-taken}
-use Rattle.packet.proofs.Rulings.{disagrees, waits, whole, both, length-good, incomplete-early, incomplete, completes, lacks-early, lacks-late}
+use Rattle.packet.proofs.Rulings.{disagrees, waits, whole, both, length-good, incomplete-early, incomplete, completes, has-field, has-all, lacks-early, lacks-late}
 use Rattle.packet.proofs.Agreement.{passes, passed, front-header, front-tests, front-agrees, front-before, front-same, size-same, length-same, length-before, length-bounds}
 
 abbrev agrees : List ℕ → Bool
@@ -33,14 +34,6 @@ agrees-same a b h = cc (front-same a b (omega arith), length-same a b h)
 
 disagrees-still : (a b : List ℕ) → agrees a ≡ false → agrees (a ++ b) ≡ false
 disagrees-still a b e = contrary (agrees (a ++ b)) (agrees a) (agrees-before a b) e
-
--- a packet whose bytes are all there: its field is there, its size is 10 to 1,031, and it has that many bytes
-module _ (s : List ℕ) (c : complete s ≡ true) where
-  has-field : 7 ≤ length s
-  has-field = leb-true 7 (length s) (and-left (leb 7 (length s)) (leb (sizeOf s) (length s)) c)
-
-  has-all : sizeOf s ≤ length s
-  has-all = leb-true (sizeOf s) (length s) (and-right (leb 7 (length s)) (leb (sizeOf s) (length s)) c)
 
 -- one that is not complete
 not-complete : (s : List ℕ) → complete s ≡ false → 7 ≤ length s → length s < sizeOf s
@@ -240,3 +233,86 @@ none-waits = refl
 pub none-lacks : lacks [] ≡ 10
 unfolding lacks
 none-lacks = refl
+
+-- ---- the bytes that settle the verdict
+
+bad-only : (a c k t : Bool) (m i id : ℕ) → ruling a c k t m i ≡ isBadChecksum id → (a ≡ true) × (c ≡ true)
+bad-only false c k t m i id e = let z : _≡_ {A = ℕ} 0 1 = cc in absurd (omega arith)
+bad-only true false k t m i id e = let z : _≡_ {A = ℕ} 0 1 = cc in absurd (omega arith)
+bad-only true true false t m i id e = (refl, refl)
+bad-only true true true false m i id e = let z : _≡_ {A = ℕ} 0 1 = cc in absurd (omega arith)
+bad-only true true true true m i id e = let z : _≡_ {A = ℕ} 0 1 = cc in absurd (omega arith)
+
+module _ (s : List ℕ) where
+  settled-as : {a c : Bool} → agrees s ≡ a → complete s ≡ c → settledBy s ≡ settledAs (begunAs a c (lacks s) (sizeOf s))
+  settled-as i j = ap₂ (λ (a c : Bool). settledAs (begunAs a c (lacks s) (sizeOf s))) i j
+
+  -- a packet by header, ID and length that is there, or none
+  by-tests : {A : Type 0} → (agrees s ≡ false → settledBy s ≡ 0 → A) → (verdict s ≡ isWaiting → settledBy s ≡ 0 → A)
+      → (agrees s ≡ true → complete s ≡ true → settledBy s ≡ sizeOf s → A) → A
+  by-tests {A} none waiting all = go (agrees s) (complete s) refl refl
+    where
+      go : (a c : Bool) → agrees s ≡ a → complete s ≡ c → A
+      go false c i j = none i (settled-as i j)
+      go true false i j = waiting (waits s i j) (settled-as i j)
+      go true true i j = all i j (settled-as i j)
+
+  all-settle : agrees s ≡ true → complete s ≡ true → (settledBy s ≡ sizeOf s) × (10 ≤ sizeOf s)
+  all-settle i j =
+      let b = length-bounds s (and-right (frontAgrees s) (lengthAgrees s) i) (has-field s j) in
+      (settled-as i j, omega arith)
+
+  there : settledBy s ≤ length s
+  there = by-tests (λ i z. omega (arith, z)) (λ w z. omega (arith, z)) (λ i j z. omega (arith, z, has-all s j))
+
+  of-packet : (n : ℕ) → verdict s ≡ isPacket n → (settledBy s ≡ n) × (lacks [] ≤ n)
+  unfolding verdict
+  of-packet n e =
+      let r = packet-only (agrees s) (complete s) _ _ _ _ n e in
+      let a = all-settle (r .0) (r .1) in
+      (a .0 ∙ r .4, omega (arith, a .1, r .4, none-lacks))
+
+  of-bad : (id : ℕ) → verdict s ≡ isBadChecksum id → lacks [] ≤ settledBy s
+  unfolding verdict
+  of-bad id e =
+      let r = bad-only (agrees s) (complete s) _ _ _ _ id e in
+      let a = all-settle (r .0) (r .1) in
+      omega (arith, a .0, a .1, none-lacks)
+
+  module _ (k : ℕ) where
+    parts : take k s ++ drop k s ≡ s
+    parts = take-append-drop k s
+
+    part-size : 7 ≤ length (take k s) → sizeOf (take k s) ≡ sizeOf s
+    part-size h = sym (size-same (take k s) (drop k s) h) ∙ ap sizeOf parts
+
+    sooner : k < settledBy s → verdict (take k s) ≡ isWaiting
+    sooner h =
+        by-tests (λ i z. absurd (omega (arith, z))) (λ w z. absurd (omega (arith, z)))
+        (λ i j z.
+        let l : length (take k s) ≡ k = length-take-le k s (omega (arith, z, has-all s j)) in
+        waits (take k s) (agrees-before (take k s) (drop k s) (ap agrees parts ∙ i))
+        (early-or-late (take k s) (λ e. incomplete-early (take k s) e)
+        (λ e. incomplete (take k s) e (omega (arith, l, part-size e, z)))))
+
+    -- where not all bytes are taken
+    enough-part : length (take k s) ≡ k → ¬ (verdict s ≡ isWaiting) → settledBy s ≤ k → 10 ≤ k → verdict (take k s) ≡ verdict s
+    enough-part l w h m =
+        by-tests
+        (λ i z. disagrees (take k s) (sym (agrees-same (take k s) (drop k s) (omega arith)) ∙ ap agrees parts ∙ i) ∙ sym (disagrees s i))
+        (λ e z. absurd (w e))
+        (λ i j z.
+        let c : complete (take k s) ≡ true =
+        completes (take k s) (omega arith) (omega (arith, l, z, part-size (omega arith))) in
+        sym (stays (take k s) (drop k s) (λ e. both-ways (complete (take k s)) c (waits-by (take k s) e .1))) ∙ ap verdict parts)
+
+    enough : ¬ (verdict s ≡ isWaiting) → settledBy s ≤ k → lacks [] ≤ k → verdict (take k s) ≡ verdict s
+    enough w h m = go (leb (length s) k) refl
+      where
+        go : (x : Bool) → leb (length s) k ≡ x → verdict (take k s) ≡ verdict s
+        go true l = ap verdict (take-all k s (leb-true (length s) k l))
+        go false l =
+            enough-part (length-take-le k s (omega (arith, leb-false (length s) k l))) w h (omega (arith, m, none-lacks))
+
+pub settles : Settles protocol2 settledBy
+settles = record { there = there; sooner = sooner; enough = enough; of-packet = of-packet; of-bad = of-bad }

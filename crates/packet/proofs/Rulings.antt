@@ -7,7 +7,8 @@ use lib.Dec.{leb, ltb}
 use lib.ListN.{length, take}
 use lib.Seq.{length-take-le, getD-take}
 use native.Mathlib.Omega.{arith}
-use borrow.Author.Tests.{lt-ltb, le-ltb, le-leb, lt-leb}
+use borrow.Author.Tests.{leb-true, lt-ltb, le-ltb, le-leb, lt-leb}
+use Rattle.lists.proofs.Bools.{and-left, and-right}
 use Rattle.reading.specs.Rules.{isWaiting, isNothing, Verdict as Ruling}
 use Rattle.stuffing.specs.Stuffing.{wellStuffed}
 use Rattle.packet.specs.Packet.{lengthOf, bodyOf, checksumRight, idOf}
@@ -89,3 +90,11 @@ module _ (s : List ℕ) where
       (getD-take (sizeOf s) s 4 0 (omega arith))
       ∙ same-answer sumGood stuffingGood (sizeOf s) (idOf s) (lacks s)
       ∙ ap (λ (v : Ruling). answerFor v (lacks s)) (sym (whole (both f (length-good h k l)) (completes h c)))
+
+-- a packet whose bytes are all there: its field is there, and it has as many bytes as its size
+module _ (s : List ℕ) (c : complete s ≡ true) where
+  pub has-field : 7 ≤ length s
+  has-field = leb-true 7 (length s) (and-left (leb 7 (length s)) (leb (sizeOf s) (length s)) c)
+
+  pub has-all : sizeOf s ≤ length s
+  has-all = leb-true (sizeOf s) (length s) (and-right (leb 7 (length s)) (leb (sizeOf s) (length s)) c)

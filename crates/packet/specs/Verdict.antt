@@ -11,6 +11,9 @@ use Rattle.stuffing.specs.Stuffing.{wellStuffed}
 use Rattle.packet.specs.Packet.{goodId, idOf, lengthOf, bodyOf, checksumRight, WellFormed}
 use Rattle.packet.specs.declared.Verdict.{Verdict}
 use Rattle.packet.specs.declared.Verdict.the-variants.{Packet, BadChecksum, Waiting, Nothing}
+use Rattle.packet.specs.declared.Begun.{Begun}
+use Rattle.packet.specs.declared.Begun.the-variants.{Whole}
+use Rattle.packet.specs.declared.Begun.the-variants.{Nothing as Nothing·begun, Waiting as Waiting·begun}
 
 -- byte i passes the test, if it is there
 abbrev pub soFar : List ℕ → ℕ → (ℕ → Bool) → Bool
@@ -49,6 +52,24 @@ verdict s =
 -- how many bytes a waiting offset surely lacks: the shortest packet has 10, until the length field is there
 unfoldable pub lacks : List ℕ → ℕ
 lacks s = cond (ltb (length s) 7) (10 - length s) (sizeOf s - length s)
+
+-- what header, ID and length field say, as the code has it
+abbrev pub begunAs : Bool → Bool → ℕ → ℕ → Begun
+begunAs false c k n = Nothing·begun
+begunAs true false k n = Waiting·begun k
+begunAs true true k n = Whole n
+
+abbrev pub begunBy : List ℕ → Begun
+begunBy s = begunAs (frontAgrees s && lengthAgrees s) (complete s) (lacks s) (sizeOf s)
+
+-- how many bytes settle the verdict: all of the packet, where they are there; 0 where none begins, or some are missing
+abbrev pub settledAs : Begun → ℕ
+settledAs Nothing·begun = 0
+settledAs (Waiting·begun k) = 0
+settledAs (Whole n) = n
+
+abbrev pub settledBy : List ℕ → ℕ
+settledBy s = settledAs (begunBy s)
 
 -- the rules of Protocol 2.0
 abbrev pub protocol2 : Rules

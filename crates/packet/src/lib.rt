@@ -14,7 +14,7 @@ ghost use Rattle.stuffing.specs.Stuffing.{stuff};
 ghost use Rattle.stuffing.specs.Answers.{unstuffedAnswer, removalAnswer, removalOut};
 ghost use Rattle.packet.specs.Packet.{header, goodId, bodyOf, front, withChecksum, packetOf};
 ghost use Rattle.packet.specs.Packet.{word as Packet·word};
-ghost use Rattle.packet.specs.Verdict.{soFar, frontAgrees, verdict, lacks, answerFor, wholeAnswer};
+ghost use Rattle.packet.specs.Verdict.{soFar, frontAgrees, verdict, lacks, begunBy, settledBy, answerFor, wholeAnswer};
 ghost use Rattle.packet.specs.Encoding.{encodedAnswer, encodeAnswer, encodeOut};
 
 // What the bytes from an offset on are, while the segment is open.
@@ -26,6 +26,14 @@ pub enum Verdict {
     // a beginning that surely lacks so many bytes
     Waiting(usize),
     Nothing,
+}
+
+// Bytes that begin no packet, by header, ID and length field; that begin one and surely lack so many bytes; that have all its
+// bytes, so many.
+pub enum Begun {
+    Nothing,
+    Waiting(usize),
+    Whole(usize),
 }
 
 // The packet's byte count, or a refusal.
@@ -136,29 +144,40 @@ fn judge_whole(packet: &[u8]) -> Verdict
     Verdict::Packet(n)
 }
 
+// What header, ID and length field say of the bytes from the slice's start on.
+fn look(s: &[u8]) -> Begun
+    ensures { λ r. ⌜ r ≡ begunBy (now (s .entry)) ⌝ }
+{
+    if !front_agrees(s) {
+        return Begun::Nothing;
+    }
+    let n = s.len();
+    if n < 7 {
+        return Begun::Waiting(10 - n);
+    }
+    let length = word(s[5], s[6]);
+    if length < 3 {
+        return Begun::Nothing;
+    }
+    if 1024 < length {
+        return Begun::Nothing;
+    }
+    let size = 7 + length;
+    if n < size {
+        return Begun::Waiting(size - n);
+    }
+    Begun::Whole(size)
+}
+
 // The verdict on the bytes from the slice's start on.
 fn judge_start(s: &[u8]) -> Verdict
     ensures { λ r. ⌜ r ≡ answerFor (verdict (now (s .entry))) (lacks (now (s .entry))) ⌝ }
 {
-    if !front_agrees(s) {
-        return Verdict::Nothing;
+    match look(s) {
+        Begun::Nothing => Verdict::Nothing,
+        Begun::Waiting(lacks) => Verdict::Waiting(lacks),
+        Begun::Whole(size) => judge_whole(&s[..size]),
     }
-    let n = s.len();
-    if n < 7 {
-        return Verdict::Waiting(10 - n);
-    }
-    let length = word(s[5], s[6]);
-    if length < 3 {
-        return Verdict::Nothing;
-    }
-    if 1024 < length {
-        return Verdict::Nothing;
-    }
-    let size = 7 + length;
-    if n < size {
-        return Verdict::Waiting(size - n);
-    }
-    judge_whole(&s[..size])
 }
 
 // The verdict on the bytes of a segment from an offset on, while the segment is open; past its end there are none. The
@@ -170,6 +189,21 @@ pub fn judge(segment: &[u8], offset: usize) -> Verdict
         return judge_start(&segment[..0]);
     }
     judge_start(&segment[offset..])
+}
+
+// How many bytes settle the verdict on those from an offset on: all of a packet by header, ID and length that is there, and 0
+// where none is.
+pub fn settled(segment: &[u8], offset: usize) -> usize
+    ensures { λ r. ⌜ r ≡ settledBy (drop offset (now (segment .entry))) ⌝ }
+{
+    if segment.len() <= offset {
+        return 0;
+    }
+    match look(&segment[offset..]) {
+        Begun::Nothing => 0,
+        Begun::Waiting(_) => 0,
+        Begun::Whole(size) => size,
+    }
 }
 
 // Header, ID and length field at the start of out, for a stuffed body of n bytes.

@@ -5,3 +5,4 @@ pub mod Follows
 pub mod Fewest
 pub mod Held
 pub mod Progress
+pub mod Ahead

@@ -203,14 +203,15 @@ module _ (R : Rules) where
   pub patient-silent : (t : List ℕ) (k : ℕ) → Patient R t k → (u : List ℕ) × (first R open′ t ≡ silent u)
   patient-silent t k p = rw append-nil at (p .silent-while [] (p .some))
 
-  -- as many bytes as it waits for are taken in one go
+  -- bytes with fewer of which nothing is decided are taken in one go
+  pub reached-silent : (h s : List ℕ) (m : ℕ) → m ≤ length s
+      → ((k : ℕ) → k < m → (t : List ℕ) × (first R open′ (h ++ take k s) ≡ silent t)) → Reached R h s (h ++ take m s) m
+  reached-silent h s m l q = record { within = l; same = take-silent R m h s l q }
+
+  -- so are as many as it waits for
   pub reached-take : (h s t : List ℕ) (n m k : ℕ) → Reached R h s t n → Patient R t k → m ≤ k → n + m ≤ length s
       → Reached R h s (t ++ take m (drop n s)) (n + m)
   reached-take h s t n m k a p l fits =
       reached-more R h s t (t ++ take m (drop n s)) n m a
-      (record {
-        within = simp length-drop (omega arith);
-        same =
-            take-silent R m t (drop n s) (simp length-drop (omega arith))
-            (λ j i. p .silent-while (take j (drop n s)) (simp (length-take, length-drop) (omega arith)));
-      })
+      (reached-silent t (drop n s) m (simp length-drop (omega arith))
+      (λ j i. p .silent-while (take j (drop n s)) (simp (length-take, length-drop) (omega arith))))

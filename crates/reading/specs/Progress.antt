@@ -1,9 +1,9 @@
 -- A feeding call on its way, for code that takes many bytes at once and drops what it is past.
 use mathlib.Core.Path.{_≡_}
-use mathlib.Core.List.{List, _++_}
+use mathlib.Core.List.{List, [], _++_}
 use Prim.Native.Nat.{ℕ, _+_, _≤_, _<_}
-use lib.ListN.{length, drop}
-use Rattle.reading.specs.Rules.{Rules}
+use lib.ListN.{length, take, drop}
+use Rattle.reading.specs.Rules.{isPacket, isBadChecksum, isWaiting, Rules}
 use Rattle.reading.specs.Reading.{open′}
 use Rattle.reading.specs.Calls.{silent, first, Reply, fed}
 
@@ -22,3 +22,14 @@ pub record Patient (R : Rules) (t : List ℕ) (k : ℕ) : Type 0 where
   pub some : 0 < k
   pub room : length t + k ≤ R .longest
   pub silent-while : (x : List ℕ) → length x < k → (u : List ℕ) × (first R open′ (t ++ x) ≡ silent u)
+
+-- For code that looks ahead in a chunk: `settled s` bytes settle the verdict on s.
+pub record Settles (R : Rules) (settled : List ℕ → ℕ) : Type 0 where
+  -- they are there, and fewer of them wait
+  pub there : (s : List ℕ) → settled s ≤ length s
+  pub sooner : (s : List ℕ) (k : ℕ) → k < settled s → R .verdict (take k s) ≡ isWaiting
+  -- what does not wait is decided by them, where they are no fewer than any packet has
+  pub enough : (s : List ℕ) (k : ℕ) → ¬ (R .verdict s ≡ isWaiting) → settled s ≤ k → R .lacks [] ≤ k
+      → R .verdict (take k s) ≡ R .verdict s
+  pub of-packet : (s : List ℕ) (n : ℕ) → R .verdict s ≡ isPacket n → (settled s ≡ n) × (R .lacks [] ≤ n)
+  pub of-bad : (s : List ℕ) (id : ℕ) → R .verdict s ≡ isBadChecksum id → R .lacks [] ≤ settled s

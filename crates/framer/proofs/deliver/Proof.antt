@@ -53,7 +53,7 @@ shift-requires c κs = (
 )
 
 sub-stepped : tie.Need-sub-stepped
-sub-stepped c = on (c .before .before .before .before .before .before .before .before .before .before .before)
+sub-stepped c = omega (arith, on (c .before .before .before .before .before .before .before .before .before .before .before))
 
 stepped-requires : tie.Need-stepped-requires
 stepped-requires c κs = search needs

@@ -1,119 +1,55 @@
-use lib.Seq.{take-take}
-use Rattle.packet.proofs.Agreement.{front-tests, front-header}
-use mathlib.Core.Path.{_≡_, refl, sym, ap, ap₂, subst, _∙_}
-use mathlib.Core.Bool.{Bool, true, false, _&&_, and-false}
-use Prim.Native.Nat.{ℕ, _+_, _-_, _≤_}
-use native.Mathlib.Omega.{arith}
-use lib.ListN.{length, take, length-take}
-use borrow.Author.Tests.{not-true, not-false}
-use Rattle.packet.specs.Packet.{lengthOf}
-use Rattle.packet.specs.Verdict.{frontAgrees, lengthAgrees, sizeOf, wholeAnswer}
-use Rattle.packet.proofs.Rulings.{disagrees, waits, length-early, length-short, length-long, length-good, both, incomplete-early, incomplete, lacks-early, lacks-late, whole-answer}
 use borrow.Author.Needs.{needs}
+use mathlib.Core.Path.{_≡_, sym, _∙_}
+use Rattle.packet.proofs.Looks.{look-nothing, look-waiting, look-length, look-long, look-header, look-whole}
 use Rattle.packet.proofs.judge_start.Statement.{statement}
 use Rattle.packet.proofs.judge_start.Tie as tie
 
--- what is known once the length field has been read
-module _ (p : tie.After-word) where
-  agrees : frontAgrees (p .before .before .before .before .before .before .before .args .s .now) ≡ true
-  agrees = sym (p .before .before .before .before .before .front-agrees .ensures) ∙ not-false _ (p .before .before .before .before .if1 .left)
+look-requires : tie.Need-look-requires
+look-requires c κs = search needs
 
-  field : p .word .result ≡ lengthOf (p .before .before .before .before .before .before .before .args .s .now)
-  unfolding lengthOf
-  field = p .word .ensures
+enum-told : tie.Need-enum-told
+enum-told c = search needs
 
-front-agrees-requires : tie.Need-front-agrees-requires
-front-agrees-requires c κs = search needs
+enum-known-lacks : tie.Need-enum-known-lacks
+enum-known-lacks c = search needs
 
-returns : tie.Need-returns
-returns c =
-    let e : frontAgrees (c .before .before .before .args .s .now) ≡ false =
-    sym (c .before .front-agrees .ensures) ∙ not-true _ (c .if1 .taken) in
-    rw (disagrees (c .before .before .before .args .s .now) (rw e))
-
-sub-t7 : tie.Need-sub-t7
-sub-t7 c = search needs
-
-returns-2 : tie.Need-returns-2
-returns-2 c =
-    let s = c .before .before .before .before .args .s .now in
-    let e = sym (c .before .before .front-agrees .ensures) ∙ not-false _ (c .before .if1 .left) in
-    let h = c .if2 .taken in
-    rw (waits s (both s e (length-early s h)) (incomplete-early s h), lacks-early s h)
-
-shared-slice-read-word : tie.Need-shared-slice-read-word
-shared-slice-read-word c = search needs
-
-shared-slice-read-word-2 : tie.Need-shared-slice-read-word-2
-shared-slice-read-word-2 c = search needs
-
-word-requires : tie.Need-word-requires
-word-requires c κs = search needs
-
-returns-3 : tie.Need-returns-3
-returns-3 c =
-    let p = c .before in
-    let s = p .before .before .before .before .before .before .before .args .s .now in
-    let e = length-short s (p .before .before .before .if2 .left) (omega (arith, field p, c .if3 .taken)) in
-    rw (disagrees s (simp (e, and-false)))
-
-returns-4 : tie.Need-returns-4
-returns-4 c =
-    let p = c .before .before in
-    let s = p .before .before .before .before .before .before .before .args .s .now in
-    let e =
-    length-long s (p .before .before .before .if2 .left) (omega (arith, field p, c .before .if3 .left))
-    (omega (arith, field p, c .if4 .taken)) in
-    rw (disagrees s (simp (e, and-false)))
-
-add-size : tie.Need-add-size
-add-size c = search needs
-
-sub-t12 : tie.Need-sub-t12
-sub-t12 c = search needs
-
-returns-5 : tie.Need-returns-5
-returns-5 c =
-    let p = c .before .before .before in
-    let s = p .before .before .before .before .before .before .before .args .s .now in
-    let h = p .before .before .before .if2 .left in
-    let l = length-good s h (omega (arith, field p, c .before .before .if3 .left)) (omega (arith, field p, c .before .if4 .left)) in
-    rw (waits s (both s (agrees p) l) (incomplete s h (omega (arith, field p, c .if5 .taken))), lacks-late s h, field p)
+enum-known-size : tie.Need-enum-known-size
+enum-known-size c = search needs
 
 slice-aggregate-judge-whole : tie.Need-slice-aggregate-judge-whole
-slice-aggregate-judge-whole c = simp length-take (omega arith)
+slice-aggregate-judge-whole c =
+    let d = c .before .before in
+    sym (look-length (d .before .before .before .before .args .s .now) _ (sym (d .before .before .look .ensures) ∙ d .size .given .1))
 
 judge-whole-requires : tie.Need-judge-whole-requires
 judge-whole-requires c κs =
-    let p = c .before .before .before .before in
-    let s = p .before .before .before .before .before .before .before .args .s .now in
-    let h = p .before .before .before .if2 .left in
-    (simp length-take (omega arith), take-take 4 (7 + p .word .result) s (omega arith) ∙ front-header s (front-tests s (agrees p)) (omega arith))
+    let d = c .before .before in
+    let s = d .before .before .before .before .args .s .now in
+    let e = sym (d .before .before .look .ensures) ∙ d .size .given .1 in
+    (look-long s _ e, look-header s _ e)
 
-returns-6 : tie.Need-returns-6
-returns-6 c =
-    let p = c .before .before .before .before .before in
-    let s = p .before .before .before .before .before .before .before .args .s .now in
-    c .judge-whole .ensures ∙ ap (λ (n : ℕ). wholeAnswer (take (7 + n) s)) (field p)
-    ∙ whole-answer s (agrees p) (p .before .before .before .if2 .left) (omega (arith, field p, c .before .before .before .before .if3 .left))
-    (omega (arith, field p, c .before .before .before .if4 .left)) (omega (arith, field p, c .before .before .if5 .left))
+returns : tie.Need-returns
+returns c = look-nothing _ (sym (c .before .before .look .ensures) ∙ c .enum-told .given .1)
+
+returns-2 : tie.Need-returns-2
+returns-2 c = look-waiting _ _ (sym (c .before .before .before .look .ensures) ∙ c .before .lacks .given .1)
+
+returns-3 : tie.Need-returns-3
+returns-3 c =
+    let d = c .before .before .before in
+    c .judge-whole .ensures
+    ∙ look-whole (d .before .before .before .before .args .s .now) _ (sym (d .before .before .look .ensures) ∙ d .size .given .1)
 
 pub judge-start-spec : {M : Type 1} → statement M
 judge-start-spec =
     tie.close
     (tie.spec
-    front-agrees-requires
-    returns
-    sub-t7
-    returns-2
-    shared-slice-read-word
-    shared-slice-read-word-2
-    word-requires
-    returns-3
-    returns-4
-    add-size
-    sub-t12
-    returns-5
+    look-requires
+    enum-told
+    enum-known-lacks
+    enum-known-size
     slice-aggregate-judge-whole
     judge-whole-requires
-    returns-6)
+    returns
+    returns-2
+    returns-3)

@@ -109,7 +109,9 @@ rust_test: $(LIBS) build/bin/line
 SECONDS ?= 600
 FUZZ := build/rust/release/fuzz
 fuzz: fuzz_program
-	@$(FUZZ) --seconds '$(SECONDS)' $(if $(SEED),--seed '$(SEED)')
+	@$(FUZZ) --seconds '$(SECONDS)' $(if $(SEED),--seed '$(SEED)') || { status=$$?; \
+	    [ $$status -lt 128 ] || echo 'mednukals: the search crashed; $(FUZZ) with the options in build/fuzz/running-SEED.txt' \
+	        'prints the case for make replay' >&2; exit $$status; }
 
 replay: replay_file fuzz_program
 	@$(FUZZ) --replay '$(FILE)'

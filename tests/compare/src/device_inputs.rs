@@ -26,42 +26,45 @@ const SIDE_BY_SIDE: [(usize, usize); 3] = [(7, 2), (48, 8), (64, 2)];
 
 pub const INSTRUCTIONS: [u8; 9] = [0x01, 0x02, 0x03, 0x04, 0x05, 0x06, 0x08, 0x82, 0x83];
 
+/// The ends of the ranges, and numbers beside them.
+const ENDS: [i32; 29] = [
+    0,
+    1,
+    -1,
+    2,
+    3,
+    7,
+    8,
+    252,
+    253,
+    254,
+    255,
+    256,
+    330,
+    331,
+    -330,
+    -331,
+    4_094,
+    4_095,
+    4_096,
+    65_535,
+    65_536,
+    1_044_479,
+    1_044_480,
+    -1_044_479,
+    -1_044_480,
+    i32::MIN,
+    i32::MAX,
+    -4_095,
+    -256,
+];
+
 /// Numbers at the ends of the ranges and beside them; near the limits that the table has.
 pub fn value(rng: &mut Rng, table: &[u8]) -> i32 {
     let stored = |address: usize| i32::from_le_bytes(table[address..address + 4].try_into().unwrap());
     match rng.between(0, 4) {
         0 | 1 => rng.between(0, 4_095) as i32,
-        2 => rng.pick(&[
-            0,
-            1,
-            -1,
-            2,
-            3,
-            7,
-            8,
-            252,
-            253,
-            254,
-            255,
-            256,
-            330,
-            331,
-            -330,
-            -331,
-            4_094,
-            4_095,
-            4_096,
-            65_535,
-            65_536,
-            1_044_479,
-            1_044_480,
-            -1_044_479,
-            -1_044_480,
-            i32::MIN,
-            i32::MAX,
-            -4_095,
-            -256,
-        ]),
+        2 => rng.pick(&ENDS),
         3 => {
             let limit = stored(rng.pick(&[48, 52]));
             limit.wrapping_add(rng.pick(&[-1, 0, 0, 1]))

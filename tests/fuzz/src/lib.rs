@@ -3,6 +3,7 @@
 
 mod case;
 mod generate;
+mod mark;
 mod options;
 mod progress;
 mod replay;
@@ -13,6 +14,7 @@ mod text;
 
 pub use case::{Case, Operation};
 pub use generate::case;
+pub use mark::Mark;
 pub use options::{options, Command, HELP};
 pub use progress::Progress;
 pub use replay::{replay, Replayed};

@@ -1,5 +1,5 @@
 use compare::PROVED;
-use fuzz::{case, options, replay, search, write, Command, Found, Limit, Progress, Replayed, HELP};
+use fuzz::{case, options, replay, search, write, Command, Found, Limit, Mark, Progress, Replayed, HELP};
 use std::path::Path;
 use std::process::ExitCode;
 use std::time::{Duration, SystemTime, UNIX_EPOCH};
@@ -34,8 +34,8 @@ fn seed_of_the_clock() -> u64 {
 
 fn search_for(seconds: u64, seed: u64, folder: &Path) -> Result<u8, String> {
     println!("seed {seed}, {seconds} s");
-    let mut progress = Progress::new();
-    let (summary, report) = search(&PROVED, seed, Limit::Time(Duration::from_secs(seconds)), &mut progress);
+    let (mut progress, mark) = (Progress::new(), Mark::new(folder, seed)?);
+    let (summary, report) = search(&PROVED, seed, Limit::Time(Duration::from_secs(seconds)), &mut progress, Some(&mark));
     progress.end();
     let Some(report) = report else {
         println!("no difference: {summary}");

@@ -7,7 +7,7 @@ fuzz --seed S --case N                         print case N of the search with s
 fuzz --help                                    print this
 
 The seed decides all cases; without one the clock gives it, and it is printed. A search ends at the first difference and writes
-the case to DIR (default build/fuzz). Exit status: 0 no difference, 1 a difference, 2 an error.";
+the case to DIR (default build/fuzz). While it runs, running-S.txt there names the case under way. Exit status: 0 no difference, 1 a difference, 2 an error.";
 
 #[derive(Clone, PartialEq, Eq, Debug)]
 pub enum Command {

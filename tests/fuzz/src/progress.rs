@@ -26,22 +26,21 @@ impl Progress {
         }
         self.last = Instant::now();
         let text = format!("{summary}, {}", limit.left(summary));
-        if self.terminal {
-            // the rest of a longer line before is cleared
-            print!("\r{text}\x1b[K");
-        } else {
-            println!("{text}");
-        }
-        // a progress line that cannot be written is no reason to stop
-        let _ = stdout().flush();
+        // on a terminal the rest of a longer line before is cleared
+        put(&if self.terminal { format!("\r{text}\x1b[K") } else { format!("{text}\n") });
     }
 
     /// What is printed next begins on a line of its own.
     pub fn end(&self) {
         if self.terminal {
-            print!("\r\x1b[K");
+            put("\r\x1b[K");
         }
     }
+}
+
+/// Progress that nobody can read any more is no reason to stop.
+fn put(text: &str) {
+    let _ = stdout().write_all(text.as_bytes()).and_then(|()| stdout().flush());
 }
 
 impl Default for Progress {

@@ -1,4 +1,4 @@
-use crate::{case, run, shrink, write, Case, Found, Progress, Tally};
+use crate::{case, run, shrink, write, Case, Found, Mark, Progress, Tally};
 use compare::{Calls, Difference};
 use std::fmt;
 use std::panic::{catch_unwind, AssertUnwindSafe};
@@ -22,7 +22,7 @@ impl Limit {
 
     pub fn left(self, summary: &Summary) -> String {
         match self {
-            Limit::Time(time) => format!("{} s left", time.saturating_sub(summary.time).as_secs()),
+            Limit::Time(time) => format!("{:.0} s left", time.saturating_sub(summary.time).as_secs_f64()),
             Limit::Cases(cases) => format!("{} cases left", cases - summary.cases),
         }
     }
@@ -70,12 +70,15 @@ impl Report {
     }
 }
 
-/// Runs case after case to the first difference, or to the limit.
-pub fn search(calls: &Calls, seed: u64, limit: Limit, progress: &mut Progress) -> (Summary, Option<Report>) {
+/// Runs case after case to the first difference, or to the limit. Each is marked before it runs, where there is a mark.
+pub fn search(calls: &Calls, seed: u64, limit: Limit, progress: &mut Progress, mark: Option<&Mark>) -> (Summary, Option<Report>) {
     let start = Instant::now();
     let mut summary = Summary { seed, cases: 0, bytes: 0, tally: Tally::default(), time: Duration::ZERO };
     while !limit.reached(&summary) {
         let number = summary.cases;
+        if let Some(mark) = mark {
+            mark.set(number);
+        }
         let case = case(seed, number);
         let differs = attempt(calls, &case, &mut summary.tally);
         summary.cases += 1;

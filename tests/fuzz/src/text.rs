@@ -88,33 +88,30 @@ fn memory(line: &str) -> Result<u64, String> {
 
 fn operation(line: &str) -> Result<Operation, String> {
     let mut fields = Fields::new(line);
-    let fields_of = &mut fields;
-    let operation = match fields_of.name {
-        "checksum" => Operation::Checksum { start: fields_of.number("start")?, bytes: fields_of.bytes("bytes")? },
+    let operation = match fields.name {
+        "checksum" => Operation::Checksum { start: fields.number("start")?, bytes: fields.bytes("bytes")? },
         "encode" => Operation::Encode {
-            id: fields_of.number("id")?,
-            instruction: fields_of.number("instruction")?,
-            room: fields_of.room("room")?,
-            at: fields_of.number("at")?,
-            params: fields_of.bytes("params")?,
+            id: fields.number("id")?,
+            instruction: fields.number("instruction")?,
+            room: fields.room("room")?,
+            at: fields.number("at")?,
+            params: fields.bytes("params")?,
         },
-        "unstuff" => Operation::Unstuff { room: fields_of.room("room")?, body: fields_of.bytes("body")? },
-        "record" => record(fields_of)?,
-        "scribble" => Operation::Scribble { byte: fields_of.number("byte")? },
-        "feed" => Operation::Feed { chunk: fields_of.bytes("chunk")? },
+        "unstuff" => Operation::Unstuff { room: fields.room("room")?, body: fields.bytes("body")? },
+        "record" => record(&mut fields)?,
+        "scribble" => Operation::Scribble { byte: fields.number("byte")? },
+        "feed" => Operation::Feed { chunk: fields.bytes("chunk")? },
         "rest" => Operation::Rest,
-        "arrive" => Operation::Arrive { chunk: fields_of.bytes("chunk")? },
+        "arrive" => Operation::Arrive { chunk: fields.bytes("chunk")? },
         "gap" => Operation::Gap,
         "finish" => Operation::Finish,
-        "board" => Operation::Board { reply: fields_of.room("reply")?, table: fields_of.bytes("table")? },
-        "registered" => registered(fields_of)?,
-        "poke" => Operation::Poke { address: fields_of.number("address")?, byte: fields_of.number("byte")? },
+        "board" => Operation::Board { reply: fields.room("reply")?, table: fields.bytes("table")? },
+        "registered" => registered(&mut fields)?,
+        "poke" => Operation::Poke { address: fields.number("address")?, byte: fields.number("byte")? },
         "fresh" => Operation::Fresh,
-        "measure" => Operation::Measure { position: fields_of.position("position")?, error: fields_of.number("error")? },
-        "hear" => {
-            Operation::Hear { kind: fields_of.number("kind")?, id: fields_of.number("id")?, body: fields_of.bytes("body")? }
-        }
-        "exchange" => Operation::Exchange { chunk: fields_of.bytes("chunk")? },
+        "measure" => Operation::Measure { position: fields.position("position")?, error: fields.number("error")? },
+        "hear" => Operation::Hear { kind: fields.number("kind")?, id: fields.number("id")?, body: fields.bytes("body")? },
+        "exchange" => Operation::Exchange { chunk: fields.bytes("chunk")? },
         "silence" => Operation::Silence,
         name => return Err(format!("there is no operation `{name}`")),
     };
@@ -187,7 +184,7 @@ impl<'a> Fields<'a> {
         value.chunks(2).map(|pair| byte(pair).ok_or_else(|| format!("`{key}` has something that is no byte in hex"))).collect()
     }
 
-    fn end(mut self) -> Result<(), String> {
+    fn end(&mut self) -> Result<(), String> {
         match self.rest.next() {
             None => Ok(()),
             Some(more) => Err(format!("`{}` has a field too many: `{}`", self.name, short(more))),

@@ -19,7 +19,7 @@ fn file(name: &str, text: &str) -> PathBuf {
 
 #[test]
 fn a_search() {
-    let (status, out, err) = fuzz(&["--seconds", "1", "--seed", "5"]);
+    let (status, out, err) = fuzz(&["--seconds", "1", "--seed", "5", "--folder", env!("CARGO_TARGET_TMPDIR")]);
     assert_eq!((status, &err[..]), (0, ""), "{out}");
     let lines: Vec<&str> = out.lines().collect();
     assert_eq!(lines[0], "seed 5, 1 s");

@@ -2,13 +2,18 @@
 
 mod wrong;
 
-use compare::PROVED;
-use fuzz::{case, replay, search, Limit, Progress, Replayed, Report, Summary};
+use compare::{Calls, PROVED};
+use fuzz::{case, replay, search, Limit, Mark, Operation, Progress, Replayed, Report, Summary};
 use std::collections::BTreeSet;
-use std::path::Path;
+use std::path::{Path, PathBuf};
+use std::process::Command;
 
-fn search_cases(calls: &compare::Calls, seed: u64, cases: u64) -> (Summary, Option<Report>) {
-    search(calls, seed, Limit::Cases(cases), &mut Progress::silent())
+fn search_cases(calls: &Calls, seed: u64, cases: u64) -> (Summary, Option<Report>) {
+    search(calls, seed, Limit::Cases(cases), &mut Progress::silent(), None)
+}
+
+fn folder() -> PathBuf {
+    Path::new(env!("CARGO_TARGET_TMPDIR")).join("differences")
 }
 
 #[test]
@@ -60,7 +65,7 @@ fn no_difference_in_a_short_search() {
 /// Every wrong export is found and named; the file that is written then shows the same, and nothing with the right exports.
 #[test]
 fn wrong_exports_are_found() {
-    let folder = Path::new(env!("CARGO_TARGET_TMPDIR")).join("differences");
+    let folder = folder();
     for (seed, wrong) in (0..).zip(wrong::all()) {
         let (_, report) = search_cases(&wrong.calls, seed, 20_000);
         let report = report.unwrap_or_else(|| panic!("{} was not found: {}", wrong.export, wrong.what));
@@ -89,4 +94,52 @@ fn shrunk_cases_are_short() {
             assert!(!same, "{}: operation {at} of {case:02x?} is not needed", wrong.export);
         }
     }
+}
+
+/// Where the comparison itself fails, that is a finding, and its case is kept.
+#[test]
+fn a_panic_is_found() {
+    let calls = Calls { crc16: |_, _| panic!("a test of what happens then"), ..PROVED };
+    let (_, report) = search_cases(&calls, 200, 1_000);
+    let report = report.expect("most searches begin with a checksum soon");
+    assert_eq!(&report.found.difference.what, "a panic");
+    assert_eq!(report.case, case(200, report.number));
+    assert!(report.case.operations.iter().any(is_checksum));
+}
+
+const CRASHING_SEED: u64 = 201;
+/// Set in the process that is to crash.
+const CRASH: &str = "MEDNUKALS_FUZZ_CRASH";
+
+fn crash() {
+    let calls = Calls { crc16: |_, _| std::process::abort(), ..PROVED };
+    let mark = Mark::new(&folder(), CRASHING_SEED).expect("the folder can be written");
+    search(&calls, CRASHING_SEED, Limit::Cases(1_000), &mut Progress::silent(), Some(&mark));
+}
+
+/// A call that ends the process leaves the number of its case; a search that ends leaves none. This test runs itself once more,
+/// as the process that crashes.
+#[test]
+fn a_crash_leaves_its_mark() {
+    if std::env::var_os(CRASH).is_some() {
+        return crash();
+    }
+    let test = std::env::current_exe().expect("this test has a path");
+    let child = Command::new(test).args(["--exact", "a_crash_leaves_its_mark"]).env(CRASH, "1").output().expect("it runs");
+    assert_eq!(child.status.code(), None, "the process was to be ended by a signal");
+
+    let has_checksum = |&number: &u64| case(CRASHING_SEED, number).operations.iter().any(is_checksum);
+    let crashed = (0..1_000).find(has_checksum).expect("a search has checksums");
+    let path = folder().join(format!("running-{CRASHING_SEED}.txt"));
+    let mark = std::fs::read_to_string(&path).expect("the mark is there");
+    assert_eq!(mark, format!("--seed {CRASHING_SEED} --case {crashed}\n"));
+
+    let mark = Mark::new(&folder(), CRASHING_SEED).expect("the folder can be written");
+    search(&PROVED, CRASHING_SEED, Limit::Cases(3), &mut Progress::silent(), Some(&mark));
+    drop(mark);
+    assert!(!path.exists());
+}
+
+fn is_checksum(operation: &Operation) -> bool {
+    matches!(operation, Operation::Checksum { .. })
 }

@@ -77,7 +77,8 @@ fn calls(rng: &mut Rng, line: &[u8], operations: &mut Vec<Operation>) {
 /// Instructions over the line to a device, and its statuses back.
 pub fn exchange(rng: &mut Rng) -> Vec<Operation> {
     let mut operations = Vec::new();
-    let mut board = Board::sound(rng, &mut operations);
+    let draw = if rng.one_in(20) { Board::odd } else { Board::sound };
+    let mut board = draw(rng, &mut operations);
     for _ in 0..rng.between(1, 8) {
         board.meanwhile(rng, &mut operations);
         let mut line = Vec::new();

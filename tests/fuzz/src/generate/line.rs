@@ -2,7 +2,7 @@
 
 use super::board::Board;
 use crate::Operation;
-use compare::{noise, record, segment, worst_noise};
+use compare::{body_of_stuffed_length, noise, record, segment, worst_noise};
 use reference::{framed, packet_of, stuff, Rng};
 
 /// The longest body of a packet.
@@ -23,12 +23,25 @@ pub fn reader(rng: &mut Rng) -> Vec<Operation> {
 }
 
 fn line(rng: &mut Rng) -> Vec<u8> {
-    if rng.one_in(100) {
-        return worst_noise(rng.between(1, 250));
+    match rng.between(0, 99) {
+        0 => return worst_noise(rng.between(1, 250)),
+        1..=4 => return around_the_longest(rng),
+        _ => {}
     }
     let parts = rng.between(1, 5);
     let longest = if rng.one_in(15) { 1_030 } else { 40 };
     segment(rng, parts, longest)
+}
+
+/// A packet about as long as one can be, good or damaged, and what may stand beside it.
+fn around_the_longest(rng: &mut Rng) -> Vec<u8> {
+    let (before, stuffed) = (rng.between(0, 9), rng.between(1_018, 1_024));
+    let mut packet = packet_of(rng.pick(&[0, 1, 252, 254]), &body_of_stuffed_length(rng, stuffed));
+    if rng.one_in(3) {
+        let place = rng.between(0, packet.len() - 1);
+        packet[place] ^= 1 << rng.between(0, 7);
+    }
+    [noise(rng, before), packet, segment(rng, 1, 12)].concat()
 }
 
 /// The line in chunks of any size, empty ones too, cut anywhere.

@@ -22,10 +22,14 @@ pub fn all() -> Vec<Wrong> {
         wrong("dxl_unstuff", "the output buffer", Calls { unstuff: clears_the_rest, ..PROVED }),
         wrong("dxl_feed", "the count of held bytes, with the words around it", Calls { feed: drops_a_byte, ..PROVED }),
         wrong("dxl_feed", "the chunk", Calls { feed: writes_its_chunk, ..PROVED }),
+        wrong("dxl_feed", "the answer", Calls { feed: looks_into_the_checksum, ..PROVED }),
+        wrong("dxl_feed", "the answer", Calls { feed: no_longest_packet, ..PROVED }),
+        wrong("dxl_feed", "the count of held bytes, with the words around it", Calls { feed: skips_a_failed_packet, ..PROVED }),
         wrong("dxl_gap", "the packet buffer", Calls { gap: leaves_the_packet, ..PROVED }),
         wrong("dxl_fresh", "the answer", Calls { fresh: any_length, ..PROVED }),
         wrong("dxl_measure", "the table", Calls { measure: short_position, ..PROVED }),
         wrong("dxl_device", "the reply buffer", Calls { device: other_error, ..PROVED }),
+        wrong("dxl_device", "the table", Calls { device: stores_one_by_one, ..PROVED }),
         wrong("dxl_device", "the answer", Calls { device: keeps_registered, ..PROVED }),
         wrong("dxl_device", "the bytes around the table", Calls { device: before_the_table, ..PROVED }),
     ]
@@ -85,6 +89,38 @@ fn writes_its_chunk(held: &mut [u8; 1030], count: &mut usize, chunk: &[u8], pack
     step
 }
 
+/// FF FF at a body's end, with FD as the checksum's low byte, is taken for a place to stuff: no packet.
+fn looks_into_the_checksum(held: &mut [u8; 1030], count: &mut usize, chunk: &[u8], packet: &mut [u8; 1031]) -> Step {
+    let step = exports::feed(held, count, chunk, packet);
+    if step.kind == 1 && packet[step.count - 4..step.count - 1] == [0xFF, 0xFF, 0xFD] {
+        *packet = [0; 1031];
+        return Step { kind: 0, id: 0, count: 0, ..step };
+    }
+    step
+}
+
+fn no_longest_packet(held: &mut [u8; 1030], count: &mut usize, chunk: &[u8], packet: &mut [u8; 1031]) -> Step {
+    let step = exports::feed(held, count, chunk, packet);
+    if step.count == 1_031 {
+        *packet = [0; 1031];
+        return Step { kind: 0, id: 0, count: 0, ..step };
+    }
+    step
+}
+
+/// Reading goes on behind a packet with a wrong checksum and not at the next byte.
+fn skips_a_failed_packet(held: &mut [u8; 1030], count: &mut usize, chunk: &[u8], packet: &mut [u8; 1031]) -> Step {
+    let step = exports::feed(held, count, chunk, packet);
+    if step.kind == 2 {
+        // the first byte of the failed packet is gone
+        let rest = 6 + usize::from(held[4]) + 256 * usize::from(held[5]);
+        held.copy_within(rest.., 0);
+        held[1_030 - rest..].fill(0);
+        *count -= rest;
+    }
+    step
+}
+
 fn leaves_the_packet(held: &mut [u8; 1030], count: &mut usize, packet: &mut [u8; 1031]) -> Step {
     let before = *packet;
     let step = exports::gap(held, count, packet);
@@ -110,6 +146,15 @@ fn other_error(table: &mut [u8], registered: Registered, kind: u8, id: u8, body:
         reply[8] = reply[8] & 0x80 | 5;
         let sum = exports::crc16(0, &reply[..9]).to_le_bytes();
         reply[9..11].copy_from_slice(&sum);
+    }
+    answer
+}
+
+/// Of a write of both limits that is refused, the first is stored.
+fn stores_one_by_one(table: &mut [u8], registered: Registered, kind: u8, id: u8, body: &[u8], reply: &mut [u8]) -> Answer {
+    let answer = exports::device(table, registered, kind, id, body, reply);
+    if answer.count == 11 && body.len() == 11 && body[..3] == [3, 48, 0] && reply[8] & 0x7F == 6 {
+        table[48..52].copy_from_slice(&body[3..7]);
     }
     answer
 }

@@ -5,7 +5,8 @@ SHELL := /bin/sh
 .DELETE_ON_ERROR:
 # rt works in one target/ folder, so two of its runs must never overlap.
 .NOTPARALLEL:
-.PHONY: help run events lib test bench mutants fmt clean kit format promises_test c_test header_test rust_test
+.PHONY: help run events lib test fuzz replay bench mutants fmt clean kit format promises_test c_test header_test rust_test
+.PHONY: fuzz_program replay_file
 
 # Each crate listed here becomes an archive for C: capi is libmednukals.a, capi_NAME is libmednukals_NAME.a.
 EXPORT_CRATES := capi capi_test
@@ -30,6 +31,8 @@ help:
 	@echo 'make events  print the packets and bad checksums in a file, likewise (CAPTURE=FILE or -)'
 	@echo 'make lib    prove the exports and build the archives that C links: $(LIBS)'
 	@echo 'make test   the gate: formatting, C and Rust tests, then every proof from nothing'
+	@echo 'make fuzz   compare all exports with the second implementation for 10 minutes (SECONDS=N, SEED=S)'
+	@echo 'make replay FILE=FILE  run a case again in which make fuzz has found a difference'
 	@echo 'make bench  measure the exports beside plain C, as ratios'
 	@echo 'make mutants CRATE=NAME  change the source of a crate in one place at a time and sort what the checker says'
 	@echo 'make fmt    format every Rattle file'
@@ -101,6 +104,25 @@ promises_test:
 rust_test: $(LIBS) build/bin/line
 	@$(call need,cargo)
 	@cd tests && cargo test --release --offline --quiet || $(call failed,the comparison tests)
+
+# Ends at the first difference, with a file under build/fuzz that replays it. The same seed gives the same cases.
+SECONDS ?= 600
+FUZZ := build/rust/release/fuzz
+fuzz: fuzz_program
+	@$(FUZZ) --seconds '$(SECONDS)' $(if $(SEED),--seed '$(SEED)') || { status=$$?; \
+	    [ $$status -lt 128 ] || echo 'mednukals: the search crashed; $(FUZZ) with the options in build/fuzz/running-SEED.txt' \
+	        'prints the case for make replay' >&2; exit $$status; }
+
+replay: replay_file fuzz_program
+	@$(FUZZ) --replay '$(FILE)'
+
+replay_file:
+	@[ -n '$(FILE)' ] || { echo 'mednukals: make replay FILE=build/fuzz/difference-SEED-CASE.txt' >&2; exit 1; }
+	@[ -f '$(FILE)' ] || { echo 'mednukals: there is no file $(FILE)' >&2; exit 1; }
+
+fuzz_program: $(LIBS)
+	@$(call need,cargo)
+	@cd tests && cargo build --release --offline --quiet --bin fuzz || $(call failed,building the search for differences)
 
 BENCH_SOURCES := tests/bench/bench.c tests/bench/baseline.c tests/bench/baseline_reader.c tests/bench/baseline_device.c
 bench: build/c/bench

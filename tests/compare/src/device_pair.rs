@@ -1,4 +1,4 @@
-use crate::Guarded;
+use crate::{hex, must_agree, Calls, Comparison, Difference, Guarded, PROVED};
 use reference::{device_call, Heard, Registered, Rng};
 use std::hint::black_box;
 
@@ -6,7 +6,7 @@ pub const PACKET: u8 = 1;
 pub const BAD_CHECKSUM: u8 = 2;
 
 /// What the device's calls borrow, with bytes around it that no call may touch.
-#[derive(Clone, PartialEq, Eq)]
+#[derive(Clone)]
 struct Borrowed {
     table: Guarded,
     reply: Guarded,
@@ -20,6 +20,7 @@ pub struct DevicePair {
     pub registered: Registered,
     /// What the reply buffer is filled with before each call.
     filler: u8,
+    exports: Calls,
 }
 
 /// What the proved device answered. The error byte is there where a status is.
@@ -32,12 +33,20 @@ pub struct Told {
 
 impl DevicePair {
     pub fn new(rng: &mut Rng, table: &[u8], registered: Registered, reply_length: usize) -> DevicePair {
+        DevicePair::of(PROVED, rng, table, registered, reply_length)
+    }
+
+    pub fn of(exports: Calls, rng: &mut Rng, table: &[u8], registered: Registered, reply_length: usize) -> DevicePair {
         let ours = Borrowed { table: Guarded::new(rng, table), reply: Guarded::new(rng, &vec![0; reply_length]) };
-        DevicePair { expected: ours.clone(), ours, registered, filler: rng.byte() }
+        DevicePair { expected: ours.clone(), ours, registered, filler: rng.byte(), exports }
     }
 
     pub fn table(&self) -> &[u8] {
         self.ours.table.bytes()
+    }
+
+    pub fn reply(&self) -> &[u8] {
+        self.ours.reply.bytes()
     }
 
     /// The same change of the table on both sides, as firmware or chance may make it.
@@ -47,22 +56,46 @@ impl DevicePair {
     }
 
     pub fn fresh(&mut self) -> i64 {
-        let answer = exports::fresh(self.ours.table.bytes_mut());
-        let wanted = reference::fresh_call(self.expected.table.bytes_mut());
-        assert_eq!(answer, wanted.map_or_else(|refusal| -i64::from(refusal), |()| 0));
-        assert!(self.ours == self.expected, "memory after the fresh call");
-        answer
+        must_agree(self.try_fresh())
     }
 
     pub fn measure(&mut self, position: i32, hardware_error: u8) -> i64 {
-        let answer = exports::measure(self.ours.table.bytes_mut(), position, hardware_error);
-        let wanted = reference::measure_call(self.expected.table.bytes_mut(), position, hardware_error);
-        assert_eq!(answer, wanted.map_or_else(|refusal| -i64::from(refusal), |()| 0));
-        assert!(self.ours == self.expected, "memory after measuring {position} and {hardware_error}");
-        answer
+        must_agree(self.try_measure(position, hardware_error))
     }
 
     pub fn hear(&mut self, kind: u8, id: u8, body: &[u8]) -> Told {
+        must_agree(self.try_hear(kind, id, body))
+    }
+
+    pub fn try_fresh(&mut self) -> Result<i64, Difference> {
+        let before = self.table().to_vec();
+        let answer = (self.exports.fresh)(self.ours.table.bytes_mut());
+        let wanted = reference::fresh_call(self.expected.table.bytes_mut());
+        let given = || format!("table {}", hex(&before));
+        self.same_table(&Comparison { export: "dxl_fresh", given: &given }, answer, wanted)
+    }
+
+    pub fn try_measure(&mut self, position: i32, hardware_error: u8) -> Result<i64, Difference> {
+        let before = self.table().to_vec();
+        let answer = (self.exports.measure)(self.ours.table.bytes_mut(), position, hardware_error);
+        let wanted = reference::measure_call(self.expected.table.bytes_mut(), position, hardware_error);
+        let given = || format!("position {position}, hardware error {hardware_error}, table {}", hex(&before));
+        self.same_table(&Comparison { export: "dxl_measure", given: &given }, answer, wanted)
+    }
+
+    /// After a call on the table by itself.
+    fn same_table(&self, comparison: &Comparison, answer: i64, wanted: Result<(), u8>) -> Result<i64, Difference> {
+        comparison.same("the answer", answer, wanted.map_or_else(|refusal| -i64::from(refusal), |()| 0))?;
+        self.same_memory(comparison)?;
+        Ok(answer)
+    }
+
+    fn same_memory(&self, comparison: &Comparison) -> Result<(), Difference> {
+        comparison.same_guarded("the table", &self.ours.table, &self.expected.table)?;
+        comparison.same_guarded("the reply buffer", &self.ours.reply, &self.expected.reply)
+    }
+
+    pub fn try_hear(&mut self, kind: u8, id: u8, body: &[u8]) -> Result<Told, Difference> {
         self.filler = self.filler.wrapping_add(1);
         for device in [&mut self.ours, &mut self.expected] {
             device.reply.bytes_mut().fill(self.filler);
@@ -70,33 +103,47 @@ impl DevicePair {
         let (before, registered) = (self.table().to_vec(), self.registered);
         let mut lent = body.to_vec();
 
-        let given = exports::Registered { address: registered.address, count: registered.count, bytes: registered.bytes };
         let Borrowed { table, reply } = &mut self.ours;
-        let answer = exports::device(table.bytes_mut(), given, kind, id, &lent, reply.bytes_mut());
+        let answer = (self.exports.device)(table.bytes_mut(), exported(registered), kind, id, &lent, reply.bytes_mut());
+        let (wanted, left) = self.wanted(kind, id, body);
 
+        let room = self.reply().len();
+        let given = || {
+            let (body, table) = (hex(body), hex(&before));
+            format!("kind {kind}, ID {id}, body {body}, {registered:?}, table {table}, reply buffer of {room}")
+        };
+        let comparison = Comparison { export: "dxl_device", given: &given };
+        comparison.same_shown("the answer", answer, wanted, shown)?;
+        self.same_memory(&comparison)?;
+        comparison.same_bytes("the body", black_box(&mut lent).as_slice(), body)?;
+
+        self.registered = left;
+        let exports::Answer { count, slot, .. } = answer;
+        Ok(Told { count, slot, error: (count > 0).then(|| self.reply()[8]) })
+    }
+
+    /// The reference's call: its answer as the exports give it, and the registered write that it leaves.
+    fn wanted(&mut self, kind: u8, id: u8, body: &[u8]) -> (exports::Answer, Registered) {
         let heard = match kind {
             PACKET => Heard::Packet { id, body },
             BAD_CHECKSUM => Heard::BadChecksum { id },
             _ => Heard::Nothing,
         };
         let Borrowed { table, reply } = &mut self.expected;
-        let (count, slot, left) = match device_call(table.bytes_mut(), registered, heard, reply.bytes_mut()) {
+        let (count, slot, left) = match device_call(table.bytes_mut(), self.registered, heard, reply.bytes_mut()) {
             Ok(answer) => (answer.count as i64, usize::from(answer.slot), answer.registered),
-            Err(refusal) => (-i64::from(refusal), 0, registered),
+            Err(refusal) => (-i64::from(refusal), 0, self.registered),
         };
-
-        let what = || format!("kind {kind}, ID {id}, body {body:02x?}, {registered:02x?}, table {before:02x?}");
-        assert_eq!((answer.count, answer.slot), (count, slot), "count and slot; {}", what());
-        let exports::Registered { address, count: n, bytes } = answer.registered;
-        assert_eq!((address, n, bytes), (left.address, left.count, left.bytes), "the registered write; {}", what());
-        let (table, wanted) = (self.ours.table.bytes(), self.expected.table.bytes());
-        let differs = (0..table.len()).find(|&i| table[i] != wanted[i]);
-        assert_eq!(differs, None, "the first byte of the table that differs; {}", what());
-        assert_eq!(self.ours.reply.bytes(), self.expected.reply.bytes(), "the reply buffer; {}", what());
-        assert!(self.ours == self.expected, "memory beside table and reply buffer; {}", what());
-        assert!(*black_box(&mut lent) == *body, "the body; {}", what());
-
-        self.registered = left;
-        Told { count, slot, error: (count > 0).then(|| self.ours.reply.bytes()[8]) }
+        (exports::Answer { count, slot, registered: exported(left) }, left)
     }
+}
+
+fn shown(answer: &exports::Answer) -> String {
+    let exports::Answer { count, slot, registered } = answer;
+    let exports::Registered { address, count: n, bytes } = registered;
+    format!("count {count}, slot {slot}, registered: address {address}, count {n}, bytes {}", hex(bytes))
+}
+
+fn exported(registered: Registered) -> exports::Registered {
+    exports::Registered { address: registered.address, count: registered.count, bytes: registered.bytes }
 }

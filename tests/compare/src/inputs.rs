@@ -1,6 +1,6 @@
 //! Random inputs that lead to the corners of the rules.
 
-use reference::{framed, packet_of, Rng};
+use reference::{framed, packet_of, stuff, Rng, MOST_HELD};
 
 /// A body rich in FF and FD, so that stuffing is met at every turn; sometimes any bytes.
 pub fn body(rng: &mut Rng, length: usize) -> Vec<u8> {
@@ -125,4 +125,73 @@ fn part(rng: &mut Rng, longest: usize) -> Vec<u8> {
 /// Noise, packets good and bad, cut, and inside each other, one after the other.
 pub fn segment(rng: &mut Rng, parts: usize, longest: usize) -> Vec<u8> {
     (0..parts).flat_map(|_| part(rng, longest)).collect()
+}
+
+/// Headers seven bytes apart, each promising the longest packet.
+pub fn worst_noise(headers: usize) -> Vec<u8> {
+    [0xFF, 0xFF, 0xFD, 0x00, 0x01, 0x00, 0x04].repeat(headers)
+}
+
+/// Any bytes and any count for a reader's record: often full, or with a count that is too large.
+pub fn record(rng: &mut Rng) -> ([u8; MOST_HELD], usize) {
+    let mut held = [0; MOST_HELD];
+    let contents = match rng.between(0, 3) {
+        0 => noise(rng, MOST_HELD),
+        1 => rng.bytes(MOST_HELD),
+        2 => segment(rng, 100, 30),
+        _ => segment(rng, 4, 1_022),
+    };
+    let filled = contents.len().min(MOST_HELD);
+    held[..filled].copy_from_slice(&contents[..filled]);
+    held[filled..].fill(rng.byte());
+    let count = match rng.between(0, 9) {
+        0 => MOST_HELD,
+        1 => rng.between(MOST_HELD - 12, MOST_HELD),
+        2 => rng.between(MOST_HELD + 1, MOST_HELD + 20),
+        3 => rng.pick(&[usize::MAX, usize::MAX - 1_030, 1 << 63, 1 << 32, (1 << 32) + 5, 1 << 16, 65_541]),
+        4 | 5 => rng.between(0, 30),
+        _ => rng.between(0, MOST_HELD),
+    };
+    (held, count)
+}
+
+/// A buffer and an offset in it: the packet fits exactly, is one byte short of room, has room to spare, or starts past the end.
+pub fn place(rng: &mut Rng, count: usize) -> (usize, usize) {
+    let at = if rng.one_in(2) { 0 } else { rng.between(0, 60) };
+    match rng.between(0, 7) {
+        0 | 1 => (at + count, at),
+        2 => ((at + count).saturating_sub(1), at),
+        3 => (at + count + rng.between(1, 40), at),
+        4 => (rng.between(0, count + 60), at),
+        5 => (at, at + rng.between(0, 3)),
+        // counts that would wrap around where at and the packet's length were added
+        6 => (rng.between(0, count + 20), usize::MAX - rng.between(0, count + 20)),
+        _ => (rng.between(0, count + 20), rng.pick(&[usize::MAX, usize::MAX / 2, usize::MAX / 2 + 1, 1 << 32, 1 << 16])),
+    }
+}
+
+/// Room for nothing, one byte short, exact, and one more.
+pub fn rooms(exact: usize) -> [usize; 4] {
+    [0, exact.saturating_sub(1), exact, exact + 1]
+}
+
+/// One of these, or any.
+pub fn some_room(rng: &mut Rng, exact: usize) -> usize {
+    if rng.one_in(5) {
+        rng.between(0, exact + 40)
+    } else {
+        rng.pick(&rooms(exact))
+    }
+}
+
+/// Forms of a body: as it is, which is mostly not well stuffed; stuffed; that with one byte changed, which may be either; and cut.
+pub fn stuffed_well_or_not(rng: &mut Rng, raw: &[u8]) -> [Vec<u8>; 4] {
+    let stuffed = stuff(raw);
+    let mut changed = stuffed.clone();
+    if !changed.is_empty() {
+        let at = rng.between(0, changed.len() - 1);
+        changed[at] = rng.pick(&[0xFF, 0xFD, 0x00]);
+    }
+    let cut = stuffed[..rng.between(0, stuffed.len())].to_vec();
+    [raw.to_vec(), stuffed, changed, cut]
 }

@@ -32,14 +32,23 @@ impl Lent {
         answer
     }
 
+    pub fn input(&self) -> &[u8] {
+        &self.memory[self.input.clone()]
+    }
+
     pub fn output(&self) -> &[u8] {
         &self.memory[self.output.clone()]
+    }
+
+    /// All the memory, and how many bytes of it stand before the output.
+    pub fn with_margins(&self) -> (usize, &[u8]) {
+        (self.output.start, &self.memory)
     }
 }
 
 /// One borrowed buffer with bytes around it that no call may touch; for calls that borrow more than an input and an output, or
 /// one memory many times.
-#[derive(Clone, PartialEq, Eq)]
+#[derive(Clone)]
 pub struct Guarded {
     memory: Vec<u8>,
 }
@@ -58,6 +67,11 @@ impl Guarded {
     pub fn bytes_mut(&mut self) -> &mut [u8] {
         let end = self.memory.len() - MARGIN;
         &mut self.memory[MARGIN..end]
+    }
+
+    /// The buffer and what is around it, and how many bytes of that stand before it.
+    pub fn with_margins(&self) -> (usize, &[u8]) {
+        (MARGIN, &self.memory)
     }
 
     /// The buffer as one of a fixed length.

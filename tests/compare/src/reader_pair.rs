@@ -1,10 +1,10 @@
-use crate::Guarded;
+use crate::{hex, must_agree, Calls, Comparison, Difference, Guarded, PROVED};
 use exports::Step;
 use reference::{feed_record, gap_record, Event, Rng, LONGEST_PACKET, MOST_HELD};
 use std::hint::black_box;
 
 /// What a reader's calls borrow, with bytes around all of it that no call may touch.
-#[derive(Clone, PartialEq, Eq)]
+#[derive(Clone)]
 struct Borrowed {
     held: Guarded,
     /// The count is the one in the middle.
@@ -19,16 +19,24 @@ pub struct ReaderPair {
     expected: Borrowed,
     /// What the packet buffer is filled with before each call; never 0, so that a byte not written shows.
     filler: u8,
+    exports: Calls,
     pub calls: usize,
 }
+
+/// What a call answered, and the event in it.
+pub type Stepped = (Step, Option<Event>);
 
 impl ReaderPair {
     /// A record with these bytes and this count, which may be too large.
     pub fn with_record(rng: &mut Rng, held: [u8; MOST_HELD], count: usize) -> ReaderPair {
+        ReaderPair::of(PROVED, rng, held, count)
+    }
+
+    pub fn of(exports: Calls, rng: &mut Rng, held: [u8; MOST_HELD], count: usize) -> ReaderPair {
         let around = [rng.word() as usize, count, rng.word() as usize];
         let packet = Guarded::new(rng, &[0; LONGEST_PACKET]);
         let ours = Borrowed { held: Guarded::new(rng, &held), count: around, packet };
-        ReaderPair { expected: ours.clone(), ours, filler: 1, calls: 0 }
+        ReaderPair { expected: ours.clone(), ours, filler: 1, exports, calls: 0 }
     }
 
     /// A fresh reader: it holds nothing, and its record may have any bytes.
@@ -49,15 +57,23 @@ impl ReaderPair {
         &self.ours.held.bytes()[..self.ours.count[1].min(MOST_HELD)]
     }
 
-    pub fn feed(&mut self, chunk: &[u8]) -> (Step, Option<Event>) {
+    pub fn feed(&mut self, chunk: &[u8]) -> Stepped {
+        must_agree(self.try_feed(chunk))
+    }
+
+    pub fn gap(&mut self) -> Stepped {
+        must_agree(self.try_gap())
+    }
+
+    pub fn try_feed(&mut self, chunk: &[u8]) -> Result<Stepped, Difference> {
         self.call(Some(chunk))
     }
 
-    pub fn gap(&mut self) -> (Step, Option<Event>) {
+    pub fn try_gap(&mut self) -> Result<Stepped, Difference> {
         self.call(None)
     }
 
-    fn call(&mut self, chunk: Option<&[u8]>) -> (Step, Option<Event>) {
+    fn call(&mut self, chunk: Option<&[u8]>) -> Result<Stepped, Difference> {
         self.calls += 1;
         self.filler = self.filler % 255 + 1;
         let before = self.held().to_vec();
@@ -70,8 +86,8 @@ impl ReaderPair {
         let Borrowed { held, count, packet } = &mut self.ours;
         let (held, count, packet) = (held.array_mut(), &mut count[1], packet.array_mut());
         let step = match &lent {
-            Some(chunk) => exports::feed(held, count, chunk, packet),
-            None => exports::gap(held, count, packet),
+            Some(chunk) => (self.exports.feed)(held, count, chunk, packet),
+            None => (self.exports.gap)(held, count, packet),
         };
         let Borrowed { held, count, packet } = &mut self.expected;
         let (held, count, packet) = (held.array_mut(), &mut count[1], packet.array_mut());
@@ -79,16 +95,17 @@ impl ReaderPair {
             Some(chunk) => feed_record(held, count, chunk, packet),
             None => gap_record(held, count, packet),
         };
+        let wanted = Step { taken: wanted.taken, count: wanted.count, kind: wanted.kind, id: wanted.id };
 
-        let what = || format!("{count_before} held: {before:02x?}, chunk {chunk:02x?}");
-        let numbers = (step.kind, step.id, step.taken, step.count);
-        assert_eq!(numbers, (wanted.kind, wanted.id, wanted.taken, wanted.count), "kind, ID, taken, count; {}", what());
-        assert_eq!(self.ours.count[1], self.expected.count[1], "the count of held bytes; {}", what());
-        assert!(self.ours.held == self.expected.held, "the held bytes; {}", what());
-        assert!(self.ours.packet == self.expected.packet, "the packet buffer; {}", what());
-        assert!(self.ours.count == self.expected.count, "memory beside the count; {}", what());
-        assert!(black_box(&mut lent).as_deref() == chunk, "the chunk; {}", what());
-        (step, self.event(step))
+        let given = || format!("{count_before} held: {}, chunk {}", hex(&before), hex(chunk.unwrap_or_default()));
+        let comparison = Comparison { export: if chunk.is_some() { "dxl_feed" } else { "dxl_gap" }, given: &given };
+        comparison.same("the answer", step, wanted)?;
+        comparison.same("the count of held bytes, with the words around it", self.ours.count, self.expected.count)?;
+        comparison.same_guarded("the held bytes", &self.ours.held, &self.expected.held)?;
+        comparison.same_guarded("the packet buffer", &self.ours.packet, &self.expected.packet)?;
+        let lent = black_box(&mut lent).as_deref().unwrap_or_default();
+        comparison.same_bytes("the chunk", lent, chunk.unwrap_or_default())?;
+        Ok((step, self.event(step)))
     }
 
     /// The event as our call gave it.

@@ -1,32 +1,11 @@
 //! The encoder: the proved export and the reference give the same, and leave the same memory.
 
-use compare::{body, body_of_stuffed_length, id, length, number, Lent};
-use reference::{encode, framed, packet_of, stuff, well_formed, well_stuffed, Rng};
+use compare::{body, body_of_stuffed_length, id, length, must_agree, place, Encoded, PROVED};
+use reference::{framed, packet_of, stuff, well_formed, well_stuffed, Rng};
 
 fn compare_encode(rng: &mut Rng, id: u8, body: &[u8], room: usize, at: usize) -> i64 {
-    let mut ours = Lent::new(rng, &body[1..], room);
-    let mut expected = ours.clone();
-    let answer = ours.call(|params, out| exports::encode(id, body[0], params, out, at));
-    let wanted = number(expected.call(|params, out| encode(id, body[0], params, out, at)));
-    let what = format!("ID {id}, {} parameters at {at} of {room}", body.len() - 1);
-    assert_eq!(answer, wanted, "{what}: {body:02x?}");
-    assert!(ours == expected, "{what}, memory: {body:02x?}");
-    answer
-}
-
-/// A buffer and an offset in it: the packet fits exactly, is one byte short of room, has room to spare, or starts past the end.
-fn place(rng: &mut Rng, count: usize) -> (usize, usize) {
-    let at = if rng.one_in(2) { 0 } else { rng.between(0, 60) };
-    match rng.between(0, 7) {
-        0 | 1 => (at + count, at),
-        2 => ((at + count).saturating_sub(1), at),
-        3 => (at + count + rng.between(1, 40), at),
-        4 => (rng.between(0, count + 60), at),
-        5 => (at, at + rng.between(0, 3)),
-        // counts that would wrap around where at and the packet's length were added
-        6 => (rng.between(0, count + 20), usize::MAX - rng.between(0, count + 20)),
-        _ => (rng.between(0, count + 20), rng.pick(&[usize::MAX, usize::MAX / 2, usize::MAX / 2 + 1, 1 << 32, 1 << 16])),
-    }
+    let what = Encoded { id, instruction: body[0], params: &body[1..], room, at };
+    must_agree(compare::compare_encode(&PROVED, rng, what))
 }
 
 #[test]

@@ -1,7 +1,7 @@
 //! The reader: the proved calls and the reference answer the same and leave the same record and packet buffer, call by call; and
 //! the promise over whole lists of calls.
 
-use compare::{noise, packet, published, segment, ReaderPair, Status};
+use compare::{noise, packet, published, record, segment, worst_noise, ReaderPair, Status};
 use reference::{packet_of, reading, verdict, Event, Rng, Verdict, LONGEST_PACKET, MOST_HELD};
 
 const PING: [u8; 10] = [0xFF, 0xFF, 0xFD, 0x00, 0x01, 0x03, 0x00, 0x01, 0x19, 0x4E];
@@ -199,24 +199,7 @@ fn borrowed_records() {
     let mut rng = Rng::new(44);
     let mut kinds = Kinds::default();
     for _ in 0..8_000 {
-        let mut held = [0; MOST_HELD];
-        let contents = match rng.between(0, 3) {
-            0 => noise(&mut rng, MOST_HELD),
-            1 => rng.bytes(MOST_HELD),
-            2 => segment(&mut rng, 100, 30),
-            _ => segment(&mut rng, 4, 1_022),
-        };
-        let filled = contents.len().min(MOST_HELD);
-        held[..filled].copy_from_slice(&contents[..filled]);
-        held[filled..].fill(rng.byte());
-        let count = match rng.between(0, 9) {
-            0 => MOST_HELD,
-            1 => rng.between(MOST_HELD - 12, MOST_HELD),
-            2 => rng.between(MOST_HELD + 1, MOST_HELD + 20),
-            3 => rng.pick(&[usize::MAX, usize::MAX - 1_030, 1 << 63, 1 << 32, (1 << 32) + 5, 1 << 16, 65_541]),
-            4 | 5 => rng.between(0, 30),
-            _ => rng.between(0, MOST_HELD),
-        };
+        let (held, count) = record(&mut rng);
         let mut reader = ReaderPair::with_record(&mut rng, held, count);
         odd_calls(&mut rng, &mut reader, 60, &mut kinds);
         if count > MOST_HELD {
@@ -228,12 +211,12 @@ fn borrowed_records() {
     assert!(none > 5_000 && packets > 5_000 && bad_checksums > 5_000 && refused > 1_000, "{kinds:?}");
 }
 
-/// Headers seven bytes apart, each promising the longest packet, in chunks of several sizes; again and again the reader is full.
+/// The worst noise in chunks of several sizes; again and again the reader is full.
 #[test]
-fn worst_noise() {
+fn headers_side_by_side() {
     let mut rng = Rng::new(45);
     let mut reader = ReaderPair::fresh(&mut rng);
-    let line: Vec<u8> = [0xFF, 0xFF, 0xFD, 0x00, 0x01, 0x00, 0x04].repeat(400);
+    let line = worst_noise(400);
     let wanted = events_of(&line);
     assert_eq!(wanted.len(), (line.len() - LONGEST_PACKET) / 7 + 1);
     for size in [1, 7, 64, 1_000, 1_030, 1_031, 4_096] {

@@ -1,14 +1,10 @@
 //! Stuffing and its removal: the proved exports and the reference give the same, and leave the same memory.
 
-use compare::{body, body_of_stuffed_length, length, number, Lent};
-use reference::{stuff, stuff_into, unstuff, unstuff_into, well_stuffed, Rng};
+use compare::{body, body_of_stuffed_length, length, must_agree, rooms, some_room, stuffed_well_or_not, Lent, PROVED};
+use reference::{stuff, stuff_into, unstuff, well_stuffed, Rng};
 
 fn compare_unstuff(rng: &mut Rng, body: &[u8], room: usize) {
-    let mut ours = Lent::new(rng, body, room);
-    let mut expected = ours.clone();
-    let answer = ours.call(exports::unstuff);
-    assert_eq!(answer, number(expected.call(unstuff_into)), "{} bytes into {room}: {body:02x?}", body.len());
-    assert!(ours == expected, "{} bytes into {room}, memory: {body:02x?}", body.len());
+    must_agree(compare::compare_unstuff(&PROVED, rng, body, room));
 }
 
 fn compare_stuff(rng: &mut Rng, first: u8, rest: &[u8], room: usize) {
@@ -23,20 +19,6 @@ fn compare_well_stuffed(body: &[u8]) {
     assert_eq!(exports::test::well_stuffed(body), u8::from(well_stuffed(body)), "{body:02x?}");
 }
 
-/// Room for nothing, one byte short, exact, and one more.
-fn rooms(exact: usize) -> [usize; 4] {
-    [0, exact.saturating_sub(1), exact, exact + 1]
-}
-
-/// One of these, or any.
-fn some_room(rng: &mut Rng, exact: usize) -> usize {
-    if rng.one_in(5) {
-        rng.between(0, exact + 40)
-    } else {
-        rng.pick(&rooms(exact))
-    }
-}
-
 #[test]
 fn random_bodies() {
     let mut rng = Rng::new(10);
@@ -44,17 +26,10 @@ fn random_bodies() {
         let length = length(&mut rng);
         let raw = body(&mut rng, length);
         let stuffed = stuff(&raw);
-        // raw is mostly not well stuffed, stuffed always is, and one byte changed in it may be either
-        let mut changed = stuffed.clone();
-        if !changed.is_empty() {
-            let at = rng.between(0, changed.len() - 1);
-            changed[at] = rng.pick(&[0xFF, 0xFD, 0x00]);
-        }
-        let cut = &stuffed[..rng.between(0, stuffed.len())];
-        for body in [&raw[..], &stuffed, &changed, cut] {
-            compare_well_stuffed(body);
-            let room = some_room(&mut rng, unstuff(body).len());
-            compare_unstuff(&mut rng, body, room);
+        for body in stuffed_well_or_not(&mut rng, &raw) {
+            compare_well_stuffed(&body);
+            let room = some_room(&mut rng, unstuff(&body).len());
+            compare_unstuff(&mut rng, &body, room);
         }
         if let Some((&first, rest)) = raw.split_first() {
             let room = some_room(&mut rng, stuffed.len());

@@ -1,0 +1,28 @@
+use exports::{Answer, Registered, Step};
+
+/// Table, registered write, kind, ID, body and reply buffer.
+pub type DeviceCall = fn(&mut [u8], Registered, u8, u8, &[u8], &mut [u8]) -> Answer;
+
+/// The exports that are compared, as one value: a test of the comparison itself puts a wrong one in.
+#[derive(Clone, Copy)]
+pub struct Calls {
+    pub crc16: fn(u16, &[u8]) -> u16,
+    pub encode: fn(u8, u8, &[u8], &mut [u8], usize) -> i64,
+    pub unstuff: fn(&[u8], &mut [u8]) -> i64,
+    pub feed: fn(&mut [u8; 1030], &mut usize, &[u8], &mut [u8; 1031]) -> Step,
+    pub gap: fn(&mut [u8; 1030], &mut usize, &mut [u8; 1031]) -> Step,
+    pub fresh: fn(&mut [u8]) -> i64,
+    pub measure: fn(&mut [u8], i32, u8) -> i64,
+    pub device: DeviceCall,
+}
+
+pub const PROVED: Calls = Calls {
+    crc16: exports::crc16,
+    encode: exports::encode,
+    unstuff: exports::unstuff,
+    feed: exports::feed,
+    gap: exports::gap,
+    fresh: exports::fresh,
+    measure: exports::measure,
+    device: exports::device,
+};

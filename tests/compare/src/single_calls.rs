@@ -1,0 +1,50 @@
+//! The calls that keep nothing: each goes to an export and to the reference, and all that is answered and left must be the same.
+
+use crate::{hex, number, Calls, Comparison, Difference, Lent};
+use reference::Rng;
+
+pub fn compare_checksum(calls: &Calls, rng: &mut Rng, start: u16, bytes: &[u8]) -> Result<u16, Difference> {
+    let mut ours = Lent::new(rng, bytes, 0);
+    let expected = ours.clone();
+    let answer = ours.call(|bytes, _| (calls.crc16)(start, bytes));
+    let given = || format!("start {start:04x}, {} bytes {}", bytes.len(), hex(bytes));
+    let comparison = Comparison { export: "dxl_crc16", given: &given };
+    comparison.same_shown("the checksum", answer, reference::checksum(start, bytes), |sum| format!("{sum:04x}"))?;
+    comparison.same_lent(&ours, &expected)?;
+    Ok(answer)
+}
+
+/// What the encoder writes of an instruction and its parameters into a buffer with so much room.
+pub struct Encoded<'a> {
+    pub id: u8,
+    pub instruction: u8,
+    pub params: &'a [u8],
+    pub room: usize,
+    pub at: usize,
+}
+
+pub fn compare_encode(calls: &Calls, rng: &mut Rng, what: Encoded) -> Result<i64, Difference> {
+    let Encoded { id, instruction, params, room, at } = what;
+    let mut ours = Lent::new(rng, params, room);
+    let mut expected = ours.clone();
+    let answer = ours.call(|params, out| (calls.encode)(id, instruction, params, out, at));
+    let wanted = expected.call(|params, out| reference::encode(id, instruction, params, out, at));
+    let given = || format!("ID {id}, instruction {instruction:02x}, at {at} of {room}, parameters {}", hex(params));
+    let comparison = Comparison { export: "dxl_encode", given: &given };
+    comparison.same("the answer", answer, number(wanted))?;
+    comparison.same_lent(&ours, &expected)?;
+    Ok(answer)
+}
+
+/// The answer, and the unstuffed body where there is one.
+pub fn compare_unstuff(calls: &Calls, rng: &mut Rng, body: &[u8], room: usize) -> Result<(i64, Vec<u8>), Difference> {
+    let mut ours = Lent::new(rng, body, room);
+    let mut expected = ours.clone();
+    let answer = ours.call(calls.unstuff);
+    let wanted = expected.call(reference::unstuff_into);
+    let given = || format!("room for {room}, {} bytes {}", body.len(), hex(body));
+    let comparison = Comparison { export: "dxl_unstuff", given: &given };
+    comparison.same("the answer", answer, number(wanted))?;
+    comparison.same_lent(&ours, &expected)?;
+    Ok((answer, ours.output()[..answer.max(0) as usize].to_vec()))
+}

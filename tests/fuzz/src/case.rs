@@ -1,0 +1,104 @@
+/// A call, a short list of calls, or a change of the memory that later calls borrow. Any of them may follow any other, so that a
+/// case from which some are dropped is a case again.
+#[derive(Clone, PartialEq, Eq, Debug)]
+pub enum Operation {
+    Checksum {
+        start: u16,
+        bytes: Vec<u8>,
+    },
+    Encode {
+        id: u8,
+        instruction: u8,
+        room: usize,
+        at: usize,
+        params: Vec<u8>,
+    },
+    Unstuff {
+        room: usize,
+        body: Vec<u8>,
+    },
+    /// Another record for the reader. What is not given of its 1,030 bytes is `past`.
+    Record {
+        count: usize,
+        past: u8,
+        held: Vec<u8>,
+    },
+    /// A byte for all of the record past its count.
+    Scribble {
+        byte: u8,
+    },
+    /// One feeding call.
+    Feed {
+        chunk: Vec<u8>,
+    },
+    /// One feeding call with what the last one left.
+    Rest,
+    /// Feeding calls until one gives no event.
+    Arrive {
+        chunk: Vec<u8>,
+    },
+    /// One gap call.
+    Gap,
+    /// Gap calls until one gives no event.
+    Finish,
+    /// Another table and another reply buffer; the registered write stays.
+    Board {
+        reply: usize,
+        table: Vec<u8>,
+    },
+    Registered {
+        address: u16,
+        count: u8,
+        bytes: [u8; 8],
+    },
+    /// One byte of the table, as nobody should write it.
+    Poke {
+        address: usize,
+        byte: u8,
+    },
+    Fresh,
+    Measure {
+        position: i32,
+        error: u8,
+    },
+    Hear {
+        kind: u8,
+        id: u8,
+        body: Vec<u8>,
+    },
+    /// The loop of the header: bytes come, the device hears each event, and its status is read back.
+    Exchange {
+        chunk: Vec<u8>,
+    },
+    /// The other loop of the header, when the line was silent.
+    Silence,
+}
+
+impl Operation {
+    /// How many bytes the operation hands to the exports, counted once.
+    fn bytes(&self) -> usize {
+        match self {
+            Operation::Checksum { bytes, .. } => bytes.len(),
+            Operation::Encode { params, .. } => params.len(),
+            Operation::Unstuff { body, .. } | Operation::Hear { body, .. } => body.len(),
+            Operation::Record { held, .. } => held.len(),
+            Operation::Feed { chunk } | Operation::Arrive { chunk } | Operation::Exchange { chunk } => chunk.len(),
+            Operation::Board { table, .. } => table.len(),
+            _ => 0,
+        }
+    }
+}
+
+/// Operations in their order, on a fresh reader and a device with a fresh table.
+#[derive(Clone, PartialEq, Eq, Debug)]
+pub struct Case {
+    /// Decides the bytes around lent memory and those in an output before a call.
+    pub memory: u64,
+    pub operations: Vec<Operation>,
+}
+
+impl Case {
+    pub fn bytes(&self) -> usize {
+        self.operations.iter().map(Operation::bytes).sum()
+    }
+}

@@ -1,0 +1,32 @@
+//! Draws cases. A case depends on the seed and its number alone.
+
+mod board;
+mod device;
+mod line;
+mod single;
+
+use crate::{Case, Operation};
+use reference::Rng;
+
+pub fn case(seed: u64, number: u64) -> Case {
+    let mut rng = of_case(seed, number);
+    Case { memory: rng.word(), operations: operations(&mut rng) }
+}
+
+/// Neighbours in seed or number share nothing.
+fn of_case(seed: u64, number: u64) -> Rng {
+    let mixed = Rng::new(seed).word();
+    Rng::new(Rng::new(mixed.wrapping_add(number)).word())
+}
+
+fn operations(rng: &mut Rng) -> Vec<Operation> {
+    match rng.between(0, 99) {
+        0..=9 => single::several(rng, single::checksum),
+        10..=19 => single::several(rng, single::encode),
+        20..=29 => single::several(rng, single::unstuff),
+        30..=54 => line::reader(rng),
+        55..=59 => device::table(rng),
+        60..=84 => device::life(rng),
+        _ => line::exchange(rng),
+    }
+}

@@ -1,0 +1,47 @@
+//! The calls that keep nothing.
+
+use crate::Operation;
+use compare::{body, body_of_stuffed_length, id, length, place, some_room, stuffed_well_or_not};
+use reference::{stuff, Rng};
+
+pub fn several(rng: &mut Rng, draw: fn(&mut Rng) -> Operation) -> Vec<Operation> {
+    (0..rng.between(1, 4)).map(|_| draw(rng)).collect()
+}
+
+pub fn checksum(rng: &mut Rng) -> Operation {
+    let start = if rng.one_in(3) { 0 } else { rng.word() as u16 };
+    Operation::Checksum { start, bytes: some_body(rng) }
+}
+
+pub fn encode(rng: &mut Rng) -> Operation {
+    let mut body = some_body(rng);
+    if body.is_empty() {
+        body.push(rng.byte());
+    }
+    let (room, at) = place(rng, 9 + stuff(&body).len());
+    let instruction = body.remove(0);
+    Operation::Encode { id: id(rng), instruction, room, at, params: body }
+}
+
+pub fn unstuff(rng: &mut Rng) -> Operation {
+    let raw = some_body(rng);
+    let [raw, stuffed, changed, cut] = stuffed_well_or_not(rng, &raw);
+    let form = match rng.between(0, 3) {
+        0 => raw,
+        1 => stuffed,
+        2 => changed,
+        _ => cut,
+    };
+    let room = some_room(rng, reference::unstuff(&form).len());
+    Operation::Unstuff { room, body: form }
+}
+
+/// Any body, often one whose stuffed form is about as long as a packet can carry.
+fn some_body(rng: &mut Rng) -> Vec<u8> {
+    if rng.one_in(12) {
+        let stuffed = rng.between(1_018, 1_026);
+        return body_of_stuffed_length(rng, stuffed);
+    }
+    let length = length(rng);
+    body(rng, length)
+}

@@ -1,0 +1,199 @@
+//! Runs a case: every call goes to an export and to the reference, and all that is answered and left must be the same.
+
+use crate::{Case, Operation};
+use compare::{compare_checksum, compare_encode, compare_unstuff, BAD_CHECKSUM, PACKET};
+use compare::{hex, Calls, Comparison, DevicePair, Difference, Encoded, ReaderPair, Stepped, Told};
+use reference::{fresh, Event, Registered, Rng, MOST_HELD};
+use std::collections::BTreeMap;
+
+/// Room for any unstuffed body.
+const LONGEST_BODY: usize = 1_022;
+const REPLY_BYTES: usize = 32;
+
+/// A difference and the operation at which it shows.
+#[derive(Clone, PartialEq, Eq, Debug)]
+pub struct Found {
+    pub operation: usize,
+    pub difference: Difference,
+}
+
+/// How often each export gave each sort of answer: 0 or the refusal of a call that answers a count, the kind of a reader's call.
+/// The errors of statuses and the slots above 0 are counted by themselves.
+#[derive(Clone, PartialEq, Eq, Debug, Default)]
+pub struct Tally {
+    pub calls: u64,
+    pub answers: BTreeMap<(&'static str, i64), u64>,
+}
+
+impl Tally {
+    fn call(&mut self, export: &'static str, answer: i64) {
+        self.calls += 1;
+        self.note(export, answer);
+    }
+
+    fn note(&mut self, what: &'static str, number: i64) {
+        *self.answers.entry((what, number)).or_insert(0) += 1;
+    }
+
+    pub fn seen(&self, what: &'static str, number: i64) -> u64 {
+        self.answers.get(&(what, number)).copied().unwrap_or(0)
+    }
+}
+
+/// The first difference, if there is one.
+pub fn run(calls: &Calls, case: &Case, tally: &mut Tally) -> Result<(), Found> {
+    let mut world = World::new(calls, case.memory, tally);
+    for (at, operation) in case.operations.iter().enumerate() {
+        world.perform(operation).map_err(|difference| Found { operation: at, difference })?;
+    }
+    Ok(())
+}
+
+/// What the calls of a case borrow.
+struct World<'a> {
+    calls: &'a Calls,
+    rng: Rng,
+    reader: ReaderPair,
+    /// What the last feeding call has left.
+    rest: Vec<u8>,
+    device: DevicePair,
+    /// The reader at the other end of the line. It holds nothing between two statuses.
+    host: ReaderPair,
+    tally: &'a mut Tally,
+}
+
+impl<'a> World<'a> {
+    fn new(calls: &'a Calls, memory: u64, tally: &'a mut Tally) -> World<'a> {
+        let mut rng = Rng::new(memory);
+        let past = rng.byte();
+        let reader = ReaderPair::of(*calls, &mut rng, [past; MOST_HELD], 0);
+        let host = ReaderPair::of(*calls, &mut rng, [past; MOST_HELD], 0);
+        let device = DevicePair::of(*calls, &mut rng, &fresh(), Registered::default(), REPLY_BYTES);
+        World { calls, rng, reader, rest: Vec::new(), device, host, tally }
+    }
+
+    fn perform(&mut self, operation: &Operation) -> Result<(), Difference> {
+        match operation {
+            Operation::Checksum { start, bytes } => {
+                compare_checksum(self.calls, &mut self.rng, *start, bytes)?;
+                self.tally.call("dxl_crc16", 0);
+            }
+            &Operation::Encode { id, instruction, room, at, ref params } => {
+                let answer = compare_encode(self.calls, &mut self.rng, Encoded { id, instruction, params, room, at })?;
+                self.tally.call("dxl_encode", answer.min(0));
+            }
+            Operation::Unstuff { room, body } => drop(self.unstuff(body, *room)?),
+            Operation::Record { count, past, held } => self.record(*count, *past, held),
+            Operation::Scribble { byte } => self.reader.scribble(*byte),
+            Operation::Feed { chunk } => drop(self.feed(chunk)?),
+            Operation::Rest => {
+                let rest = std::mem::take(&mut self.rest);
+                self.feed(&rest)?;
+            }
+            Operation::Arrive { chunk } => self.arrive(chunk, |_, _| Ok(()))?,
+            Operation::Gap => drop(self.gap()?),
+            Operation::Finish => self.finish(|_, _| Ok(()))?,
+            Operation::Exchange { chunk } => self.arrive(chunk, World::hear_event)?,
+            Operation::Silence => self.finish(World::hear_event)?,
+            _ => self.on_device(operation)?,
+        }
+        Ok(())
+    }
+
+    fn on_device(&mut self, operation: &Operation) -> Result<(), Difference> {
+        match *operation {
+            Operation::Board { reply, ref table } => {
+                self.device = DevicePair::of(*self.calls, &mut self.rng, table, self.device.registered, reply);
+            }
+            Operation::Registered { address, count, bytes } => self.device.registered = Registered { address, count, bytes },
+            Operation::Poke { address, byte } => self.device.change(|table| {
+                if let Some(place) = table.get_mut(address) {
+                    *place = byte;
+                }
+            }),
+            Operation::Fresh => {
+                let answer = self.device.try_fresh()?;
+                self.tally.call("dxl_fresh", answer);
+            }
+            Operation::Measure { position, error } => {
+                let answer = self.device.try_measure(position, error)?;
+                self.tally.call("dxl_measure", answer);
+            }
+            Operation::Hear { kind, id, ref body } => self.hear(kind, id, body)?,
+            _ => unreachable!("the others are no operations on a device"),
+        }
+        Ok(())
+    }
+
+    fn unstuff(&mut self, body: &[u8], room: usize) -> Result<Vec<u8>, Difference> {
+        let (answer, unstuffed) = compare_unstuff(self.calls, &mut self.rng, body, room)?;
+        self.tally.call("dxl_unstuff", answer.min(0));
+        Ok(unstuffed)
+    }
+
+    fn record(&mut self, count: usize, past: u8, bytes: &[u8]) {
+        let mut held = [past; MOST_HELD];
+        held[..bytes.len()].copy_from_slice(bytes);
+        self.reader = ReaderPair::of(*self.calls, &mut self.rng, held, count);
+    }
+
+    fn feed(&mut self, chunk: &[u8]) -> Result<Stepped, Difference> {
+        let (step, event) = self.reader.try_feed(chunk)?;
+        self.rest = chunk[step.taken..].to_vec();
+        self.tally.call("dxl_feed", i64::from(step.kind));
+        Ok((step, event))
+    }
+
+    fn gap(&mut self) -> Result<Stepped, Difference> {
+        let (step, event) = self.reader.try_gap()?;
+        self.tally.call("dxl_gap", i64::from(step.kind));
+        Ok((step, event))
+    }
+
+    fn arrive(&mut self, chunk: &[u8], hand_on: fn(&mut Self, Event) -> Result<(), Difference>) -> Result<(), Difference> {
+        let mut taken = 0;
+        while let (step, Some(event)) = self.feed(&chunk[taken..])? {
+            taken += step.taken;
+            hand_on(self, event)?;
+        }
+        Ok(())
+    }
+
+    fn finish(&mut self, hand_on: fn(&mut Self, Event) -> Result<(), Difference>) -> Result<(), Difference> {
+        while let (_, Some(event)) = self.gap()? {
+            hand_on(self, event)?;
+        }
+        Ok(())
+    }
+
+    fn hear_event(&mut self, event: Event) -> Result<(), Difference> {
+        match event {
+            Event::Packet { id, bytes } => {
+                let body = self.unstuff(&bytes[7..bytes.len() - 2], LONGEST_BODY)?;
+                self.hear(PACKET, id, &body)
+            }
+            Event::BadChecksum { id } => self.hear(BAD_CHECKSUM, id, &[]),
+        }
+    }
+
+    fn hear(&mut self, kind: u8, id: u8, body: &[u8]) -> Result<(), Difference> {
+        let Told { count, slot, error } = self.device.try_hear(kind, id, body)?;
+        self.tally.call("dxl_device", count.min(0));
+        if let Some(error) = error {
+            self.tally.note("error", i64::from(error & 0x7F));
+            self.tally.note("slot above 0", i64::from(slot > 0));
+            self.read_back(count as usize)?;
+        }
+        Ok(())
+    }
+
+    /// A reader hears the status as one packet.
+    fn read_back(&mut self, count: usize) -> Result<(), Difference> {
+        let status = self.device.reply()[..count].to_vec();
+        let (step, event) = self.host.try_feed(&status)?;
+        self.tally.call("dxl_feed", i64::from(step.kind));
+        let given = || format!("status {}", hex(&status));
+        let comparison = Comparison { export: "dxl_feed", given: &given };
+        comparison.same("a status read back", event, Some(Event::Packet { id: status[4], bytes: status.clone() }))
+    }
+}

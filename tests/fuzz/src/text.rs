@@ -1,0 +1,206 @@
+//! The text form of a case: a line for each operation, its name and its fields in their order. Bytes are in hex, numbers are
+//! decimal or, after 0x, in hex. Empty lines and those that begin with # say nothing.
+
+use crate::{Case, Operation};
+use compare::hex;
+use reference::MOST_HELD;
+use std::fmt;
+
+const VERSION: &str = "mednukals fuzz case, version 1";
+/// More room than any case asks for, and no more than any machine has.
+const MOST_ROOM: usize = 1 << 24;
+
+/// Why a text is no case, and at which line.
+#[derive(Clone, PartialEq, Eq, Debug)]
+pub struct Malformed {
+    pub line: usize,
+    pub why: String,
+}
+
+impl fmt::Display for Malformed {
+    fn fmt(&self, f: &mut fmt::Formatter) -> fmt::Result {
+        write!(f, "line {}: {}", self.line, self.why)
+    }
+}
+
+/// With a line that says what the case is about, where there is something to say.
+pub fn write(case: &Case, about: &str) -> String {
+    let about = if about.is_empty() { String::new() } else { format!("# {about}\n") };
+    let mut text = format!("{VERSION}\n{about}memory number=0x{:x}\n", case.memory);
+    for operation in &case.operations {
+        text.push_str(&line(operation));
+        text.push('\n');
+    }
+    text
+}
+
+fn line(operation: &Operation) -> String {
+    match operation {
+        Operation::Checksum { start, bytes } => format!("checksum start=0x{start:04x} bytes={}", hex(bytes)),
+        Operation::Encode { id, instruction, room, at, params } => {
+            format!("encode id={id} instruction=0x{instruction:02x} room={room} at={at} params={}", hex(params))
+        }
+        Operation::Unstuff { room, body } => format!("unstuff room={room} body={}", hex(body)),
+        Operation::Record { count, past, held } => format!("record count={count} past=0x{past:02x} held={}", hex(held)),
+        Operation::Scribble { byte } => format!("scribble byte=0x{byte:02x}"),
+        Operation::Feed { chunk } => format!("feed chunk={}", hex(chunk)),
+        Operation::Rest => "rest".to_string(),
+        Operation::Arrive { chunk } => format!("arrive chunk={}", hex(chunk)),
+        Operation::Gap => "gap".to_string(),
+        Operation::Finish => "finish".to_string(),
+        Operation::Board { reply, table } => format!("board reply={reply} table={}", hex(table)),
+        Operation::Registered { address, count, bytes } => {
+            format!("registered address={address} count={count} bytes={}", hex(bytes))
+        }
+        Operation::Poke { address, byte } => format!("poke address={address} byte=0x{byte:02x}"),
+        Operation::Fresh => "fresh".to_string(),
+        Operation::Measure { position, error } => format!("measure position={position} error=0x{error:02x}"),
+        Operation::Hear { kind, id, body } => format!("hear kind={kind} id={id} body={}", hex(body)),
+        Operation::Exchange { chunk } => format!("exchange chunk={}", hex(chunk)),
+        Operation::Silence => "silence".to_string(),
+    }
+}
+
+pub fn parse(text: &str) -> Result<Case, Malformed> {
+    let mut lines = text.lines().enumerate().map(|(i, line)| (i + 1, line.trim()));
+    let (_, version) = lines.next().unwrap_or((1, ""));
+    if version != VERSION {
+        return Err(Malformed { line: 1, why: format!("the first line is not `{VERSION}`") });
+    }
+    let mut lines = lines.filter(|(_, line)| !line.is_empty() && !line.starts_with('#'));
+    let (at, first) = lines.next().ok_or(Malformed { line: 2, why: "the line `memory number=..` is missing".to_string() })?;
+    let memory = memory(first).map_err(|why| Malformed { line: at, why })?;
+    let operations =
+        lines.map(|(at, line)| operation(line).map_err(|why| Malformed { line: at, why })).collect::<Result<_, _>>()?;
+    Ok(Case { memory, operations })
+}
+
+fn memory(line: &str) -> Result<u64, String> {
+    let mut fields = Fields::new(line);
+    match fields.name {
+        "memory" => {}
+        name => return Err(format!("`memory` is expected, and not `{name}`")),
+    }
+    let number = fields.number("number")?;
+    fields.end()?;
+    Ok(number)
+}
+
+fn operation(line: &str) -> Result<Operation, String> {
+    let mut fields = Fields::new(line);
+    let operation = match fields.name {
+        "checksum" => Operation::Checksum { start: fields.number("start")?, bytes: fields.bytes("bytes")? },
+        "encode" => Operation::Encode {
+            id: fields.number("id")?,
+            instruction: fields.number("instruction")?,
+            room: fields.room("room")?,
+            at: fields.number("at")?,
+            params: fields.bytes("params")?,
+        },
+        "unstuff" => Operation::Unstuff { room: fields.room("room")?, body: fields.bytes("body")? },
+        "record" => record(&mut fields)?,
+        "scribble" => Operation::Scribble { byte: fields.number("byte")? },
+        "feed" => Operation::Feed { chunk: fields.bytes("chunk")? },
+        "rest" => Operation::Rest,
+        "arrive" => Operation::Arrive { chunk: fields.bytes("chunk")? },
+        "gap" => Operation::Gap,
+        "finish" => Operation::Finish,
+        "board" => Operation::Board { reply: fields.room("reply")?, table: fields.bytes("table")? },
+        "registered" => registered(&mut fields)?,
+        "poke" => Operation::Poke { address: fields.number("address")?, byte: fields.number("byte")? },
+        "fresh" => Operation::Fresh,
+        "measure" => Operation::Measure { position: fields.position("position")?, error: fields.number("error")? },
+        "hear" => Operation::Hear { kind: fields.number("kind")?, id: fields.number("id")?, body: fields.bytes("body")? },
+        "exchange" => Operation::Exchange { chunk: fields.bytes("chunk")? },
+        "silence" => Operation::Silence,
+        name => return Err(format!("there is no operation `{name}`")),
+    };
+    fields.end()?;
+    Ok(operation)
+}
+
+fn record(fields: &mut Fields) -> Result<Operation, String> {
+    let (count, past, held) = (fields.number("count")?, fields.number("past")?, fields.bytes("held")?);
+    if held.len() > MOST_HELD {
+        return Err(format!("`held` has {} bytes, and a record {MOST_HELD}", held.len()));
+    }
+    Ok(Operation::Record { count, past, held })
+}
+
+fn registered(fields: &mut Fields) -> Result<Operation, String> {
+    let (address, count, bytes) = (fields.number("address")?, fields.number("count")?, fields.bytes("bytes")?);
+    let bytes = bytes.try_into().map_err(|bytes: Vec<u8>| format!("`bytes` has {} bytes, and not 8", bytes.len()))?;
+    Ok(Operation::Registered { address, count, bytes })
+}
+
+/// The fields of a line, taken one by one.
+struct Fields<'a> {
+    name: &'a str,
+    rest: std::str::SplitWhitespace<'a>,
+}
+
+impl<'a> Fields<'a> {
+    fn new(line: &'a str) -> Fields<'a> {
+        let mut rest = line.split_whitespace();
+        Fields { name: rest.next().unwrap_or_default(), rest }
+    }
+
+    fn value(&mut self, key: &str) -> Result<&'a str, String> {
+        let field = self.rest.next().ok_or_else(|| format!("`{}` lacks `{key}=..`", self.name))?;
+        match field.split_once('=') {
+            Some((found, value)) if found == key => Ok(value),
+            _ => Err(format!("`{key}=..` is expected, and not `{}`", short(field))),
+        }
+    }
+
+    fn number<N: TryFrom<u64>>(&mut self, key: &str) -> Result<N, String> {
+        let value = self.value(key)?;
+        let number = match value.strip_prefix("0x") {
+            Some(digits) => u64::from_str_radix(digits, 16),
+            None => value.parse(),
+        };
+        let number = number.map_err(|_| format!("`{key}` is no number: `{}`", short(value)))?;
+        number.try_into().map_err(|_| format!("`{key}` is too large: {number}"))
+    }
+
+    fn room(&mut self, key: &str) -> Result<usize, String> {
+        match self.number(key)? {
+            room if room > MOST_ROOM => Err(format!("`{key}` is above {MOST_ROOM}: {room}")),
+            room => Ok(room),
+        }
+    }
+
+    /// The one number that may be negative.
+    fn position(&mut self, key: &str) -> Result<i32, String> {
+        let value = self.value(key)?;
+        value.parse().map_err(|_| format!("`{key}` is no number of four bytes: `{}`", short(value)))
+    }
+
+    fn bytes(&mut self, key: &str) -> Result<Vec<u8>, String> {
+        let value = self.value(key)?.as_bytes();
+        if value.len() % 2 != 0 {
+            return Err(format!("`{key}` has an odd number of digits: {}", value.len()));
+        }
+        value.chunks(2).map(|pair| byte(pair).ok_or_else(|| format!("`{key}` has something that is no byte in hex"))).collect()
+    }
+
+    fn end(&mut self) -> Result<(), String> {
+        match self.rest.next() {
+            None => Ok(()),
+            Some(more) => Err(format!("`{}` has a field too many: `{}`", self.name, short(more))),
+        }
+    }
+}
+
+fn byte(pair: &[u8]) -> Option<u8> {
+    let digit = |c: u8| char::from(c).to_digit(16);
+    Some((16 * digit(pair[0])? + digit(pair[1])?) as u8)
+}
+
+/// So much of a word as fits into a message.
+fn short(word: &str) -> String {
+    match word.char_indices().nth(40) {
+        Some((end, _)) => format!("{}..", &word[..end]),
+        None => word.to_string(),
+    }
+}

@@ -1,0 +1,103 @@
+//! The text form of cases.
+
+use fuzz::{case, parse, write, Malformed, Operation};
+
+#[test]
+fn round_trip() {
+    for number in 0..3_000 {
+        let case = case(3, number);
+        assert_eq!(parse(&write(&case, "")), Ok(case.clone()));
+        assert_eq!(parse(&write(&case, "what it is about")), Ok(case));
+    }
+}
+
+/// The form stays as it is: files of earlier searches must replay.
+#[test]
+fn every_operation_by_hand() {
+    let text = "mednukals fuzz case, version 1\n\
+        # about\n\
+        memory number=0x1f\n\
+        \n\
+        checksum start=0x1234 bytes=00ff\n\
+        encode id=254 instruction=0x03 room=40 at=18446744073709551615 params=\n\
+        unstuff room=3 body=fffffdfd\n\
+        record count=1031 past=0x07 held=ff\n\
+        scribble byte=0x2a\n\
+        feed chunk=ff\n\
+        rest\n\
+        arrive chunk=\n\
+        gap\n\
+        finish\n\
+        board reply=32 table=0604\n\
+        registered address=104 count=4 bytes=c800000000000000\n\
+        poke address=64 byte=0x01\n\
+        fresh\n\
+        measure position=-166 error=0x80\n\
+        hear kind=1 id=1 body=01\n\
+        exchange chunk=fffffd00\n\
+        silence\n";
+    let case = parse(text).expect("the text is a case");
+    assert_eq!(case.memory, 0x1F);
+    let wanted = [
+        Operation::Checksum { start: 0x1234, bytes: vec![0, 0xFF] },
+        Operation::Encode { id: 254, instruction: 3, room: 40, at: usize::MAX, params: vec![] },
+        Operation::Unstuff { room: 3, body: vec![0xFF, 0xFF, 0xFD, 0xFD] },
+        Operation::Record { count: 1_031, past: 7, held: vec![0xFF] },
+        Operation::Scribble { byte: 42 },
+        Operation::Feed { chunk: vec![0xFF] },
+        Operation::Rest,
+        Operation::Arrive { chunk: vec![] },
+        Operation::Gap,
+        Operation::Finish,
+        Operation::Board { reply: 32, table: vec![6, 4] },
+        Operation::Registered { address: 104, count: 4, bytes: [200, 0, 0, 0, 0, 0, 0, 0] },
+        Operation::Poke { address: 64, byte: 1 },
+        Operation::Fresh,
+        Operation::Measure { position: -166, error: 0x80 },
+        Operation::Hear { kind: 1, id: 1, body: vec![1] },
+        Operation::Exchange { chunk: vec![0xFF, 0xFF, 0xFD, 0] },
+        Operation::Silence,
+    ];
+    assert_eq!(case.operations, wanted);
+    assert_eq!(write(&case, "about"), text.replace("\n\n", "\n"));
+}
+
+#[test]
+fn malformed_texts() {
+    let long = format!("record count=0 past=0 held={}", "00".repeat(1_031));
+    for (line, why) in [
+        ("chekcsum start=0 bytes=", "there is no operation `chekcsum`"),
+        ("checksum bytes=00", "`start=..` is expected, and not `bytes=00`"),
+        ("checksum start=0", "`checksum` lacks `bytes=..`"),
+        ("checksum start=65536 bytes=", "`start` is too large: 65536"),
+        ("checksum start=0x bytes=", "`start` is no number: `0x`"),
+        ("checksum start=-1 bytes=", "`start` is no number: `-1`"),
+        ("checksum start=0 bytes=0", "`bytes` has an odd number of digits: 1"),
+        ("checksum start=0 bytes=0g", "`bytes` has something that is no byte in hex"),
+        ("checksum start=0 bytes=+1", "`bytes` has something that is no byte in hex"),
+        ("gap now", "`gap` has a field too many: `now`"),
+        ("registered address=0 count=0 bytes=00", "`bytes` has 1 bytes, and not 8"),
+        ("board reply=99999999 table=", "`reply` is above 16777216: 99999999"),
+        ("measure position=2147483648 error=0", "`position` is no number of four bytes: `2147483648`"),
+        (&long, "`held` has 1031 bytes, and a record 1030"),
+    ] {
+        let text = format!("mednukals fuzz case, version 1\nmemory number=0\ngap\n# and then\n{line}\ngap\n");
+        assert_eq!(parse(&text), Err(Malformed { line: 5, why: why.to_string() }));
+    }
+}
+
+#[test]
+fn malformed_beginnings() {
+    let version = "mednukals fuzz case, version 1";
+    for (text, line) in [
+        ("", 1),
+        ("gap\n", 1),
+        ("mednukals fuzz case, version 2\nmemory number=0\n", 1),
+        (version, 2),
+        (&format!("{version}\n\ngap\n"), 3),
+        (&format!("{version}\nmemory\n"), 2),
+        (&format!("{version}\nmemory number=0 number=1\n"), 2),
+    ] {
+        assert_eq!(parse(text).expect_err("the text is no case").line, line, "{text}");
+    }
+}

@@ -1,0 +1,178 @@
+//! Exports that are wrong in one thing each.
+
+use compare::{Calls, PROVED};
+use exports::{Answer, Registered, Step};
+use std::hint::black_box;
+
+pub struct Wrong {
+    /// The export that differs.
+    pub export: &'static str,
+    /// In what it differs.
+    pub what: &'static str,
+    pub calls: Calls,
+}
+
+pub fn all() -> Vec<Wrong> {
+    let wrong = |export, what, calls| Wrong { export, what, calls };
+    vec![
+        wrong("dxl_crc16", "the checksum", Calls { crc16: long_checksum, ..PROVED }),
+        wrong("dxl_encode", "the answer", Calls { encode: late_refusal, ..PROVED }),
+        wrong("dxl_encode", "the bytes around input and output", Calls { encode: past_the_end, ..PROVED }),
+        wrong("dxl_unstuff", "the answer", Calls { unstuff: room_first, ..PROVED }),
+        wrong("dxl_unstuff", "the output buffer", Calls { unstuff: clears_the_rest, ..PROVED }),
+        wrong("dxl_feed", "the count of held bytes, with the words around it", Calls { feed: drops_a_byte, ..PROVED }),
+        wrong("dxl_feed", "the chunk", Calls { feed: writes_its_chunk, ..PROVED }),
+        wrong("dxl_feed", "the answer", Calls { feed: looks_into_the_checksum, ..PROVED }),
+        wrong("dxl_feed", "the answer", Calls { feed: no_longest_packet, ..PROVED }),
+        wrong("dxl_feed", "the count of held bytes, with the words around it", Calls { feed: skips_a_failed_packet, ..PROVED }),
+        wrong("dxl_gap", "the packet buffer", Calls { gap: leaves_the_packet, ..PROVED }),
+        wrong("dxl_fresh", "the answer", Calls { fresh: any_length, ..PROVED }),
+        wrong("dxl_measure", "the table", Calls { measure: short_position, ..PROVED }),
+        wrong("dxl_device", "the reply buffer", Calls { device: other_error, ..PROVED }),
+        wrong("dxl_device", "the table", Calls { device: stores_one_by_one, ..PROVED }),
+        wrong("dxl_device", "the answer", Calls { device: keeps_registered, ..PROVED }),
+        wrong("dxl_device", "the bytes around the table", Calls { device: before_the_table, ..PROVED }),
+    ]
+}
+
+fn long_checksum(start: u16, bytes: &[u8]) -> u16 {
+    exports::crc16(start, bytes) ^ u16::from(bytes.len() > 1_024)
+}
+
+/// Room is tested before the length.
+fn late_refusal(id: u8, instruction: u8, params: &[u8], out: &mut [u8], at: usize) -> i64 {
+    match exports::encode(id, instruction, params, out, at) {
+        -12 if out.len() < 1_031 => -13,
+        answer => answer,
+    }
+}
+
+fn past_the_end(id: u8, instruction: u8, params: &[u8], out: &mut [u8], at: usize) -> i64 {
+    let answer = exports::encode(id, instruction, params, out, at);
+    if answer > 0 {
+        // the byte is one of those around the buffer, and the buffer's memory goes on there
+        unsafe { *black_box(out.as_mut_ptr_range().end) ^= 1 };
+    }
+    answer
+}
+
+/// Room is tested before the stuffing.
+fn room_first(body: &[u8], out: &mut [u8]) -> i64 {
+    match exports::unstuff(body, out) {
+        -14 if out.is_empty() => -13,
+        answer => answer,
+    }
+}
+
+fn clears_the_rest(body: &[u8], out: &mut [u8]) -> i64 {
+    let answer = exports::unstuff(body, out);
+    if answer >= 0 {
+        out[answer as usize..].fill(0);
+    }
+    answer
+}
+
+fn drops_a_byte(held: &mut [u8; 1030], count: &mut usize, chunk: &[u8], packet: &mut [u8; 1031]) -> Step {
+    let step = exports::feed(held, count, chunk, packet);
+    if step.kind == 0 && *count > 500 {
+        *count -= 1;
+    }
+    step
+}
+
+fn writes_its_chunk(held: &mut [u8; 1030], count: &mut usize, chunk: &[u8], packet: &mut [u8; 1031]) -> Step {
+    let step = exports::feed(held, count, chunk, packet);
+    if chunk.len() > 20 {
+        // the chunk is a copy that the comparison made, in memory that can be written
+        unsafe { *black_box(chunk.as_ptr().cast_mut()) ^= 1 };
+    }
+    step
+}
+
+/// FF FF at a body's end, with FD as the checksum's low byte, is taken for a place to stuff: no packet.
+fn looks_into_the_checksum(held: &mut [u8; 1030], count: &mut usize, chunk: &[u8], packet: &mut [u8; 1031]) -> Step {
+    let step = exports::feed(held, count, chunk, packet);
+    if step.kind == 1 && packet[step.count - 4..step.count - 1] == [0xFF, 0xFF, 0xFD] {
+        *packet = [0; 1031];
+        return Step { kind: 0, id: 0, count: 0, ..step };
+    }
+    step
+}
+
+fn no_longest_packet(held: &mut [u8; 1030], count: &mut usize, chunk: &[u8], packet: &mut [u8; 1031]) -> Step {
+    let step = exports::feed(held, count, chunk, packet);
+    if step.count == 1_031 {
+        *packet = [0; 1031];
+        return Step { kind: 0, id: 0, count: 0, ..step };
+    }
+    step
+}
+
+/// Reading goes on behind a packet with a wrong checksum and not at the next byte.
+fn skips_a_failed_packet(held: &mut [u8; 1030], count: &mut usize, chunk: &[u8], packet: &mut [u8; 1031]) -> Step {
+    let step = exports::feed(held, count, chunk, packet);
+    if step.kind == 2 {
+        // the first byte of the failed packet is gone
+        let rest = 6 + usize::from(held[4]) + 256 * usize::from(held[5]);
+        held.copy_within(rest.., 0);
+        held[1_030 - rest..].fill(0);
+        *count -= rest;
+    }
+    step
+}
+
+fn leaves_the_packet(held: &mut [u8; 1030], count: &mut usize, packet: &mut [u8; 1031]) -> Step {
+    let before = *packet;
+    let step = exports::gap(held, count, packet);
+    if step.kind == 2 {
+        *packet = before;
+    }
+    step
+}
+
+fn any_length(table: &mut [u8]) -> i64 {
+    exports::fresh(table).max(if table.len() > 136 { 0 } else { -21 })
+}
+
+/// The highest byte of the position is not stored.
+fn short_position(table: &mut [u8], position: i32, hardware_error: u8) -> i64 {
+    exports::measure(table, position & 0x00FF_FFFF, hardware_error)
+}
+
+/// Where a read meets an undefined byte, the error is that of a wrong length.
+fn other_error(table: &mut [u8], registered: Registered, kind: u8, id: u8, body: &[u8], reply: &mut [u8]) -> Answer {
+    let answer = exports::device(table, registered, kind, id, body, reply);
+    if answer.count == 11 && body.first() == Some(&2) && reply[8] & 0x7F == 7 {
+        reply[8] = reply[8] & 0x80 | 5;
+        let sum = exports::crc16(0, &reply[..9]).to_le_bytes();
+        reply[9..11].copy_from_slice(&sum);
+    }
+    answer
+}
+
+/// Of a write of both limits that is refused, the first is stored.
+fn stores_one_by_one(table: &mut [u8], registered: Registered, kind: u8, id: u8, body: &[u8], reply: &mut [u8]) -> Answer {
+    let answer = exports::device(table, registered, kind, id, body, reply);
+    if answer.count == 11 && body.len() == 11 && body[..3] == [3, 48, 0] && reply[8] & 0x7F == 6 {
+        table[48..52].copy_from_slice(&body[3..7]);
+    }
+    answer
+}
+
+/// Action does not drop the registered write.
+fn keeps_registered(table: &mut [u8], registered: Registered, kind: u8, id: u8, body: &[u8], reply: &mut [u8]) -> Answer {
+    let answer = exports::device(table, registered, kind, id, body, reply);
+    if body == [5] {
+        return Answer { registered, ..answer };
+    }
+    answer
+}
+
+fn before_the_table(table: &mut [u8], registered: Registered, kind: u8, id: u8, body: &[u8], reply: &mut [u8]) -> Answer {
+    let answer = exports::device(table, registered, kind, id, body, reply);
+    if body.first() == Some(&8) && answer.count > 0 {
+        // one of the bytes around the table
+        unsafe { *black_box(table.as_mut_ptr().wrapping_sub(1)) ^= 0x40 };
+    }
+    answer
+}

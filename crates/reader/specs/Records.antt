@@ -46,6 +46,7 @@ records =
       next = λ r c. leftBy r c;
     }
 
--- from a fresh record on no call is refused, whatever came before
+-- "at most 1,030 bytes are held, so none of these calls gives 25": from a fresh record on no call is refused, whatever came
+-- before
 abbrev pub NeverRefused : Type 0
 NeverRefused = (r : Reader) → r .count ≡ 0 → (cs : List Call) (c : Call) → saidOn (after records r cs) c .refusal ≡ none

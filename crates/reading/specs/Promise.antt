@@ -1,5 +1,6 @@
 -- Demand 3, one claim about a whole list of feeding and gap calls on one reader M, over any packet rules R. `Demand3` at the
--- end says of which lists of calls and of which bytes the promise is made, `Promised` what is promised.
+-- end says of which lists of calls and of which bytes the promise is made, `Promised` what is promised. The user's words stand
+-- in quotes beside the clause that says them; their 'damage' is the noise here, and a 'stretch' is bytes side by side.
 use mathlib.Core.Path.{_≡_}
 use mathlib.Core.List.{List, [], _∷_, _++_, map, List·Memᴰ}
 use mathlib.Core.Logic.{_⊎_}
@@ -45,7 +46,8 @@ pub record AllOut (events : List Found) (p : ℕ) (packets : List (List ℕ)) : 
 
 -- ---- the calls
 
--- calls since the start or a finished gap: feeding calls with these chunks, then g gap calls, or none
+-- "the calls since the start or since a finished gap, wherever these are feeding calls, then gap calls or none": feeding calls
+-- with these chunks, then g gap calls
 abbrev pub since : List (List ℕ) → ℕ → List Call
 since chunks g = feeds chunks ++ gaps g
 
@@ -54,7 +56,8 @@ module _ (M : AnyReader) where
   abbrev pub EndsSilent : M .State → List Call → Call → Type 0
   EndsSilent x cs c = (cs′ : List Call) × (cs ≡ cs′ ++ c ∷ []) × (M .answer (after M x cs′) c ≡ none)
 
-  -- there were no calls yet, or any calls whatever, the last of which is a gap call that finished the gap
+  -- "from a fresh start or a finished gap": there were no calls yet, or any calls whatever, the last of which is a gap call that
+  -- finished the gap
   abbrev pub AtStart : M .State → List Call → Type 0
   AtStart x earlier = (earlier ≡ []) ⊎ EndsSilent x earlier gap
 
@@ -68,13 +71,13 @@ module _ (R : Rules) where
   abbrev pub AllWellFormed : List (List ℕ) → Type 0
   AllWellFormed packets = (w : List ℕ) → List·Memᴰ w packets → R .WellFormed w
 
-  -- no bytes y side by side (in the papers: a stretch) that start in the noise and end beyond it pass every packet rule
+  -- "no stretch that starts in the damage and ends beyond it passes every packet rule itself"
   abbrev pub NoneAcross : List ℕ → List ℕ → Type 0
   NoneAcross noise beyond =
       (x y z : List ℕ) → noise ++ beyond ≡ x ++ (y ++ z) → length x < length noise → length noise < length x + length y
       → ¬ R .WellFormed y
 
-  -- one byte less than the longest packet, or more, has followed the noise
+  -- "at least 1,030 bytes have followed the damage": one byte less than the longest packet
   abbrev pub Followed : List ℕ → Type 0
   Followed beyond = R .longest ≤ length beyond + 1
 
@@ -90,28 +93,28 @@ pub record Promised (R : Rules) (M : AnyReader) (x : M .State) (chunks : List (L
     (packets : List (List ℕ)) (rest : List ℕ) : Type 0 where
   -- the bytes looked at are those that the rule of the fewest bytes takes: a reader that takes none is not let off
   pub counted : took M x (since chunks g) ≡ took (model R) [] (since chunks g)
-  -- the events given, with the bytes of a packet and the ID of a bad checksum, are the first of the reading of the bytes
-  -- taken as one segment, in its order
+  -- "the events given are, in order and with all they carry, the first events of the reading of these bytes as one segment"
   pub firsts : map what (givenAt R M x chunks g) ≡ given M x (since chunks g)
-  -- and all of them, once the gap is finished
+  -- "and all of them once the gap is finished"
   pub all : Finished M x chunks g → givenAt R M x chunks g ≡ reading R (took M x (since chunks g))
   -- that reading has the packets
   pub reads : AllOut (reading R (took M x (since chunks g))) (length noise) packets
-  -- of the events that came out, those that begin among the packets are the packets
+  -- "no event comes out that begins among these packets but the packets themselves"
   pub only-packets : (p : ℕ) (e : Event) → List·Memᴰ (p, e) (givenAt R M x chunks g) → length noise ≤ p
       → p < length noise + length (joined packets) → List·Memᴰ (p, e) (packetsAt (length noise) packets)
-  -- none begins in a packet that is still arriving: no gap call, and the rest is the beginning of a well-formed packet
+  -- "and none that begins in a packet still arriving": no gap call yet, and the rest begins a well-formed packet
   pub none-arriving : g ≡ 0 → (more : List ℕ) → 0 < length more → R .WellFormed (rest ++ more)
       → Before (length noise + length (joined packets)) (givenAt R M x chunks g)
-  -- the packets have all come out, each once, in order and as received, once the gap is finished
+  -- "Once the gap is finished, the packets after the damage have all come out, each once, in order, as received."
   pub out-by-gap : Finished M x chunks g → AllOut (givenAt R M x chunks g) (length noise) packets
-  -- and without a gap call too, where the last feeding call gave no event and enough bytes have followed the noise
+  -- "Without the gap they have when a feeding call ends without an event and by then at least 1,030 bytes have followed the
+  -- damage."
   pub out-by-feed : g ≡ 0 → (chunk : List ℕ) → EndsSilent M x (feeds chunks) (feed chunk)
       → Followed R (joined packets ++ rest) → AllOut (givenAt R M x chunks g) (length noise) packets
 
--- Demand 3. Whatever calls came earlier, from a fresh start or a finished gap on, whatever was fed and however it was cut
--- into chunks: let the bytes taken since be any noise (in the papers: damage), then well-formed packets, then any rest,
--- each of which may be none, and let nothing that is well-formed reach from the noise beyond it. Then all of it holds.
+-- Demand 3. "For every list of feeding and gap calls on one reader, from a fresh start or a finished gap, whatever was fed and
+-- however the reads were cut, this holds": "Let the bytes they took be any damaged bytes, then well-formed packets, then any
+-- bytes after them", each of which may be none, and let nothing that is well-formed reach from the noise beyond it.
 abbrev pub Demand3 : Rules → AnyReader → Type 0
 Demand3 R M =
     (x : M .State) → M .Fresh x → (earlier : List Call) → AtStart M x earlier → (chunks : List (List ℕ)) (g : ℕ)

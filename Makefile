@@ -5,7 +5,7 @@ SHELL := /bin/sh
 .DELETE_ON_ERROR:
 # rt works in one target/ folder, so two of its runs must never overlap.
 .NOTPARALLEL:
-.PHONY: help run events lib test fuzz replay bench mutants fmt clean kit format promises_test c_test header_test rust_test
+.PHONY: help run checksum lib test fuzz replay bench mutants fmt clean kit format promises_test c_test header_test rust_test
 .PHONY: fuzz_program replay_file
 
 # Each crate listed here becomes an archive for C: capi is libmednukals.a, capi_NAME is libmednukals_NAME.a.
@@ -19,7 +19,7 @@ SOURCES := crates.txt $(shell find crates -path '*/must-fail' -prune -o -print)
 
 CC := gcc
 WARNINGS := -std=c99 -Wall -Wextra -Wpedantic -Werror
-CAPTURE ?= examples/ping.bin
+CAPTURE ?= examples/capture.bin
 
 # $(call need,TOOL): one clear line where a tool is missing.
 need = command -v $(1) >/dev/null 2>&1 || { echo "mednukals: $(1) is needed and is not on the PATH" >&2; exit 1; }
@@ -27,8 +27,8 @@ need = command -v $(1) >/dev/null 2>&1 || { echo "mednukals: $(1) is needed and 
 failed = { echo "mednukals: FAILED: $(1)" >&2; exit 1; }
 
 help:
-	@echo 'make run    print the checksum of a file, by the proved program (CAPTURE=FILE; CAPTURE=- reads standard input)'
-	@echo 'make events  print the packets and bad checksums in a file, likewise (CAPTURE=FILE or -)'
+	@echo 'make run    print the packets and bad checksums in a capture, by the proved program (CAPTURE=FILE; CAPTURE=- reads standard input)'
+	@echo 'make checksum  print the checksum and byte count of a file, likewise (CAPTURE=FILE or -)'
 	@echo 'make lib    prove the exports and build the archives that C links: $(LIBS)'
 	@echo 'make test   the gate: formatting, C and Rust tests, then every proof from nothing'
 	@echo 'make fuzz   compare all exports with the second implementation for 10 minutes (SECONDS=N, SEED=S)'
@@ -38,20 +38,23 @@ help:
 	@echo 'make fmt    format every Rattle file'
 	@echo 'make clean  remove build/ and target/'
 
-run: build/bin/checksum
+# $(call on_capture,PROGRAM,WHAT): the program over a file, or over standard input where CAPTURE is -
+define on_capture
 	@if [ '$(CAPTURE)' = - ]; then \
-	    echo 'checksum and byte count of standard input:'; build/bin/checksum; \
+	    echo '$(2) standard input:'; $(1); \
+	elif [ -r '$(CAPTURE)' ]; then \
+	    echo '$(2) $(CAPTURE):'; $(1) <'$(CAPTURE)'; \
 	else \
-	    echo 'checksum and byte count of $(CAPTURE):'; build/bin/checksum <'$(CAPTURE)'; \
+	    echo 'mednukals: $(CAPTURE) is no file that can be read' >&2; exit 1; \
 	fi
+endef
 
-events: CAPTURE = examples/noise-and-ping.bin
-events: build/bin/line
-	@if [ '$(CAPTURE)' = - ]; then \
-	    echo 'events on standard input:'; build/bin/line; \
-	else \
-	    echo 'events in $(CAPTURE):'; build/bin/line <'$(CAPTURE)'; \
-	fi
+run: build/bin/line
+	$(call on_capture,build/bin/line,events in)
+
+checksum: CAPTURE = examples/ping.bin
+checksum: build/bin/checksum
+	$(call on_capture,build/bin/checksum,checksum and byte count of)
 
 $(PROGRAMS:%=build/bin/%): build/bin/%: $(SOURCES)
 	@$(call need,rt)

@@ -49,6 +49,16 @@ fn a_packet_after_noise() {
     assert_eq!(printed(&input), "packet 1 1 0\nend 13\n");
 }
 
+/// What README.md shows.
+#[test]
+fn the_sample_capture() {
+    let sample = Path::new(env!("CARGO_MANIFEST_DIR")).join("../../examples/capture.bin");
+    let input = std::fs::read(sample).expect("examples/capture.bin is there");
+    let lines = "packet 1 1 0\ncrc 1\ncrc 2\npacket 1 2 4\npacket 2 1 0\npacket 1 3 6\nend 88\n";
+    assert_eq!(printed(&input), lines);
+    assert_eq!(wanted(&input), lines);
+}
+
 #[test]
 fn a_bad_checksum() {
     let mut input = packet_of(7, &[1]);

@@ -97,12 +97,19 @@ build/c/board: $(BOARD_SOURCES) examples/pty_line.h include/mednukals.h build/li
 	@mkdir -p $(@D)
 	@$(CC) $(WARNINGS) -O2 -Iinclude -o $@ $(BOARD_SOURCES) build/lib/libmednukals.a || $(call failed,compiling the example board)
 
+# The board again, with a library that refuses what the test asks it to.
+comma := ,
+REFUSING := encode unstuff feed gap fresh measure device
+build/c/refusing_board: tests/c/refusing.c build/c/board
+	@$(CC) $(WARNINGS) -O2 -Iinclude -o $@ $(REFUSING:%=-Wl$(comma)--wrap=dxl_%) $(BOARD_SOURCES) $< build/lib/libmednukals.a \
+	    || $(call failed,compiling the refusing board)
+
 demo: build/c/board
 	@sh examples/demo.sh build/c/board || $(call failed,the demo)
 
-demo_test: build/c/board
+demo_test: build/c/board build/c/refusing_board
 	@$(call need,python3)
-	@python3 tests/demo_test.py build/c/board || $(call failed,the test of board and master)
+	@python3 tests/demo_test.py build/c/board build/c/refusing_board || $(call failed,the test of board and master)
 
 header_test: $(LIBS)
 	@$(call need,python3)

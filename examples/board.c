@@ -25,7 +25,7 @@ enum { ID = 7, TORQUE_ENABLE = 64, GOAL_POSITION = 116 };
 enum { PING = 0x01 };
 
 /* The arm moves by at most ARM_STEP in ARM_TICK microseconds. */
-enum { ARM_TICK = 10000, ARM_STEP = 16 };
+enum { ARM_TICK = 10000, ARM_STEP = 32 };
 
 /* The options; times are in microseconds. In a slot fit the longest status, 21 bytes at 57,600 baud, and a gap. */
 static int64_t gap = 1500, slot_time = 6000;
@@ -126,9 +126,9 @@ static void send_waiting(void)
 
 /*
  * Sends the first n bytes of reply when their slot comes. Slots are counted from the last byte heard: boards keep in step then,
- * though one hears a packet at its last byte and another, behind noise, only at the gap. What is due goes at once, before the next
- * event fills reply again. A status that waited until now is given up: the master has not waited for it, and its slot may be
- * another's now.
+ * though one hears a packet at its last byte and another, behind noise, only at the gap. What is due goes at once, before the
+ * next event fills reply again. A status that waited until now is given up: the master has not waited for it, and by now its slot
+ * may be another's.
  */
 static void send_in_slot(size_t n, size_t slot)
 {
@@ -410,6 +410,7 @@ static void take_options(char **words)
 
 int main(int argc, char **argv)
 {
+    setvbuf(stderr, NULL, _IOLBF, BUFSIZ); /* a line of the trace goes out in one write */
     if (argc > 0)
         take_options(argv + 1);
     accepted("dxl_fresh", dxl_fresh(table, sizeof table));

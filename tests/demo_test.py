@@ -1,7 +1,8 @@
-"""Runs the example board and its master: usage demo_test.py BOARD, in the repository's root
+"""Runs the example board and its master: usage demo_test.py BOARD REFUSING_BOARD, in the repository's root
 
-The talk of the two, the demo's script, and what each of them does where something is wrong. Replies are waited for with a generous
-bound, and times are checked from below only: a busy machine makes this slower and nothing else. No test leaves a process running.
+The talk of the two, the demo's script, and what each of them does where something is wrong. Replies are waited for with generous
+bounds, and waits of the board are checked from below: a busy machine makes this slower and nothing else. No test leaves a process
+running. REFUSING_BOARD is the board linked with tests/c/refusing.c.
 """
 import os
 import re
@@ -15,10 +16,11 @@ import tty
 import unittest
 from pathlib import Path
 
-BOARD = sys.argv[1] if len(sys.argv) == 2 else ""
+BOARD, REFUSING_BOARD = sys.argv[1:] if len(sys.argv) == 3 else ("", "")
 TALK = [sys.executable, "examples/talk.py"]
 DEMO = ["sh", "examples/demo.sh"]
-PATIENCE = 20  # seconds for what is done at once
+PATIENCE = 9  # seconds for what is done at once
+LONG_GAP = "10000000"  # microseconds, longer than that: a reply that waits for the gap is missed
 WHOLE = 60  # seconds for all tests
 
 PING = bytes.fromhex("FFFFFD000103 0001194E")
@@ -26,6 +28,9 @@ PING_ALL = bytes.fromhex("FFFFFD00FE0300013142")
 PING_STATUS = bytes.fromhex("FFFFFD0001070055000604 26655D")
 READ_POSITION = bytes.fromhex("FFFFFD000107000284000400 1D15")
 POSITION_STATUS = bytes.fromhex("FFFFFD00010800550000000000BFB8")  # of a fresh board: 0
+
+DONE = bytes.fromhex("FFFFFD000104005500A10C")
+BAD_CHECKSUM = bytes.fromhex("FFFFFD000104005503AB0C")
 
 # What the talk has to show, in this order: published packets where there are some, each refusal, and the meanings.
 SHOWN = """
@@ -59,10 +64,17 @@ SHOWN = """
 """.strip().splitlines()
 
 
-def run(*words):
-    """A command's exit code, output and error output."""
-    done = subprocess.run(words, capture_output=True, text=True, timeout=WHOLE)
-    return done.returncode, done.stdout, done.stderr
+def run(*words, **environment):
+    """A command's exit code, output and error output. Where it takes too long, it ends with all that it started."""
+    process = subprocess.Popen(words, stdout=subprocess.PIPE, stderr=subprocess.PIPE, text=True, start_new_session=True,
+                               env={**os.environ, **environment})
+    try:
+        output, errors = process.communicate(timeout=WHOLE)
+    except BaseException:
+        os.killpg(process.pid, signal.SIGKILL)
+        process.communicate()
+        raise
+    return process.returncode, output, errors
 
 
 def read_for(fd, count):
@@ -76,12 +88,13 @@ def read_for(fd, count):
 class Board:
     """A board that runs as long as the block; its line is open."""
 
-    def __init__(self, *options):
-        self.options = options
+    def __init__(self, *options, program=None, **environment):
+        self.words = [program or BOARD, *options, "--seconds", str(WHOLE)]
+        self.environment = {**os.environ, **environment}
 
     def __enter__(self):
         self.errors = tempfile.NamedTemporaryFile()
-        self.process = subprocess.Popen([BOARD, *self.options, "--seconds", str(WHOLE)], stdout=subprocess.PIPE, stderr=self.errors)
+        self.process = subprocess.Popen(self.words, stdout=subprocess.PIPE, stderr=self.errors, env=self.environment)
         said = b""
         while not said.endswith(b"\n"):
             byte = read_for(self.process.stdout.fileno(), 1)
@@ -96,9 +109,15 @@ class Board:
         if self.process.poll() is None:
             self.process.kill()
             self.process.wait()
-        os.close(self.line)
+        self.leave()
         self.process.stdout.close()
         self.errors.close()
+
+    def leave(self):
+        """Closes the line, as a master does that goes away."""
+        if self.line is not None:
+            os.close(self.line)
+        self.line = None
 
     def send(self, data):
         os.write(self.line, data)
@@ -130,6 +149,7 @@ class TalkTest(unittest.TestCase):
 
     def test_master_notices_an_early_reply(self):
         with Board("--gap", "1000", "--slot", "1000") as board:
+            board.leave()
             code, _, errors = run(*TALK, "--slot", "60000000", board.path)
             self.assertEqual((code, errors), (1, "talk: FAILED: the reply came before its slot\n"))
             code, _, errors = run(*TALK, "--gap", "60000000", board.path)
@@ -144,9 +164,8 @@ class TalkTest(unittest.TestCase):
         self.assertIn("no reply within 0.1 s", errors)
 
     def test_master_notices_a_wrong_reply(self):
-        good = bytes.fromhex("FFFFFD000104005500A10C")
         wrong = {"error": bytes.fromhex("FFFFFD000104005502AE8C"), "ID": bytes.fromhex("FFFFFD000204005500A118"),
-                 "checksum": good[:-1] + b"\x0D", "header": b"\0" + good, "more": PING_STATUS}
+                 "checksum": DONE[:-1] + b"\x0D", "header": b"\0" + DONE, "more": PING_STATUS}
         for name, reply in wrong.items():
             with self.subTest(name):
                 self.assertIn("talk: FAILED: wanted FF FF FD 00 01 04 00 55 00 A1 0C", self.answered_with(reply))
@@ -176,17 +195,72 @@ class TalkTest(unittest.TestCase):
 
 class BoardTest(unittest.TestCase):
     def test_byte_by_byte(self):
-        with Board("--gap", "9000000") as board:
+        with Board("--gap", LONG_GAP) as board:
             for byte in PING:
                 board.send(bytes([byte]))
             self.assertEqual(read_for(board.line, len(PING_STATUS)), PING_STATUS)
             self.assertEqual(board.end(signal.SIGINT), 0)
 
     def test_several_events_in_one_chunk(self):
-        with Board("--gap", "9000000") as board:
+        with Board("--gap", LONG_GAP) as board:
             board.send(PING + READ_POSITION + PING)
             wanted = PING_STATUS + POSITION_STATUS + PING_STATUS
             self.assertEqual(read_for(board.line, len(wanted)), wanted)
+            # A packet in a damaged one: no byte is left to feed when the first is told.
+            board.send(bytes.fromhex("FFFFFD00010D0003") + PING + b"\0\0")
+            wanted = BAD_CHECKSUM + PING_STATUS
+            self.assertEqual(read_for(board.line, len(wanted)), wanted)
+
+    def test_the_arm_rests_without_torque(self):
+        with Board("--slot", "100000") as board:
+            board.send(bytes.fromhex("FFFFFD0001090003740000020000CA89"))
+            self.assertEqual(read_for(board.line, len(DONE)), DONE)
+            board.send(PING_ALL)  # for as long as its slot lasts the arm could move
+            self.assertEqual(read_for(board.line, len(PING_STATUS)), PING_STATUS)
+            board.send(READ_POSITION)
+            self.assertEqual(read_for(board.line, len(POSITION_STATUS)), POSITION_STATUS)
+
+    def test_signal_in_noise(self):
+        with Board() as board, subprocess.Popen(["cat", "/dev/zero"], stdout=board.line, stderr=subprocess.DEVNULL) as noise:
+            self.wait_until(lambda: not select.select([], [board.line], [], 0)[1])  # the line is full
+            self.assertEqual(board.end(signal.SIGTERM), 0)
+            noise.kill()
+
+    def test_refusals(self):
+        at_start = {"dxl_fresh": [21], "dxl_encode": [11, 12, 13], "dxl_feed": [25], "dxl_unstuff": [14, 13],
+                    "dxl_device": [21, 22, 23, 24], "dxl_measure": [21]}
+        for call, number in [(call, number) for call, numbers in at_start.items() for number in numbers]:
+            with self.subTest(call=call, number=number):
+                code, _, errors = run(REFUSING_BOARD, "--seconds", str(PATIENCE), REFUSING=call, REFUSAL=str(number))
+                self.assertEqual(code, 3)
+                self.assertRegex(errors, rf"^board: {call} refuses with {number}: (?!a number).*\n$")
+
+    def test_refusal_of_a_gap(self):
+        with Board(program=REFUSING_BOARD, REFUSING="dxl_gap", REFUSAL="25") as board:
+            board.send(PING[:3])
+            self.assertEqual(board.process.wait(PATIENCE), 3)
+            self.assertEqual(board.said(), "board: dxl_gap refuses with 25: the reader's count is above 1,030\n")
+
+    def test_bytes_that_waited_are_no_gap(self):
+        with Board("--gap", "500000") as board:
+            while not self.stopped_in_time(board, PING + PING[:5], 0.5):
+                self.resume(board)
+            time.sleep(0.6)
+            board.send(PING[5:])
+            self.resume(board)
+            self.assertEqual(read_for(board.line, len(PING_STATUS)), PING_STATUS)
+
+    def stopped_in_time(self, board, data, gap):
+        """Sends a Ping and more, and stops the board when the Ping is answered; whether that was before the gap."""
+        begin = time.monotonic()
+        board.send(data)
+        self.assertEqual(read_for(board.line, len(PING_STATUS)), PING_STATUS)
+        board.process.send_signal(signal.SIGSTOP)
+        os.waitid(os.P_PID, board.process.pid, os.WSTOPPED)
+        return time.monotonic() - begin < gap
+
+    def resume(self, board):
+        board.process.send_signal(signal.SIGCONT)
 
     def test_a_status_that_waits_gives_way(self):
         with Board("--slot", "300000") as board:
@@ -210,8 +284,8 @@ class BoardTest(unittest.TestCase):
         with Board("--trace") as board:
             heard = 0
             while "a status is lost: nobody reads the line" not in board.said():
-                board.send(PING * 20)
-                heard += 20
+                board.send(PING * 10)
+                heard += 10
                 self.wait_until(lambda: board.said().count("packet:") >= heard)
             board.send(READ_POSITION)
             got = b""
@@ -224,11 +298,11 @@ class BoardTest(unittest.TestCase):
         deadline = time.monotonic() + PATIENCE
         while not holds():
             self.assertLess(time.monotonic(), deadline, "it does not come about")
-            time.sleep(0.001)
+            time.sleep(0.002)
 
     def test_options(self):
-        bad = [["--gap"], ["--gap", "0"], ["--gap", "-5"], ["--gap", "1.5"], ["--gap", "10000001"], ["--slot", "x"], ["--slot", ""],
-               ["--seconds", "0"], ["--seconds", "123456789"], ["--trace", "--gap"], ["--nonsense"], ["-h"], ["extra"]]
+        bad = [["--gap"], ["--gap", "0"], ["--gap", "-5"], ["--gap", "1.5"], ["--gap", "10000001"], ["--slot", "x"],
+               ["--slot", ""], ["--seconds", "0"], ["--seconds", "123456789"], ["--trace", "--gap"], ["--nonsense"], ["-h"], ["extra"]]
         for words in bad:
             with self.subTest(words):
                 code, output, errors = run(BOARD, *words)
@@ -288,12 +362,12 @@ def too_long(*_):
 
 def main():
     if not BOARD:
-        print("usage: demo_test.py BOARD", file=sys.stderr)
+        print("usage: demo_test.py BOARD REFUSING_BOARD", file=sys.stderr)
         return 2
     signal.signal(signal.SIGALRM, too_long)
     signal.alarm(WHOLE)
     tests = unittest.defaultTestLoader.loadTestsFromModule(sys.modules["__main__"])
-    result = unittest.TextTestRunner(verbosity=0).run(tests)
+    result = unittest.TextTestRunner(verbosity=0, failfast=True).run(tests)
     if result.wasSuccessful():
         print(f"demo: board and master, {result.testsRun} tests")
     return 0 if result.wasSuccessful() else 1

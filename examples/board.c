@@ -268,13 +268,17 @@ static void run(int64_t end)
 
 /* ---- start ---- */
 
+static void test_failed(const char *what)
+{
+    fprintf(stderr, "board: the self-test fails: %s\n", what);
+    exit(FAILED);
+}
+
 static void expect_checksum(const uint8_t *bytes, size_t n)
 {
     uint16_t sum = dxl_crc16(0, bytes, n - 2);
-    if (bytes[n - 2] != (sum & 0xFF) || bytes[n - 1] != sum >> 8) {
-        fprintf(stderr, "board: self-test: a checksum is not %04X\n", (unsigned)sum);
-        exit(FAILED);
-    }
+    if (bytes[n - 2] != (sum & 0xFF) || bytes[n - 1] != sum >> 8)
+        test_failed("a packet's checksum is wrong");
 }
 
 /* Before the line is opened: a Ping to the own ID is encoded, read and answered, and both checksums are computed again. */
@@ -284,15 +288,11 @@ static void self_test(void)
     size_t n = accepted("dxl_encode", dxl_encode(table[ID], PING, body, 0, ping, sizeof ping, 0));
     expect_checksum(ping, n);
     struct dxl_step step = dxl_feed(held, &count, ping, n, packet);
-    if (!is_event("dxl_feed", step) || step.count != n || memcmp(packet, ping, n) != 0) {
-        fprintf(stderr, "board: self-test: the Ping is not read as it was encoded\n");
-        exit(FAILED);
-    }
+    if (!is_event("dxl_feed", step) || step.count != n || memcmp(packet, ping, n) != 0)
+        test_failed("the Ping is not read as it was encoded");
     size_t status = (size_t)carry_out(step).count;
-    if (status == 0) {
-        fprintf(stderr, "board: self-test: the Ping is not answered\n");
-        exit(FAILED);
-    }
+    if (status == 0)
+        test_failed("the Ping is not answered");
     expect_checksum(reply, status);
     if (self_test_only) {
         print_bytes(stdout, "Ping", ping, n);
@@ -334,10 +334,10 @@ static const char HELP[] =
     "A DYNAMIXEL Protocol 2.0 device with ID 1 on a pseudo-terminal, and an arm that is simulated.\n"
     "It prints the pseudo-terminal's name, as 'line: PATH', and runs until SIGINT or SIGTERM.\n"
     "\n"
-    "--gap      a longer silence than this ends a segment (1500)\n"
-    "--slot     how long a reply slot lasts (6000)\n"
-    "--seconds  end after so many seconds\n"
-    "--trace    print each packet, bad checksum, gap and status on standard error\n"
+    "--gap        a longer silence than this ends a segment (1500)\n"
+    "--slot       how long a reply slot lasts (6000)\n"
+    "--seconds    end after so many seconds\n"
+    "--trace      print each packet, bad checksum, gap and status on standard error\n"
     "--self-test  encode, read and answer a Ping, print both packets and end\n"
     "\n"
     "Exit codes: 0 ended as asked, 1 the system or the self-test failed, 2 a bad option, 3 the library refused a call\n";

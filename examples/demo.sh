@@ -23,7 +23,7 @@ end_board() {
 
 clean_up() {
     [ -z "$pid" ] || end_board || :
-    rm -rf "$folder"
+    [ -z "$folder" ] || rm -rf "$folder"
 }
 
 [ $# -eq 1 ] || fail 'usage: demo.sh BOARD'
@@ -31,9 +31,10 @@ clean_up() {
 command -v python3 >/dev/null 2>&1 || fail 'python3 is needed and is not on the PATH'
 
 pid=
-folder=$(mktemp -d)
+folder=
 trap clean_up EXIT
 trap 'exit 1' HUP INT TERM
+folder=$(mktemp -d)
 
 echo "demo: starting $1, a device on a pseudo-terminal"
 mkfifo "$folder/out"

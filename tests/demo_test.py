@@ -23,14 +23,16 @@ PATIENCE = 9  # seconds for what is done at once
 LONG_GAP = "10000000"  # microseconds, longer than that: a reply that waits for the gap is missed
 WHOLE = 60  # seconds for all tests
 
-PING = bytes.fromhex("FFFFFD000103 0001194E")
-PING_ALL = bytes.fromhex("FFFFFD00FE0300013142")
-PING_STATUS = bytes.fromhex("FFFFFD0001070055000604 26655D")
-READ_POSITION = bytes.fromhex("FFFFFD000107000284000400 1D15")
-POSITION_STATUS = bytes.fromhex("FFFFFD00010800550000000000BFB8")  # of a fresh board: 0
+PING = bytes.fromhex("FF FF FD 00 01 03 00 01 19 4E")
+PING_ALL = bytes.fromhex("FF FF FD 00 FE 03 00 01 31 42")
+PING_STATUS = bytes.fromhex("FF FF FD 00 01 07 00 55 00 06 04 26 65 5D")
+READ_POSITION = bytes.fromhex("FF FF FD 00 01 07 00 02 84 00 04 00 1D 15")
+POSITION_STATUS = bytes.fromhex("FF FF FD 00 01 08 00 55 00 00 00 00 00 BF B8")  # of a fresh board: 0
 
-DONE = bytes.fromhex("FFFFFD000104005500A10C")
-BAD_CHECKSUM = bytes.fromhex("FFFFFD000104005503AB0C")
+DONE = bytes.fromhex("FF FF FD 00 01 04 00 55 00 A1 0C")
+DONE_BY_2 = bytes.fromhex("FF FF FD 00 02 04 00 55 00 29 0C")
+PING_STATUS_OF_0 = bytes.fromhex("FF FF FD 00 00 07 00 55 00 06 04 26 63 4D")
+BAD_CHECKSUM = bytes.fromhex("FF FF FD 00 01 04 00 55 03 AB 0C")
 
 # What the talk has to show, in this order: published packets where there are some, each refusal, and the meanings.
 SHOWN = """
@@ -164,8 +166,8 @@ class TalkTest(unittest.TestCase):
         self.assertIn("no reply within 0.1 s", errors)
 
     def test_master_notices_a_wrong_reply(self):
-        wrong = {"error": bytes.fromhex("FFFFFD000104005502AE8C"), "ID": bytes.fromhex("FFFFFD000204005500A118"),
-                 "checksum": DONE[:-1] + b"\x0D", "header": b"\0" + DONE, "more": PING_STATUS}
+        wrong = {"error": bytes.fromhex("FF FF FD 00 01 04 00 55 02 AE 8C"), "ID": DONE_BY_2, "checksum": DONE[:-1] + b"\x0D",
+                 "header": b"\0" + DONE, "more": PING_STATUS}
         for name, reply in wrong.items():
             with self.subTest(name):
                 self.assertIn("talk: FAILED: wanted FF FF FD 00 01 04 00 55 00 A1 0C", self.answered_with(reply))
@@ -207,13 +209,13 @@ class BoardTest(unittest.TestCase):
             wanted = PING_STATUS + POSITION_STATUS + PING_STATUS
             self.assertEqual(read_for(board.line, len(wanted)), wanted)
             # A packet in a damaged one: no byte is left to feed when the first is told.
-            board.send(bytes.fromhex("FFFFFD00010D0003") + PING + b"\0\0")
+            board.send(bytes.fromhex("FF FF FD 00 01 0D 00 03") + PING + b"\0\0")
             wanted = BAD_CHECKSUM + PING_STATUS
             self.assertEqual(read_for(board.line, len(wanted)), wanted)
 
     def test_the_arm_rests_without_torque(self):
         with Board("--slot", "100000") as board:
-            board.send(bytes.fromhex("FFFFFD0001090003740000020000CA89"))
+            board.send(bytes.fromhex("FF FF FD 00 01 09 00 03 74 00 00 02 00 00 CA 89"))
             self.assertEqual(read_for(board.line, len(DONE)), DONE)
             board.send(PING_ALL)  # for as long as its slot lasts the arm could move
             self.assertEqual(read_for(board.line, len(PING_STATUS)), PING_STATUS)
@@ -276,7 +278,7 @@ class BoardTest(unittest.TestCase):
     def test_a_status_waits_while_others_speak(self):
         with Board("--slot", "300000") as board:
             begin = time.monotonic()
-            board.send(PING_ALL + bytes.fromhex("FFFFFD00000700550006042669DC"))
+            board.send(PING_ALL + PING_STATUS_OF_0)
             self.assertEqual(read_for(board.line, len(PING_STATUS)), PING_STATUS)
             self.assertGreaterEqual(time.monotonic() - begin, 0.3)
 
@@ -302,7 +304,8 @@ class BoardTest(unittest.TestCase):
 
     def test_options(self):
         bad = [["--gap"], ["--gap", "0"], ["--gap", "-5"], ["--gap", "1.5"], ["--gap", "10000001"], ["--slot", "x"],
-               ["--slot", ""], ["--seconds", "0"], ["--seconds", "123456789"], ["--trace", "--gap"], ["--nonsense"], ["-h"], ["extra"]]
+               ["--slot", ""], ["--seconds", "0"], ["--seconds", "123456789"], ["--trace", "--gap"], ["--nonsense"], ["-h"],
+               ["extra"]]
         for words in bad:
             with self.subTest(words):
                 code, output, errors = run(BOARD, *words)

@@ -5,7 +5,7 @@ SHELL := /bin/sh
 .DELETE_ON_ERROR:
 # rt works in one target/ folder, so two of its runs must never overlap.
 .NOTPARALLEL:
-.PHONY: help run checksum lib test fuzz replay bench mutants fmt clean kit format promises_test c_test header_test rust_test
+.PHONY: help run checksum demo lib test fuzz replay bench mutants fmt clean kit format promises_test c_test header_test demo_test rust_test
 .PHONY: fuzz_program replay_file
 
 # Each crate listed here becomes an archive for C: capi is libmednukals.a, capi_NAME is libmednukals_NAME.a.
@@ -29,6 +29,7 @@ failed = { echo "mednukals: FAILED: $(1)" >&2; exit 1; }
 help:
 	@echo 'make run    print the packets and bad checksums in a capture, by the proved program (CAPTURE=FILE; CAPTURE=- reads standard input)'
 	@echo 'make checksum  print the checksum and byte count of a file, likewise (CAPTURE=FILE or -)'
+	@echo 'make demo   run a device in C on a pseudo-terminal, talk to it and show the exchanges'
 	@echo 'make lib    prove the exports and build the archives that C links: $(LIBS)'
 	@echo 'make test   the gate: formatting, C and Rust tests, then every proof from nothing'
 	@echo 'make fuzz   compare all exports with the second implementation for 10 minutes (SECONDS=N, SEED=S)'
@@ -72,7 +73,7 @@ endef
 $(foreach crate,$(EXPORT_CRATES),$(eval $(call archive_rule,$(crate))))
 
 # rt ci comes last: it removes target/, and its count is the last line.
-test: kit format promises_test lib c_test header_test rust_test
+test: kit format promises_test lib c_test header_test demo_test rust_test
 	@rt ci || $(call failed,rt ci)
 
 # Another kit may prove the same crates, so a difference is only said.
@@ -95,6 +96,26 @@ build/c/published build/c/exchange: build/c/%: tests/c/%.c include/mednukals.h b
 	@$(call need,$(CC))
 	@mkdir -p $(@D)
 	@$(CC) $(WARNINGS) -O2 -Iinclude -o $@ $< build/lib/libmednukals.a || $(call failed,compiling the C test)
+
+BOARD_SOURCES := examples/board.c examples/pty_line.c
+build/c/board: $(BOARD_SOURCES) examples/pty_line.h include/mednukals.h build/lib/libmednukals.a
+	@$(call need,$(CC))
+	@mkdir -p $(@D)
+	@$(CC) $(WARNINGS) -O2 -Iinclude -o $@ $(BOARD_SOURCES) build/lib/libmednukals.a || $(call failed,compiling the example board)
+
+# The board again, with a library that refuses what the test asks it to.
+comma := ,
+REFUSING := encode unstuff feed gap fresh measure device
+build/c/refusing_board: tests/c/refusing.c build/c/board
+	@$(CC) $(WARNINGS) -O2 -Iinclude -o $@ $(REFUSING:%=-Wl$(comma)--wrap=dxl_%) $(BOARD_SOURCES) $< build/lib/libmednukals.a \
+	    || $(call failed,compiling the refusing board)
+
+demo: build/c/board
+	@sh examples/demo.sh build/c/board || $(call failed,the demo)
+
+demo_test: build/c/board build/c/refusing_board
+	@$(call need,python3)
+	@python3 tests/demo_test.py build/c/board build/c/refusing_board || $(call failed,the test of board and master)
 
 header_test: $(LIBS)
 	@$(call need,python3)

@@ -1,0 +1,426 @@
+/*
+ * A board: the main loop that firmware writes around the library. Its line is a pseudo-terminal, whose name it prints;
+ * examples/talk.py is a master that talks to it. Firmware brings its own line and clock in place of pty_line.c, and its arm.
+ *
+ * The library finds the packets, keeps the control table and writes the status packets. What it leaves to the board is here: to
+ * say when the line was silent, to wait for a reply slot, to measure, and to act on a refusal.
+ */
+#define _POSIX_C_SOURCE 200809L
+#include <errno.h>
+#include <inttypes.h>
+#include <signal.h>
+#include <stdio.h>
+#include <stdlib.h>
+#include <string.h>
+
+#include "mednukals.h"
+#include "pty_line.h"
+
+/* Exit codes. */
+enum { ENDED = 0, FAILED = 1, BAD_OPTION = 2, REFUSED = 3 };
+
+/* The registers that are read here. */
+enum { ID = 7, TORQUE_ENABLE = 64, GOAL_POSITION = 116 };
+
+enum { PING = 0x01 };
+
+/* The arm moves by at most ARM_STEP in ARM_TICK microseconds. */
+enum { ARM_TICK = 10000, ARM_STEP = 32 };
+
+/* The options; times are in microseconds. In a slot fit the longest status, 21 bytes at 57,600 baud, and a gap. */
+static int64_t gap = 1500, slot_time = 6000;
+static int64_t seconds; /* 0: no end */
+static int tracing, self_test_only;
+
+/* What is lent to the library, as its header says. */
+static uint8_t held[DXL_MAX_HELD], packet[DXL_MAX_PACKET], body[DXL_MAX_BODY];
+static uint8_t table[DXL_TABLE_BYTES], reply[DXL_MIN_REPLY];
+static struct dxl_registered registered;
+static size_t count;
+
+static struct line line;
+static int64_t last_byte; /* when bytes came last */
+
+/* The status that waits for its slot: the first bytes of reply, which the library leaves alone while it has nothing to say. */
+static size_t waiting; /* how many; 0: none waits */
+static int64_t waiting_until;
+
+static int32_t position; /* of the arm */
+static int64_t next_tick;
+
+static volatile sig_atomic_t stopping;
+
+/* ---- faults ---- */
+
+static void fail(const char *what)
+{
+    fprintf(stderr, "board: %s failed: %s\n", what, strerror(errno));
+    exit(FAILED);
+}
+
+static const char *meaning(int64_t refusal)
+{
+    switch (refusal) {
+    case DXL_BAD_ID: return "an ID of 253 or 255";
+    case DXL_TOO_LONG: return "the packet would be too long";
+    case DXL_NO_ROOM: return "the output buffer has too little room";
+    case DXL_BAD_STUFFING: return "the body is not well stuffed";
+    case DXL_NOT_A_TABLE: return "the control table is not 136 bytes long";
+    case DXL_BAD_TABLE_ID: return "the control table's ID is above 252";
+    case DXL_BAD_REGISTERED: return "the registered write's count is above 8";
+    case DXL_SHORT_REPLY: return "the reply buffer has fewer than 32 bytes";
+    case DXL_BAD_READER: return "the reader's count is above 1,030";
+    default: return "a number that the header does not list";
+    }
+}
+
+/*
+ * The answer of a call that did not refuse. Nothing that comes over the line makes a call refuse here. A refusal means that this
+ * program lent something unfit or that its memory was overwritten: a board would let go of the motor and start anew.
+ */
+static size_t accepted(const char *call, int64_t answer)
+{
+    if (answer < 0) {
+        fprintf(stderr, "board: %s refuses with %" PRId64 ": %s\n", call, -answer, meaning(-answer));
+        exit(REFUSED);
+    }
+    return (size_t)answer;
+}
+
+/* ---- tracing ---- */
+
+static void print_bytes(FILE *file, const char *what, const uint8_t *bytes, size_t n)
+{
+    fprintf(file, "%s:", what);
+    for (size_t i = 0; i < n; i++)
+        fprintf(file, " %02X", bytes[i]);
+    fprintf(file, "\n");
+}
+
+static void trace(const char *what, const uint8_t *bytes, size_t n)
+{
+    if (tracing)
+        print_bytes(stderr, what, bytes, n);
+}
+
+static void trace_event(struct dxl_step step)
+{
+    if (step.kind == DXL_PACKET)
+        trace("packet", packet, step.count);
+    else
+        trace("bad checksum, ID", &step.id, 1);
+}
+
+/* ---- what goes out ---- */
+
+static void send_waiting(void)
+{
+    trace("sent", reply, waiting);
+    if (line_send(&line, reply, waiting) != 0) {
+        if (errno != EAGAIN)
+            fail("writing to the line");
+        fprintf(stderr, "board: a status is lost: nobody reads the line\n");
+    }
+    waiting = 0;
+}
+
+/*
+ * Sends the first n bytes of reply when their slot comes. Slots are counted from the last byte heard: boards keep in step then,
+ * though one hears a packet at its last byte and another, behind noise, only at the gap. What is due goes at once, before the
+ * next event fills reply again. A status that waited until now is given up: the master has not waited for it, and by now its slot
+ * may be another's.
+ */
+static void send_in_slot(size_t n, size_t slot)
+{
+    if (waiting > 0 && tracing)
+        fputs("given up: the status that waited\n", stderr);
+    waiting = n;
+    waiting_until = last_byte + (int64_t)slot * slot_time;
+    if (line_clock() >= waiting_until)
+        send_waiting();
+}
+
+/* ---- what comes in ---- */
+
+static int is_event(const char *call, struct dxl_step step)
+{
+    if (step.kind == DXL_BAD_READER)
+        accepted(call, -(int64_t)DXL_BAD_READER);
+    return step.kind != DXL_NO_EVENT;
+}
+
+/* Carries out what was heard; the status lies in reply. */
+static struct dxl_answer carry_out(struct dxl_step step)
+{
+    size_t n = 0;
+    if (step.kind == DXL_PACKET)
+        n = accepted("dxl_unstuff", dxl_unstuff(packet + 7, step.count - 9, body, sizeof body));
+    struct dxl_answer answer =
+        dxl_device(table, sizeof table, registered, step.kind, step.id, body, n, reply, sizeof reply);
+    accepted("dxl_device", answer.count);
+    registered = answer.registered;
+    return answer;
+}
+
+static void hear(struct dxl_step step)
+{
+    trace_event(step);
+    struct dxl_answer answer = carry_out(step);
+    if (answer.count > 0)
+        send_in_slot((size_t)answer.count, answer.slot);
+}
+
+/* Feeds until a call gives no event, also where no byte is left: more events may lie in the held bytes. */
+static void bytes_came(const uint8_t *chunk, size_t n)
+{
+    for (;;) {
+        struct dxl_step step = dxl_feed(held, &count, chunk, n, packet);
+        if (!is_event("dxl_feed", step))
+            return;
+        chunk += step.taken;
+        n -= step.taken;
+        hear(step);
+    }
+}
+
+static void line_was_silent(void)
+{
+    trace("gap, held", held, count);
+    for (;;) {
+        struct dxl_step step = dxl_gap(held, &count, packet);
+        if (!is_event("dxl_gap", step))
+            return;
+        hear(step);
+    }
+}
+
+static void read_line(void)
+{
+    uint8_t chunk[256];
+    int n = line_read(&line, chunk, sizeof chunk);
+    if (n < 0)
+        fail("reading from the line");
+    if (n > 0)
+        last_byte = line_clock();
+    bytes_came(chunk, (size_t)n);
+}
+
+/* ---- the arm ---- */
+
+/* Four bytes of the table, lowest first, as a signed number. */
+static int32_t signed_at(size_t address)
+{
+    const uint8_t *b = table + address;
+    uint32_t u = (uint32_t)b[0] | (uint32_t)b[1] << 8 | (uint32_t)b[2] << 16 | (uint32_t)b[3] << 24;
+    return u <= INT32_MAX ? (int32_t)u : -(int32_t)(UINT32_MAX - u) - 1;
+}
+
+/* Stands in for motor and sensor: towards the goal while torque is on, and the table learns where the arm is. */
+static void move_arm(void)
+{
+    int64_t way = (int64_t)signed_at(GOAL_POSITION) - position;
+    if (way > ARM_STEP)
+        way = ARM_STEP;
+    if (way < -ARM_STEP)
+        way = -ARM_STEP;
+    if (table[TORQUE_ENABLE] != 0)
+        position += (int32_t)way;
+    accepted("dxl_measure", dxl_measure(table, sizeof table, position, 0));
+}
+
+/* ---- the loop ---- */
+
+/* The segment ends here, unless bytes come earlier. Where none are held, a gap changes nothing. */
+static int64_t gap_end(void)
+{
+    return count > 0 ? last_byte + gap : LINE_NEVER;
+}
+
+static int64_t earlier(int64_t a, int64_t b)
+{
+    return a < b ? a : b;
+}
+
+/*
+ * A gap is told only where the wait for it ended without a byte. The clock alone would not do: bytes may have come while this
+ * program was kept from running. A signal that comes just before the wait is seen at the arm's next tick.
+ */
+static void run(int64_t end)
+{
+    while (!stopping && line_clock() < end) {
+        int64_t slot = waiting > 0 ? waiting_until : LINE_NEVER;
+        int64_t until = earlier(earlier(gap_end(), slot), earlier(next_tick, end));
+        enum line_news news = line_wait(&line, until);
+        if (news == LINE_BROKEN)
+            fail("waiting for the line");
+        if (news == LINE_BYTES)
+            read_line();
+        if (news == LINE_TIME && until == gap_end())
+            line_was_silent();
+        if (waiting > 0 && line_clock() >= waiting_until)
+            send_waiting();
+        if (line_clock() >= next_tick) {
+            move_arm();
+            next_tick = line_clock() + ARM_TICK;
+        }
+    }
+}
+
+/* ---- start ---- */
+
+static void test_failed(const char *what)
+{
+    fprintf(stderr, "board: the self-test fails: %s\n", what);
+    exit(FAILED);
+}
+
+static void expect_checksum(const uint8_t *bytes, size_t n)
+{
+    uint16_t sum = dxl_crc16(0, bytes, n - 2);
+    if (bytes[n - 2] != (sum & 0xFF) || bytes[n - 1] != sum >> 8)
+        test_failed("a packet's checksum is wrong");
+}
+
+/* Before the line is opened: a Ping to the own ID is encoded, read and answered, and both checksums are computed again. */
+static void self_test(void)
+{
+    uint8_t ping[16];
+    size_t n = accepted("dxl_encode", dxl_encode(table[ID], PING, body, 0, ping, sizeof ping, 0));
+    expect_checksum(ping, n);
+    struct dxl_step step = dxl_feed(held, &count, ping, n, packet);
+    if (!is_event("dxl_feed", step) || step.count != n || memcmp(packet, ping, n) != 0)
+        test_failed("the Ping is not read as it was encoded");
+    size_t status = (size_t)carry_out(step).count;
+    if (status == 0)
+        test_failed("the Ping is not answered");
+    expect_checksum(reply, status);
+    if (self_test_only) {
+        print_bytes(stdout, "Ping", ping, n);
+        print_bytes(stdout, "status", reply, status);
+    }
+}
+
+static void stop(int number)
+{
+    (void)number;
+    stopping = 1;
+}
+
+static void catch_signals(void)
+{
+    struct sigaction action;
+    memset(&action, 0, sizeof action);
+    action.sa_handler = stop;
+    if (sigaction(SIGINT, &action, NULL) != 0 || sigaction(SIGTERM, &action, NULL) != 0)
+        fail("catching signals");
+}
+
+static void open_line(void)
+{
+    const char *failed = line_open(&line);
+    if (failed != NULL)
+        fail(failed);
+    printf("line: %s\n", line.path);
+    if (fflush(stdout) != 0)
+        fail("printing the line's name");
+}
+
+/* ---- options ---- */
+
+static const char HELP[] =
+    "board [--gap MICROSECONDS] [--slot MICROSECONDS] [--seconds N] [--trace]\n"
+    "board --self-test\n"
+    "\n"
+    "A DYNAMIXEL Protocol 2.0 device with ID 1 on a pseudo-terminal, and an arm that is simulated.\n"
+    "It prints the pseudo-terminal's name, as 'line: PATH', and runs until SIGINT or SIGTERM.\n"
+    "\n"
+    "--gap        a longer silence than this ends a segment (1500)\n"
+    "--slot       how long a reply slot lasts (6000)\n"
+    "--seconds    end after so many seconds\n"
+    "--trace      print each packet, bad checksum, gap and status on standard error\n"
+    "--self-test  encode, read and answer a Ping, print both packets and end\n"
+    "\n"
+    "Exit codes: 0 ended as asked, 1 the system or the self-test failed, 2 a bad option, 3 the library refused a call\n";
+
+static const struct {
+    const char *name;
+    int64_t *value, least, most;
+} NUMBERS[] = {{"--gap", &gap, 1, 10000000}, {"--slot", &slot_time, 0, 10000000}, {"--seconds", &seconds, 1, 86400}};
+
+static const struct {
+    const char *name;
+    int *value;
+} SWITCHES[] = {{"--trace", &tracing}, {"--self-test", &self_test_only}};
+
+static void bad_option(const char *option, const char *what)
+{
+    fprintf(stderr, "board: %s: %s (--help lists the options)\n", option, what);
+    exit(BAD_OPTION);
+}
+
+/* Digits only, at most eight of them, so that nothing overflows. */
+static int64_t number(const char *option, const char *text, int64_t least, int64_t most)
+{
+    size_t digits = text == NULL ? 0 : strspn(text, "0123456789");
+    if (digits == 0 || digits > 8 || text[digits] != '\0')
+        bad_option(option, "wants a number of at most eight digits");
+    int64_t n = (int64_t)strtol(text, NULL, 10);
+    if (n < least || n > most)
+        bad_option(option, "the number is out of range");
+    return n;
+}
+
+static int take_switch(const char *option)
+{
+    for (size_t i = 0; i < sizeof SWITCHES / sizeof SWITCHES[0]; i++) {
+        if (strcmp(option, SWITCHES[i].name) == 0) {
+            *SWITCHES[i].value = 1;
+            return 1;
+        }
+    }
+    return 0;
+}
+
+static int take_number(const char *option, const char *text)
+{
+    for (size_t i = 0; i < sizeof NUMBERS / sizeof NUMBERS[0]; i++) {
+        if (strcmp(option, NUMBERS[i].name) == 0) {
+            *NUMBERS[i].value = number(option, text, NUMBERS[i].least, NUMBERS[i].most);
+            return 1;
+        }
+    }
+    return 0;
+}
+
+static void take_options(char **words)
+{
+    while (*words != NULL) {
+        if (strcmp(*words, "--help") == 0) {
+            fputs(HELP, stdout);
+            exit(ENDED);
+        }
+        if (take_switch(words[0]))
+            words += 1;
+        else if (take_number(words[0], words[1]))
+            words += 2;
+        else
+            bad_option(*words, "no such option");
+    }
+}
+
+int main(int argc, char **argv)
+{
+    setvbuf(stderr, NULL, _IOLBF, BUFSIZ); /* a line of the trace goes out in one write */
+    if (argc > 0)
+        take_options(argv + 1);
+    accepted("dxl_fresh", dxl_fresh(table, sizeof table));
+    self_test();
+    if (self_test_only)
+        return ENDED;
+    catch_signals();
+    open_line();
+    next_tick = line_clock();
+    run(seconds > 0 ? next_tick + seconds * 1000000 : LINE_NEVER);
+    fprintf(stderr, "board: ended, %s\n", stopping ? "as a signal asked" : "its time is over");
+    return ENDED;
+}

@@ -1,0 +1,56 @@
+/*
+ * Stands between the example board and the library, by the linker's --wrap: the call that REFUSING names, in the environment,
+ * answers the refusal REFUSAL; all others go on to the library. Nothing that comes over the line makes a call of the board
+ * refuse, and so this shows what the board does then.
+ */
+#include <stdlib.h>
+#include <string.h>
+
+#include "mednukals.h"
+
+static int64_t refusal(const char *call)
+{
+    const char *name = getenv("REFUSING"), *number = getenv("REFUSAL");
+    return name != NULL && number != NULL && strcmp(name, call) == 0 ? strtol(number, NULL, 10) : 0;
+}
+
+/* The linker sends the board's calls of NAME to __wrap_NAME, and calls of __real_NAME to the library. */
+#define DECLARE(answer, name, parameters) \
+    answer __real_##name parameters;      \
+    answer __wrap_##name parameters;      \
+    answer __wrap_##name parameters
+
+/* A call that answers a count or minus a refusal. */
+#define COUNT(name, parameters, arguments)                      \
+    DECLARE(int64_t, name, parameters)                          \
+    {                                                           \
+        int64_t number = refusal(#name);                        \
+        return number != 0 ? -number : __real_##name arguments; \
+    }
+
+/* A reader's call. */
+#define STEP(name, parameters, arguments)                          \
+    DECLARE(struct dxl_step, name, parameters)                     \
+    {                                                              \
+        struct dxl_step step = {0, 0, (uint8_t)refusal(#name), 0}; \
+        return step.kind != 0 ? step : __real_##name arguments;    \
+    }
+
+COUNT(dxl_encode,
+      (uint8_t id, uint8_t instruction, const uint8_t *params, size_t n_params, uint8_t *out, size_t n_out, size_t at),
+      (id, instruction, params, n_params, out, n_out, at))
+COUNT(dxl_unstuff, (const uint8_t *body, size_t n_body, uint8_t *out, size_t n_out), (body, n_body, out, n_out))
+COUNT(dxl_fresh, (uint8_t *table, size_t n), (table, n))
+COUNT(dxl_measure, (uint8_t *table, size_t n, int32_t position, uint8_t hardware_error), (table, n, position, hardware_error))
+STEP(dxl_feed, (uint8_t held[1030], size_t *count, const uint8_t *chunk, size_t n, uint8_t packet[1031]),
+     (held, count, chunk, n, packet))
+STEP(dxl_gap, (uint8_t held[1030], size_t *count, uint8_t packet[1031]), (held, count, packet))
+
+DECLARE(struct dxl_answer, dxl_device,
+        (uint8_t *table, size_t n_table, struct dxl_registered registered, uint8_t kind, uint8_t id, const uint8_t *body,
+         size_t n_body, uint8_t *reply, size_t n_reply))
+{
+    struct dxl_answer refused = {-refusal("dxl_device"), 0, registered};
+    return refused.count != 0 ? refused
+                              : __real_dxl_device(table, n_table, registered, kind, id, body, n_body, reply, n_reply);
+}

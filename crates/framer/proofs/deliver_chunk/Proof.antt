@@ -102,7 +102,7 @@ place-requires-3 c κs =
     simp length-take (omega arith)
 
 sub-stepped-2 : tie.Need-sub-stepped-2
-sub-stepped-2 c = on₂ (c .before .before .before .before .before .before)
+sub-stepped-2 c = omega (arith, on₂ (c .before .before .before .before .before .before))
 
 stepped-requires-2 : tie.Need-stepped-requires-2
 stepped-requires-2 c κs = search needs

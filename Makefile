@@ -124,6 +124,7 @@ header_test: $(LIBS)
 promises_test:
 	@$(call need,python3)
 	@python3 tests/check_promises.py || $(call failed,docs/PROMISES.md beside the tree)
+	@python3 tests/check_believe.py || $(call failed,docs/BELIEVE.md beside the tree)
 
 rust_test: $(LIBS) build/bin/line
 	@$(call need,cargo)

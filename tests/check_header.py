@@ -7,6 +7,8 @@ import re
 import subprocess
 import sys
 
+from faults import report
+
 MEMORY_FUNCTIONS = {"memcpy", "memmove", "memset", "memcmp"}
 
 
@@ -30,11 +32,7 @@ def main(header, archive):
     faults += [f"the archive asks for {name}" for name in sorted(wanted)]
     if not declared:
         faults.append("no function is declared")
-    for fault in faults:
-        print(f"header: {fault}", file=sys.stderr)
-    if not faults:
-        print(f"header: {len(declared)} functions, each declared and in the archive; no state, nothing else asked for")
-    return 1 if faults else 0
+    return report("header", faults, f"{len(declared)} functions, each declared and in the archive; no state, nothing else asked for")
 
 
 if __name__ == "__main__":

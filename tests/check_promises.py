@@ -6,6 +6,8 @@ import re
 import sys
 from pathlib import Path
 
+from faults import report
+
 PAGE = Path("docs/PROMISES.md")
 
 
@@ -22,11 +24,7 @@ def main():
     faults = [f"the edit {edit} is cited and not there" for edit in sorted(cited - edits)]
     faults += [f"the edit {edit} is cited nowhere" for edit in sorted(edits - cited)]
     faults += [f"the file {file} is cited and not there" for file in sorted(files) if not any((p / file).exists() for p in places)]
-    for fault in faults:
-        print(f"promises: {fault}", file=sys.stderr)
-    if not faults:
-        print(f"promises: {len(edits)} must-fail edits, each cited and there; {len(files)} files cited and there")
-    return 1 if faults else 0
+    return report("promises", faults, f"{len(edits)} must-fail edits, each cited and there; {len(files)} files cited and there")
 
 
 if __name__ == "__main__":

@@ -173,6 +173,9 @@ struct dxl_step {
  *             hear(step);
  *         }
  *     }
+ *
+ * Whatever comes over the line, none of these calls refuses. A refusal means that the program lent something unfit, or that its
+ * memory was overwritten; examples/board.c, the same loop on a real line, tests for it after each call and stops.
  */
 
 /*

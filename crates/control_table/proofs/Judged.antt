@@ -18,12 +18,15 @@ use Rattle.control_table.specs.declared.Outcome.{Outcome}
 use Rattle.control_table.specs.declared.Outcome.the-variants.{Done, DataRange, DataLength, DataLimit, NoAccess, NotTable}
 use Rattle.lists.proofs.Bools.{and-left, and-right}
 
-pub least-some : (table : List ℕ) → 1 ≤ leastToWrite table
-least-some table = by-torque (eqb (getD table (torqueEnable .address) 0) 0)
+pub least-two : (table : List ℕ) → 2 ≤ leastToWrite table
+least-two table = by-torque (eqb (getD table (torqueEnable .address) 0) 0)
   where
-    by-torque : (b : Bool) → 1 ≤ cond b 2 3
+    by-torque : (b : Bool) → 2 ≤ cond b 2 3
     by-torque true = omega arith
     by-torque false = omega arith
+
+pub least-some : (table : List ℕ) → 1 ≤ leastToWrite table
+least-some table = let h = least-two table in omega arith
 
 pub done-none : (o : Outcome) → isDone o ≡ true → refusalOf o ≡ none
 done-none Done e = refl
@@ -61,6 +64,13 @@ not-done o e true true next h = absurd (false≢true (sym e ∙ none-done o h))
 stage-passed : (b : Bool) (number : ℕ) (next : Option ℕ) → cond b next (some number) ≡ none → (b ≡ true) × (next ≡ none)
 stage-passed true number next e = (refl, e)
 stage-passed false number next e = absurd (Option·some-ne-none number e)
+
+-- each item that is touched is covered whole, where the items are good
+pub items-covered : (address n : ℕ) (new : List ℕ) (o : Outcome) → isDone o ≡ true → refusalOf o ≡ itemsRule address n new
+    → everyTouched address n (covers address n) registers ≡ true
+unfolding itemsRule
+items-covered address n new o e h =
+    stage-passed (everyTouched address n (covers address n) registers) 0x05 _ (sym h ∙ done-none o e) .0
 
 module _ (table : List ℕ) (address : ℕ) (bytes : List ℕ) where
   pub not-table : (length table ≡ tableSize → ⊥) → some 21 ≡ inTable table (writeRule table address bytes)

@@ -1,58 +1,22 @@
--- What the bytes permit: the code's table of it, a run of bytes, and how long a run can be.
-use mathlib.Core.Path.{_≡_, refl, sym, _∙_}
-use mathlib.Core.Bool.{Bool, true, false, not, cond, _&&_, and-false}
-use mathlib.Core.List.{List, [], _∷_}
+-- What the bytes permit: a run of bytes, register by register, and how long a run can be.
+use mathlib.Core.Path.{_≡_, refl, sym, ap, _∙_}
+use mathlib.Core.Bool.{Bool, true, false, not, _&&_}
 use Prim.Native.Nat.{ℕ, zero, suc, _+_, _-_, _≤_, _<_}
 use native.Mathlib.Nat.{add-zero}
 use native.Mathlib.Numerals.{add-one, sub-one}
 use native.Mathlib.Omega.{arith}
-use lib.Dec.{T, T-not, leb, ltb, eqb, eqb→eq}
-use lib.ListN.{getD}
-use borrow.Author.Tests.{le-leb, lt-leb, le-ltb, leb-true, leb-false, ltb-true, ltb-false}
+use lib.Dec.{T-not, leb, ltb}
+use borrow.Author.Tests.{le-leb, lt-leb, leb-true, leb-false, ltb-true, ltb-false}
 use Rattle.lists.proofs.Bools.{and-left, and-right}
-use Rattle.lists.proofs.Below.{allBelow, below}
-use Rattle.control_table.specs.Registers.{Register, registers, tableSize, endOf, permitsBy, permits}
+use Rattle.lists.proofs.Below.{below}
+use Rattle.control_table.specs.Registers.{registers, tableSize, endOf, permitsBy, permits}
 use Rattle.control_table.specs.Rules.{everyByte}
-
-true-holds : (b : Bool) → b ≡ true → T b
-true-holds true e = tt
-true-holds false e = let z : _≡_ {A = ℕ} 0 1 = cc in absurd (omega arith)
-
--- the rule of the code's table, by a test over its bytes
-pub Rule : List ℕ → Type 0
-Rule table = (a : ℕ) → a < tableSize → getD table a 0 ≡ permits a
-
-abbrev pub byteRight : List ℕ → ℕ → Bool
-byteRight table a = eqb (getD table a 0) (permits a)
-
-pub rule : (table : List ℕ) → T (allBelow (byteRight table) tableSize) → Rule table
-unfolding Rule
-rule table t a h = eqb→eq (getD table a 0) (permits a) (below (byteRight table) tableSize t a h)
-
-pub rule-at : (table : List ℕ) → Rule table → (a : ℕ) → a < tableSize → getD table a 0 ≡ permits a
-unfolding Rule
-rule-at table r a h = r a h
+use Rattle.control_table.specs.declared.Row.{Row}
+use Rattle.control_table.proofs.Rows.{true-holds, nth, place, permits-row, none-past, same-permits}
 
 -- past the table nothing is permitted
-inside : List Register → Bool
-inside [] = true
-inside (r ∷ rs) = cond (leb (endOf r) tableSize) (inside rs) false
-
-past-in : (rs : List Register) → T (inside rs) → (a : ℕ) → tableSize ≤ a → permitsBy rs a ≡ 0
-unfolding permitsBy inside
-past-in [] t a h = refl
-past-in (r ∷ rs) t a h = by-end (leb (endOf r) tableSize) refl t (λ u. past-in rs u a h)
-  where
-    by-end : (b : Bool) → leb (endOf r) tableSize ≡ b → T (cond b (inside rs) false) → (T (inside rs) → permitsBy rs a ≡ 0)
-        → permitsBy (r ∷ rs) a ≡ 0
-    by-end false e u rest = absurd u
-    by-end true e u rest =
-        let k = leb-true (endOf r) tableSize e in
-        simp (le-ltb a (endOf r) (omega arith), and-false) (rest u)
-
-pub past : (a : ℕ) → tableSize ≤ a → permits a ≡ 0
-unfolding registers inside
-past a h = past-in registers tt a h
+past : (a : ℕ) → tableSize ≤ a → permits a ≡ 0
+past a h = sym (permits-row a) ∙ ap (λ (r : Row). r .permits) (sym (none-past a h))
 
 module _ (least a : ℕ) where
   pub every-turn : (n : ℕ) → 0 < n → everyByte least a n ≡ (leb least (permits a) && everyByte least (a + 1) (n - 1))
@@ -66,8 +30,6 @@ module _ (least a : ℕ) where
 
   pub every-next : (n : ℕ) → 0 < n → least ≤ permits a → everyByte least (a + 1) (n - 1) ≡ everyByte least a n
   every-next n h l = sym (every-turn n h ∙ simp (le-leb least (permits a) l))
-
--- ---- how long a run can be
 
 pub every-at : (least a n k : ℕ) → everyByte least a n ≡ true → k < n → least ≤ permits (a + k)
 every-at least a n zero e h =
@@ -86,6 +48,36 @@ every-made least a (suc n) f =
       every-made least (suc a) n (λ k h.
           let m : a + suc k ≡ suc a + k = omega arith in rw m at (f (suc k) (omega arith))),
     )
+
+-- ---- register by register
+
+every-skip : (least a n k : ℕ) → ((j : ℕ) → j < k → least ≤ permits (a + j)) → k ≤ n → everyByte least (a + k) (n - k) ≡ everyByte least a n
+every-skip least a n zero f h =
+    let e₁ : a + 0 ≡ a = omega arith in
+    let e₂ : n - 0 ≡ n = omega arith in
+    rw (e₁, e₂)
+every-skip least a n (suc k) f h =
+    let e₁ : a + suc k ≡ a + k + 1 = omega arith in
+    let e₂ : n - suc k ≡ n - k - 1 = omega arith in
+    rw (e₁, e₂)
+    (every-next least (a + k) (n - k) (omega arith) (f k (omega arith)) ∙ every-skip least a n k (λ j m. f j (omega arith)) (omega arith))
+
+module _ (least a n run : ℕ) (l : 1 ≤ least) (h : least ≤ permits a) (e : a + run ≡ endOf (nth (place a))) where
+  in-run : (j : ℕ) → j < run → least ≤ permits (a + j)
+  in-run j m = let s = same-permits a j (omega arith) (omega arith) in omega arith
+
+  -- the bytes of the register are all that are left, or the rest decides
+  pub run-ends : n ≤ run → everyByte least a n ≡ true
+  run-ends m = every-made least a n (λ j k. in-run j (omega arith))
+
+  pub run-goes-on : run ≤ n → everyByte least (a + run) (n - run) ≡ everyByte least a n
+  run-goes-on m = every-skip least a n run in-run m
+
+-- what permits writing in every state permits it in one
+pub every-weaker : (least weaker a n : ℕ) → weaker ≤ least → everyByte least a n ≡ true → everyByte weaker a n ≡ true
+every-weaker least weaker a n h e = every-made weaker a n (λ k m. let p = every-at least a n k e m in omega arith)
+
+-- ---- how long a run can be
 
 -- a byte that permits something lies in the table
 pub defined-inside : (a : ℕ) → 1 ≤ permits a → a < tableSize

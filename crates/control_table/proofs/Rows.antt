@@ -1,98 +1,231 @@
--- The code's rows are the registers, and what holds of each of them.
+-- The register that has a byte, as the code finds it.
 use mathlib.Core.Path.{_≡_, refl, sym, ap, _∙_}
-use mathlib.Core.Bool.{Bool, true, false, not, _&&_, _||_, or-true}
-use mathlib.Core.List.{List, map}
-use Prim.Native.Nat.{ℕ, _+_, _≤_, _<_}
-use native.Mathlib.Numerals.{add-one}
+use mathlib.Core.Bool.{Bool, true, false, cond, _&&_, _||_, and-false, false≢true}
+use mathlib.Core.List.{List, [], _∷_}
+use Prim.Native.Nat.{ℕ, suc, _+_, _-_, _≤_, _<_}
 use native.Mathlib.Omega.{arith}
-use lib.Dec.{T, leb, eqb}
-use lib.ListN.{drop, getD, drop-of-length-le, List·getD-map}
-use lib.Seq.{drop-cons}
-use borrow.Author.Tests.{leb-true, eqb-true, ne-eqb}
-use Rattle.lists.proofs.Below.{below}
-use Rattle.control_table.specs.Registers.{Register, Access, readOnly, readWrite, ram, register, registers, tableSize}
-use Rattle.lists.proofs.Bools.{and-left, and-right}
-use Rattle.control_table.specs.Rules.{touches, everyTouched}
-use lib.IntN.{ℤ, pos}
+use lib.Dec.{T, leb, ltb, eqb, eqb→eq}
+use lib.IntN.{ℤ}
+use lib.ListN.{length, getD}
 use lib.Signed.{leZ}
-use Rattle.control_table.specs.Items.{numberAt, signed, valueAt, inRange}
-use Rattle.control_table.specs.Rows.{writable, lowest, highest, rowOf, rowSound, rowInRange}
+use borrow.Author.Tests.{leb-true, ltb-true, ltb-false, le-ltb, ne-eqb}
+use Rattle.lists.proofs.Below.{allBelow, below}
+use Rattle.lists.proofs.Bools.{and-left, and-right}
+use Rattle.control_table.specs.Registers.{Register, Access, readOnly, readWrite, Area, ram, register, registers, tableSize, endOf, holds, grant, permitsBy, permits}
+use Rattle.control_table.specs.Items.{inRange}
+use Rattle.control_table.specs.Rows.{lowest, highest, rowOf, noRow, rowIn, rowAt, oneOrFour}
 use Rattle.control_table.specs.declared.Row.{Row}
 
-pub sound-end : (row : Row) → rowSound row ≡ true → row .start + row .bytes ≤ tableSize
-sound-end row h = leb-true (row .start + row .bytes) tableSize (and-left _ _ h)
-
--- a row that can be written has four bytes, or one
-pub sound-bytes : (row : Row) → rowSound row ≡ true → row .writable ≡ true → (row .bytes ≡ 4 → ⊥) → row .bytes ≡ 1
-sound-bytes row h w n =
-    let k : (not (row .writable) || (eqb (row .bytes) 1 || eqb (row .bytes) 4)) ≡ true =
-    and-right (leb (row .start + row .bytes) tableSize) _ h in
-    eqb-true (row .bytes) 1 (one (eqb (row .bytes) 1) (rw (w, ne-eqb (row .bytes) 4 n) at k))
-  where
-    one : (b : Bool) → (b || false) ≡ true → b ≡ true
-    one true e = refl
-    one false e = e
-
-value-byte : (table : List ℕ) (a : ℕ) → valueAt table a 1 ≡ pos (getD table a 0)
-unfolding valueAt numberAt
-value-byte table a = ap pos (omega arith)
-
--- the value that the code has read, in the row's range
-module _ (new : List ℕ) (row : Row) (value : ℤ) (w : row .writable ≡ true) where
-  pub in-range-word : row .bytes ≡ 4 → value ≡ signed (numberAt new (row .start) 4) → (leZ (row .low) value && leZ value (row .high)) ≡ rowInRange new row
-  unfolding valueAt
-  in-range-word b e = rw (w, b, e)
-
-  pub in-range-byte : row .bytes ≡ 1 → value ≡ pos (getD new (row .start) 0) → (leZ (row .low) value && leZ value (row .high)) ≡ rowInRange new row
-  in-range-byte b e = simp (w, b, e, value-byte)
-
--- ---- the registers one by one
-
 -- what stands past the end of the list
-abbrev noRegister : Register
+abbrev pub noRegister : Register
 noRegister = register 0 0 readOnly ram 0
 
--- the register of row i
 abbrev pub nth : ℕ → Register
 nth i = getD registers i noRegister
 
-pub row-at : (i : ℕ) → getD (map rowOf registers) i (rowOf noRegister) ≡ rowOf (nth i)
-row-at i = List·getD-map rowOf registers i noRegister
+-- the number of registers before the one that has the byte at a; of all, where none has it
+unfoldable pub placeIn : List Register → ℕ → ℕ
+placeIn [] a = 0
+placeIn (r ∷ rs) a = cond (holds r a) 0 (suc (placeIn rs a))
+
+abbrev pub place : ℕ → ℕ
+place a = placeIn registers a
+
+-- ---- the list, whatever registers it has
+
+module _ (a : ℕ) where
+  row-placed : (rs : List Register) → placeIn rs a < length rs → rowIn rs a ≡ rowOf (getD rs (placeIn rs a) noRegister)
+  unfolding rowIn placeIn
+  row-placed [] h = absurd (omega arith)
+  row-placed (r ∷ rs) h = by-test (holds r a) h (row-placed rs)
+    where
+      by-test : (b : Bool) → cond b 0 (suc (placeIn rs a)) < suc (length rs)
+          → (placeIn rs a < length rs → rowIn rs a ≡ rowOf (getD rs (placeIn rs a) noRegister))
+          → cond b (rowOf r) (rowIn rs a) ≡ rowOf (getD (r ∷ rs) (cond b 0 (suc (placeIn rs a))) noRegister)
+      by-test true k rest = refl
+      by-test false k rest = rest (omega arith)
+
+  row-none : (rs : List Register) → length rs ≤ placeIn rs a → rowIn rs a ≡ noRow
+  unfolding rowIn placeIn
+  row-none [] h = refl
+  row-none (r ∷ rs) h = by-test (holds r a) h (row-none rs)
+    where
+      by-test : (b : Bool) → suc (length rs) ≤ cond b 0 (suc (placeIn rs a)) → (length rs ≤ placeIn rs a → rowIn rs a ≡ noRow)
+          → cond b (rowOf r) (rowIn rs a) ≡ noRow
+      by-test true k rest = absurd (omega arith)
+      by-test false k rest = rest (omega arith)
+
+  row-permits : (rs : List Register) → rowIn rs a .permits ≡ permitsBy rs a
+  unfolding rowIn permitsBy
+  row-permits [] = refl
+  row-permits (r ∷ rs) = by-test (holds r a) (row-permits rs)
+    where
+      by-test : (b : Bool) → rowIn rs a .permits ≡ permitsBy rs a
+          → cond b (rowOf r) (rowIn rs a) .permits ≡ cond b (grant (r .access) (r .area)) (permitsBy rs a)
+      by-test true rest = refl
+      by-test false rest = rest
+
+  place-holds : (rs : List Register) → placeIn rs a < length rs → holds (getD rs (placeIn rs a) noRegister) a ≡ true
+  unfolding placeIn
+  place-holds [] h = absurd (omega arith)
+  place-holds (r ∷ rs) h = by-test (holds r a) refl h (place-holds rs)
+    where
+      by-test : (b : Bool) → holds r a ≡ b → cond b 0 (suc (placeIn rs a)) < suc (length rs)
+          → (placeIn rs a < length rs → holds (getD rs (placeIn rs a) noRegister) a ≡ true)
+          → holds (getD (r ∷ rs) (cond b 0 (suc (placeIn rs a))) noRegister) a ≡ true
+      by-test true e k rest = e
+      by-test false e k rest = rest (omega arith)
+
+-- ---- the register list, by computed tests
+
+-- each of the n bytes from `from` on has the register of place i
+abbrev run : ℕ → ℕ → ℕ → Bool
+run i from n = allBelow (λ (k : ℕ). eqb (place (from + k)) i) n
+
+run-place : (i from n : ℕ) → T (run i from n) → (a : ℕ) → from ≤ a → a < from + n → place a ≡ i
+run-place i from n t a h k =
+    let e : from + (a - from) ≡ a = omega arith in
+    rw e at (eqb→eq (place (from + (a - from))) i (below (λ (j : ℕ). eqb (place (from + j)) i) n t (a - from) (omega arith)))
+
+pub row-from : (i from n : ℕ) → i < 15 → T (run i from n) → (a : ℕ) → from ≤ a → a < from + n → rowOf (nth i) ≡ rowAt a
+unfolding registers
+row-from i from n l t a h k =
+    let e = run-place i from n t a h k in
+    sym (row-placed a registers (omega arith) ∙ ap (λ (j : ℕ). rowOf (nth j)) e)
+
+pub none-from : (from n : ℕ) → T (run 15 from n) → (a : ℕ) → from ≤ a → a < from + n → noRow ≡ rowAt a
+unfolding registers
+none-from from n t a h k = let e = run-place 15 from n t a h k in sym (row-none a registers (omega arith))
+
+-- past the table there is no register
+inside : List Register → Bool
+inside [] = true
+inside (r ∷ rs) = cond (leb (endOf r) tableSize) (inside rs) false
+
+past-in : (rs : List Register) → T (inside rs) → (a : ℕ) → tableSize ≤ a → noRow ≡ rowIn rs a
+unfolding rowIn inside
+past-in [] t a h = refl
+past-in (r ∷ rs) t a h = by-end (leb (endOf r) tableSize) refl t (λ u. past-in rs u a h)
+  where
+    by-end : (b : Bool) → leb (endOf r) tableSize ≡ b → T (cond b (inside rs) false) → (T (inside rs) → noRow ≡ rowIn rs a)
+        → noRow ≡ rowIn (r ∷ rs) a
+    by-end false e u rest = absurd u
+    by-end true e u rest =
+        let k = leb-true (endOf r) tableSize e in
+        simp (le-ltb a (endOf r) (omega arith), and-false) (rest u)
+
+pub none-past : (a : ℕ) → tableSize ≤ a → noRow ≡ rowAt a
+unfolding registers inside
+none-past a h = past-in registers tt a h
+
+-- ---- the register of a byte that permits something
+
+pub permits-row : (a : ℕ) → rowAt a .permits ≡ permits a
+permits-row a = row-permits a registers
+
+placed-row : (a : ℕ) → place a < 15 → rowAt a ≡ rowOf (nth (place a))
+unfolding registers
+placed-row a h = row-placed a registers h
+
+module _ (a : ℕ) (h : 1 ≤ permits a) where
+  pub place-inside : place a < 15
+  unfolding registers
+  place-inside = by-test (ltb (place a) 15) refl
+    where
+      by-test : (b : Bool) → ltb (place a) 15 ≡ b → place a < 15
+      by-test true e = ltb-true (place a) 15 e
+      by-test false e =
+          let l = ltb-false (place a) 15 e in
+          let none = ap (λ (r : Row). r .permits) (row-none a registers (omega arith)) in
+          let p = row-permits a registers in
+          absurd (omega arith)
+
+  pub row-is : rowAt a ≡ rowOf (nth (place a))
+  row-is = placed-row a place-inside
+
+  pub own-grant : grant (nth (place a) .access) (nth (place a) .area) ≡ permits a
+  own-grant = sym (ap (λ (r : Row). r .permits) row-is) ∙ permits-row a
+
+  has : holds (nth (place a)) a ≡ true
+  unfolding registers
+  has = place-holds a registers place-inside
+
+  pub starts : nth (place a) .address ≤ a
+  starts = leb-true (nth (place a) .address) a (and-left _ (ltb a (endOf (nth (place a)))) has)
+
+  pub ends : a < endOf (nth (place a))
+  ends = ltb-true a (endOf (nth (place a))) (and-right (leb (nth (place a) .address) a) _ has)
+
+-- A computed test over the registers: each lies in the table, has a byte, has each of its bytes alone, and has one byte or four
+-- if it can be written.
+abbrev sound : ℕ → Bool
+sound i =
+    leb (endOf (nth i)) tableSize
+    && (ltb 0 (nth i .bytes) && (run i (nth i .address) (nth i .bytes)
+    && (eqb (grant (nth i .access) (nth i .area)) 1 || oneOrFour (nth i .bytes))))
 
 holds-true : (b : Bool) → T b → b ≡ true
 holds-true true t = refl
 holds-true false t = absurd t
 
--- a computed test over the rows
-pub nth-sound : (i : ℕ) → i < 15 → rowSound (rowOf (nth i)) ≡ true
-unfolding registers
-nth-sound i h = holds-true (rowSound (rowOf (nth i))) (below (λ (k : ℕ). rowSound (rowOf (nth k))) 15 tt i h)
+pub true-holds : (b : Bool) → b ≡ true → T b
+true-holds true e = tt
+true-holds false e = absurd (false≢true e)
 
-pub row-end : (i : ℕ) → i < 15
-    → getD (map rowOf registers) i (rowOf noRegister) .start + getD (map rowOf registers) i (rowOf noRegister) .bytes ≤ tableSize
-row-end i h = rw (row-at i) (sound-end (rowOf (nth i)) (nth-sound i h))
+module _ (i : ℕ) (h : i < 15) where
+  nth-sound : sound i ≡ true
+  unfolding registers placeIn
+  nth-sound = holds-true (sound i) (below sound 15 tt i h)
 
-pub row-range : (access : Access) (value : ℤ)
-    → (not (writable access) || (leZ (lowest access) value && leZ value (highest access))) ≡ inRange access value
-row-range readOnly value = refl
-row-range (readWrite low high) value = refl
+  pub nth-end : endOf (nth i) ≤ tableSize
+  nth-end = leb-true (endOf (nth i)) tableSize (and-left _ _ nth-sound)
 
-module _ (a n : ℕ) (test : Register → Bool) (i : ℕ) where
-  turn : i < 15
-      → everyTouched a n test (drop i registers)
-      ≡ ((not (touches a n (nth i)) || test (nth i)) && everyTouched a n test (drop (i + 1) registers))
-  unfolding everyTouched registers
-  turn h = rw (add-one, drop-cons registers i noRegister)
+  pub nth-some : 0 < nth i .bytes
+  nth-some = ltb-true 0 (nth i .bytes) (and-left _ _ (and-right (leb (endOf (nth i)) tableSize) _ nth-sound))
 
-  pub untouched : i < 15 → touches a n (nth i) ≡ false → everyTouched a n test (drop (i + 1) registers) ≡ everyTouched a n test (drop i registers)
-  untouched h t = sym (turn h ∙ rw t)
+  nth-rest : (run i (nth i .address) (nth i .bytes) && (eqb (grant (nth i .access) (nth i .area)) 1 || oneOrFour (nth i .bytes))) ≡ true
+  nth-rest = and-right (ltb 0 (nth i .bytes)) _ (and-right (leb (endOf (nth i)) tableSize) _ nth-sound)
 
-  pub passed : i < 15 → test (nth i) ≡ true → everyTouched a n test (drop (i + 1) registers) ≡ everyTouched a n test (drop i registers)
-  passed h e = sym (turn h ∙ simp (e, or-true))
+  pub nth-place : (a : ℕ) → nth i .address ≤ a → a < endOf (nth i) → place a ≡ i
+  nth-place =
+      run-place i (nth i .address) (nth i .bytes)
+      (true-holds (run i (nth i .address) (nth i .bytes)) (and-left (run i (nth i .address) (nth i .bytes)) _ nth-rest))
 
-  pub failed : i < 15 → touches a n (nth i) ≡ true → test (nth i) ≡ false → everyTouched a n test (drop i registers) ≡ false
-  failed h t e = turn h ∙ rw (t, e)
+  pub nth-bytes : 2 ≤ grant (nth i .access) (nth i .area) → oneOrFour (nth i .bytes) ≡ true
+  nth-bytes w =
+      rw (ne-eqb (grant (nth i .access) (nth i .area)) 1 (λ e. omega arith)) at
+      (and-right (run i (nth i .address) (nth i .bytes)) (eqb (grant (nth i .access) (nth i .area)) 1 || oneOrFour (nth i .bytes)) nth-rest)
 
-  pub all-passed : 15 ≤ i → everyTouched a n test (drop i registers) ≡ true
-  unfolding everyTouched registers
-  all-passed h = ap (everyTouched a n test) (drop-of-length-le registers h)
+-- the bytes of a register permit the same
+pub same-permits : (a k : ℕ) → 1 ≤ permits a → a + k < endOf (nth (place a)) → permits (a + k) ≡ permits a
+same-permits a k h l =
+    let s = starts a h in
+    let p = place-inside a h in
+    let e = nth-place (place a) p (a + k) (omega arith) l in
+    sym (permits-row (a + k))
+    ∙ ap (λ (r : Row). r .permits) (placed-row (a + k) (omega arith) ∙ ap (λ (j : ℕ). rowOf (nth j)) e ∙ sym (row-is a h))
+    ∙ permits-row a
+
+-- what the code has found
+module _ (row : Row) (a : ℕ) (e : row ≡ rowAt a) where
+  pub found-permits : row .permits ≡ permits a
+  found-permits = ap (λ (r : Row). r .permits) e ∙ permits-row a
+
+  module _ (h : 1 ≤ permits a) where
+    pub found-row : row ≡ rowOf (nth (place a))
+    found-row = e ∙ row-is a h
+
+    pub found-end : row .start + row .bytes ≡ endOf (nth (place a))
+    found-end = ap (λ (r : Row). r .start + r .bytes) found-row
+
+    pub found-after : a < row .start + row .bytes
+    found-after = let k = found-end in let n = ends a h in omega arith
+
+    pub found-inside : row .start + row .bytes ≤ tableSize
+    found-inside = let k = found-end in let n = nth-end (place a) (place-inside a h) in omega arith
+
+-- a register that can be written has a range
+pub row-range : (access : Access) (area : Area) (value : ℤ) → 2 ≤ grant access area
+    → (leZ (lowest access) value && leZ value (highest access)) ≡ inRange access value
+row-range readOnly area value h = absurd (omega arith)
+row-range (readWrite low high) area value h = refl

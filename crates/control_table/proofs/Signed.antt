@@ -1,19 +1,20 @@
 -- Two's complement: what the machine's reading of a word is, below 2 ^ 31 and from there on, and the way back.
 use mathlib.Core.Path.{_≡_, refl, ap, _∙_}
-use mathlib.Core.Bool.{Bool, true, false, not}
+use mathlib.Core.Bool.{Bool, true, false, not, _||_}
 use Prim.Native.Nat.{ℕ, zero, suc, _+_, _-_, _*_, _<_, _≤_, _^_}
 use native.Mathlib.Nat.{zero-add}
 use native.Mathlib.Omega.{arith}
-use lib.Dec.{leb, ltb}
+use lib.Dec.{leb, ltb, eqb}
 use lib.IntN.{ℤ, pos, negsuc, _-ℤ_}
 use lib.Signed.{leZ, ltZ, mag}
 use mir.Syntax.{w32}
 use mir.Val.{toZ, ofZ, SFits}
 use mir.Facts.{toZ-ofZ}
-use borrow.Author.Tests.{lt-ltb, le-ltb, lt-leb, le-leb, ltb-true, ltb-false}
+use borrow.Author.Tests.{lt-ltb, le-ltb, lt-leb, le-leb, ltb-true, ltb-false, eqb-true, ne-eqb}
 use mathlib.Core.List.{List, [], _∷_}
 use lib.ListN.{getD}
-use Rattle.control_table.specs.Items.{signed, unsigned, numberAt}
+use Rattle.control_table.specs.Items.{signed, unsigned, numberAt, valueAt}
+use Rattle.control_table.specs.Rows.{oneOrFour}
 
 minus : (n : ℕ) → negsuc 0 -ℤ pos n ≡ negsuc n
 minus zero = refl
@@ -62,6 +63,22 @@ four-bytes table a =
     let e₂ : a + 2 ≡ suc (suc a) = omega arith in
     let e₃ : a + 3 ≡ suc (suc (suc a)) = omega arith in
     rw (e₁, e₂, e₃)
+
+-- the value of an item of four bytes, and of one
+pub value-word : (table : List ℕ) (a n : ℕ) → n ≡ 4 → valueAt table a n ≡ signed (numberAt table a 4)
+unfolding valueAt
+value-word table a n e = rw e
+
+pub value-byte : (table : List ℕ) (a n : ℕ) → n ≡ 1 → valueAt table a n ≡ pos (getD table a 0)
+unfolding valueAt numberAt
+value-byte table a n e = rw e (ap pos (omega arith))
+
+pub one-byte : (n : ℕ) → oneOrFour n ≡ true → (n ≡ 4 → ⊥) → n ≡ 1
+one-byte n e f = eqb-true n 1 (one (eqb n 1) (rw (ne-eqb n 4 f) at e))
+  where
+    one : (b : Bool) → (b || false) ≡ true → b ≡ true
+    one true e = refl
+    one false e = e
 
 -- a number below zero, and one that is not
 turned : (z : ℤ) → ltZ z (pos 0) ≡ true → negsuc 0 -ℤ z ≡ pos (mag z)

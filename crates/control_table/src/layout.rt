@@ -1,251 +1,162 @@
-// The register list as constants. The proofs hold each of them to the list of specs/Registers.antt.
+// The register list as code: the register that has a byte. The proofs hold each answer to the list of specs/Registers.antt.
 use crate::Row;
+ghost use mathlib.Core.Path.{_≡_};
+ghost use Prim.Native.Nat.{_≤_, _<_};
+ghost use Rattle.control_table.specs.Registers.{readOnly, readWrite, rom, ram, register};
+ghost use Rattle.control_table.specs.Rows.{rowOf, noRow, rowAt};
 
-// The registers; a range stands where they can be written.
-pub const ROWS: [Row; 15] = [
+fn undefined() -> Row
+    ensures { λ r. ⌜ r ≡ noRow ⌝ }
+{
     Row {
         start: 0,
-        bytes: 2,
-        writable: false,
+        bytes: 0,
+        permits: 0,
         low: 0,
         high: 0,
-    },
-    Row {
-        start: 6,
-        bytes: 1,
-        writable: false,
-        low: 0,
-        high: 0,
-    },
-    Row {
-        start: 7,
-        bytes: 1,
-        writable: true,
-        low: 0,
-        high: 252,
-    },
-    Row {
-        start: 8,
-        bytes: 1,
-        writable: true,
-        low: 0,
-        high: 7,
-    },
-    Row {
-        start: 20,
-        bytes: 4,
-        writable: true,
-        low: -1044479,
-        high: 1044479,
-    },
-    Row {
-        start: 48,
-        bytes: 4,
-        writable: true,
-        low: 0,
-        high: 4095,
-    },
-    Row {
-        start: 52,
-        bytes: 4,
-        writable: true,
-        low: 0,
-        high: 4095,
-    },
-    Row {
-        start: 64,
-        bytes: 1,
-        writable: true,
-        low: 0,
-        high: 1,
-    },
-    Row {
-        start: 65,
-        bytes: 1,
-        writable: true,
-        low: 0,
-        high: 1,
-    },
-    Row {
-        start: 68,
-        bytes: 1,
-        writable: true,
-        low: 0,
-        high: 2,
-    },
-    Row {
-        start: 69,
-        bytes: 1,
-        writable: false,
-        low: 0,
-        high: 0,
-    },
-    Row {
-        start: 70,
-        bytes: 1,
-        writable: false,
-        low: 0,
-        high: 0,
-    },
-    Row {
-        start: 104,
-        bytes: 4,
-        writable: true,
-        low: -330,
-        high: 330,
-    },
-    Row {
-        start: 116,
-        bytes: 4,
-        writable: true,
-        low: 0,
-        high: 4095,
-    },
-    Row {
-        start: 132,
-        bytes: 4,
-        writable: false,
-        low: 0,
-        high: 0,
-    },
-];
+    }
+}
 
-// What each byte permits: 0 nothing, 1 reading, 2 writing while torque is off, 3 writing at any time.
-pub const PERMITS: [u8; 136] = [
-    1,
-    1,
-    0,
-    0,
-    0,
-    0,
-    1,
-    2,
-    2,
-    0,
-    0,
-    0,
-    0,
-    0,
-    0,
-    0,
-    0,
-    0,
-    0,
-    0,
-    2,
-    2,
-    2,
-    2,
-    0,
-    0,
-    0,
-    0,
-    0,
-    0,
-    0,
-    0,
-    0,
-    0,
-    0,
-    0,
-    0,
-    0,
-    0,
-    0,
-    0,
-    0,
-    0,
-    0,
-    0,
-    0,
-    0,
-    0,
-    2,
-    2,
-    2,
-    2,
-    2,
-    2,
-    2,
-    2,
-    0,
-    0,
-    0,
-    0,
-    0,
-    0,
-    0,
-    0,
-    3,
-    3,
-    0,
-    0,
-    3,
-    1,
-    1,
-    0,
-    0,
-    0,
-    0,
-    0,
-    0,
-    0,
-    0,
-    0,
-    0,
-    0,
-    0,
-    0,
-    0,
-    0,
-    0,
-    0,
-    0,
-    0,
-    0,
-    0,
-    0,
-    0,
-    0,
-    0,
-    0,
-    0,
-    0,
-    0,
-    0,
-    0,
-    0,
-    0,
-    3,
-    3,
-    3,
-    3,
-    0,
-    0,
-    0,
-    0,
-    0,
-    0,
-    0,
-    0,
-    3,
-    3,
-    3,
-    3,
-    0,
-    0,
-    0,
-    0,
-    0,
-    0,
-    0,
-    0,
-    0,
-    0,
-    0,
-    0,
-    1,
-    1,
-    1,
-    1,
-];
+fn read_only(start: usize, bytes: usize) -> Row
+    ensures { λ r. ⌜ r ≡ rowOf (register start bytes readOnly ram 0) ⌝ }
+{
+    Row {
+        start,
+        bytes,
+        permits: 1,
+        low: 0,
+        high: 0,
+    }
+}
+
+fn in_rom(start: usize, bytes: usize, low: i32, high: i32) -> Row
+    ensures { λ r. ⌜ r ≡ rowOf (register start bytes (readWrite low high) rom 0) ⌝ }
+{
+    Row {
+        start,
+        bytes,
+        permits: 2,
+        low,
+        high,
+    }
+}
+
+fn in_ram(start: usize, bytes: usize, low: i32, high: i32) -> Row
+    ensures { λ r. ⌜ r ≡ rowOf (register start bytes (readWrite low high) ram 0) ⌝ }
+{
+    Row {
+        start,
+        bytes,
+        permits: 3,
+        low,
+        high,
+    }
+}
+
+// Model number, firmware version, ID, baud code.
+fn first_rom(a: usize) -> Row
+    requires { ⌜ a < 20 ⌝ }
+    ensures { λ r. ⌜ r ≡ rowAt a ⌝ }
+{
+    if a < 2 {
+        return read_only(0, 2);
+    }
+    if a < 6 {
+        return undefined();
+    }
+    if a < 7 {
+        return read_only(6, 1);
+    }
+    if a < 8 {
+        return in_rom(7, 1, 0, 252);
+    }
+    if a < 9 {
+        return in_rom(8, 1, 0, 7);
+    }
+    undefined()
+}
+
+// Homing offset, max position, min position.
+fn last_rom(a: usize) -> Row
+    requires { ⌜ (20 ≤ a) × (a < 64) ⌝ }
+    ensures { λ r. ⌜ r ≡ rowAt a ⌝ }
+{
+    if a < 24 {
+        return in_rom(20, 4, -1044479, 1044479);
+    }
+    if a < 48 {
+        return undefined();
+    }
+    if a < 52 {
+        return in_rom(48, 4, 0, 4095);
+    }
+    if a < 56 {
+        return in_rom(52, 4, 0, 4095);
+    }
+    undefined()
+}
+
+// Torque enable, lamp, status return level, registered instruction, hardware error.
+fn first_ram(a: usize) -> Row
+    requires { ⌜ (64 ≤ a) × (a < 104) ⌝ }
+    ensures { λ r. ⌜ r ≡ rowAt a ⌝ }
+{
+    if a < 65 {
+        return in_ram(64, 1, 0, 1);
+    }
+    if a < 66 {
+        return in_ram(65, 1, 0, 1);
+    }
+    if a < 68 {
+        return undefined();
+    }
+    if a < 69 {
+        return in_ram(68, 1, 0, 2);
+    }
+    if a < 70 {
+        return read_only(69, 1);
+    }
+    if a < 71 {
+        return read_only(70, 1);
+    }
+    undefined()
+}
+
+// Goal velocity, goal position, present position.
+fn last_ram(a: usize) -> Row
+    requires { ⌜ 104 ≤ a ⌝ }
+    ensures { λ r. ⌜ r ≡ rowAt a ⌝ }
+{
+    if a < 108 {
+        return in_ram(104, 4, -330, 330);
+    }
+    if a < 116 {
+        return undefined();
+    }
+    if a < 120 {
+        return in_ram(116, 4, 0, 4095);
+    }
+    if a < 132 {
+        return undefined();
+    }
+    if a < 136 {
+        return read_only(132, 4);
+    }
+    undefined()
+}
+
+// The register that has the byte at a; one that permits nothing where none has it.
+pub fn register_at(a: usize) -> Row
+    ensures { λ r. ⌜ r ≡ rowAt a ⌝ }
+{
+    if a < 64 {
+        if a < 20 {
+            return first_rom(a);
+        }
+        return last_rom(a);
+    }
+    if a < 104 {
+        return first_ram(a);
+    }
+    last_ram(a)
+}

@@ -2,8 +2,7 @@
 // is stored.
 mod layout;
 
-use layout::PERMITS;
-use layout::ROWS;
+use layout::register_at;
 ghost use mathlib.Core.Path.{_≡_};
 ghost use mathlib.Core.Bool.{_&&_, true};
 ghost use mathlib.Core.Option.{none};
@@ -12,12 +11,12 @@ ghost use Prim.Native.Nat.{_+_, _≤_, _<_};
 ghost use lib.ListN.{take, drop};
 ghost use Rattle.lists.specs.Write.{overwritten};
 ghost use lib.Dec.{leb, ltb};
-ghost use lib.ListN.{length, getD, replicate};
+ghost use lib.ListN.{length, replicate};
 ghost use lib.Signed.{leZ};
-ghost use Rattle.control_table.specs.Registers.{tableSize, minPosition, maxPosition};
-ghost use Rattle.control_table.specs.Items.{numberAt, signed, unsigned, valueOf};
-ghost use Rattle.control_table.specs.Rules.{everyByte, leastToWrite, limitsOrdered, goalWithin, stored, readRule, writeRule};
-ghost use Rattle.control_table.specs.Rows.{rowSound, rowInRange, itemsRule};
+ghost use Rattle.control_table.specs.Registers.{registers, tableSize, minPosition, maxPosition};
+ghost use Rattle.control_table.specs.Items.{numberAt, signed, unsigned, valueAt, valueOf};
+ghost use Rattle.control_table.specs.Rules.{everyByte, covers, everyTouched, leastToWrite, limitsOrdered, goalWithin, stored, readRule, writeRule};
+ghost use Rattle.control_table.specs.Rows.{oneOrFour, whole, itemsRule};
 ghost use Rattle.control_table.specs.Answers.{isDone, refusalOf, inTable, freshOut, measureOut, readBytes, writeOut};
 
 // What became of a read or a write: an error of the status packet where it is not done, or a table of another size.
@@ -36,11 +35,11 @@ pub struct Reading {
     pub bytes: [u8; 8],
 }
 
-// A register as the write rule needs it.
+// A register as the rules need it: what its bytes permit, and the range of its value where it can be written.
 pub struct Row {
     pub start: usize,
     pub bytes: usize,
-    pub writable: bool,
+    pub permits: u8,
     pub low: i32,
     pub high: i32,
 }
@@ -58,39 +57,26 @@ pub fn is_done(outcome: Outcome) -> bool
     }
 }
 
-// Each of the n bytes from `address` on permits at least so much.
+// Each of the n bytes from `address` on permits at least so much: register by register, since the bytes of one permit the same.
 fn every_byte(least: u8, address: usize, n: usize) -> bool
     requires { ⌜ 1 ≤ least ⌝ }
     ensures { λ r. ⌜ r ≡ everyByte least address n ⌝ }
 {
-    let permits = PERMITS;
     let mut a = address;
     let mut left = n;
     while left != 0 {
-        if 136 <= a {
+        let row = register_at(a);
+        if row.permits < least {
             return false;
         }
-        if permits[a] < least {
-            return false;
+        let run = row.start + row.bytes - a;
+        if left <= run {
+            return true;
         }
-        a += 1;
-        left -= 1;
+        a += run;
+        left -= run;
     }
     true
-}
-
-// The byte at `a` of the table as the write would leave it.
-fn byte_after(table: &[u8], address: usize, bytes: &[u8], a: usize) -> u8
-    requires { ⌜ (address + length (now bytes) ≤ length (now table)) × (a < length (now table)) ⌝ }
-    ensures { λ r. ⌜ r ≡ getD (stored (now (table .entry)) address (now (bytes .entry))) a 0 ⌝ }
-{
-    if a < address {
-        return table[a];
-    }
-    if a - address < bytes.len() {
-        return bytes[a - address];
-    }
-    table[a]
 }
 
 // Four bytes, lowest first, as a signed number in two's complement.
@@ -105,17 +91,26 @@ fn signed_of(a: u8, b: u8, c: u8, d: u8) -> i32
     -1 - m
 }
 
-// The item of four bytes at `a`, likewise.
+// The four bytes at k, likewise.
+fn word_at(bytes: &[u8], k: usize) -> i32
+    requires { ⌜ k + 4 ≤ length (now bytes) ⌝ }
+    ensures { λ r. ⌜ r ≡ signed (numberAt (now (bytes .entry)) k 4) ⌝ }
+{
+    signed_of(bytes[k], bytes[k + 1], bytes[k + 2], bytes[k + 3])
+}
+
+// The item of four bytes at `a` as the write would leave it. The write has all its bytes or none.
 fn word_after(table: &[u8], address: usize, bytes: &[u8], a: usize) -> i32
-    requires { ⌜ (address + length (now bytes) ≤ length (now table)) × (a + 4 ≤ length (now table)) ⌝ }
+    requires { ⌜ (address + length (now bytes) ≤ length (now table)) × (a + 4 ≤ length (now table)) × (whole address (length (now bytes)) a ≡ true) ⌝ }
     ensures { λ r. ⌜ r ≡ signed (numberAt (stored (now (table .entry)) address (now (bytes .entry))) a 4) ⌝ }
 {
-    signed_of(
-        byte_after(table, address, bytes, a),
-        byte_after(table, address, bytes, a + 1),
-        byte_after(table, address, bytes, a + 2),
-        byte_after(table, address, bytes, a + 3),
-    )
+    if a < address {
+        return word_at(table, a);
+    }
+    if a - address < bytes.len() {
+        return word_at(bytes, a - address);
+    }
+    word_at(table, a)
 }
 
 fn within(value: i32, low: i32, high: i32) -> bool
@@ -149,43 +144,38 @@ fn covered(start: usize, size: usize, address: usize, end: usize) -> bool
     start + size <= end
 }
 
-// The register's value after the write is in its range, if it has one.
-fn in_range(table: &[u8], address: usize, bytes: &[u8], row: Row) -> bool
-    requires { ⌜ (address + length (now bytes) ≤ length (now table)) × (length (now table) ≡ tableSize) × (rowSound row ≡ true) ⌝ }
-    ensures { λ r. ⌜ r ≡ rowInRange (stored (now (table .entry)) address (now (bytes .entry))) row ⌝ }
+// The value that is written to the register, at k in the data, is in its range.
+fn in_range(bytes: &[u8], k: usize, row: Row) -> bool
+    requires { ⌜ (k + row .bytes ≤ length (now bytes)) × (oneOrFour (row .bytes) ≡ true) ⌝ }
+    ensures { λ r. ⌜ r ≡ (leZ (row .low) (valueAt (now (bytes .entry)) k (row .bytes)) && leZ (valueAt (now (bytes .entry)) k (row .bytes)) (row .high)) ⌝ }
 {
-    if !row.writable {
-        return true;
-    }
     let low = row.low;
     let high = row.high;
-    let start = row.start;
     if row.bytes == 4 {
-        return within(word_after(table, address, bytes, start), low, high);
+        return within(word_at(bytes, k), low, high);
     }
-    within(byte_after(table, address, bytes, start) as i32, low, high)
+    within(bytes[k] as i32, low, high)
 }
 
-// The stages that go by items, in one pass: an item that is covered in part comes before any value out of range.
+// The stages that go by items, in one walk over the touched registers: an item that is covered in part comes before any value
+// out of range. Each touched byte can be written, so that each has a register; and the value of an item that is covered is in the
+// data, so that the table is not read.
 fn judge_items(table: &[u8], address: usize, bytes: &[u8]) -> Outcome
-    requires { ⌜ (address + length (now bytes) ≤ length (now table)) × (length (now table) ≡ tableSize) ⌝ }
+    requires { ⌜ (0 < length (now bytes)) × (address + length (now bytes) ≤ length (now table)) × (everyByte 2 address (length (now bytes)) ≡ true) ⌝ }
     ensures { λ r. ⌜ refusalOf r ≡ itemsRule address (length (now (bytes .entry))) (stored (now (table .entry)) address (now (bytes .entry))) ⌝ }
 {
-    let rows = ROWS;
     let end = address + bytes.len();
     let mut good = true;
-    let mut i = 0;
-    while i < 15 {
-        let row = rows[i];
-        if touched(row.start, row.bytes, address, end) {
-            if !covered(row.start, row.bytes, address, end) {
-                return Outcome::DataLength;
-            }
-            if !in_range(table, address, bytes, row) {
-                good = false;
-            }
+    let mut a = address;
+    while a < end {
+        let row = register_at(a);
+        if !covered(row.start, row.bytes, address, end) {
+            return Outcome::DataLength;
         }
-        i += 1;
+        if !in_range(bytes, row.start - address, row) {
+            good = false;
+        }
+        a = row.start + row.bytes;
     }
     if good {
         Outcome::Done
@@ -196,7 +186,7 @@ fn judge_items(table: &[u8], address: usize, bytes: &[u8]) -> Outcome
 
 // Min position is not above max position.
 fn in_order(table: &[u8], address: usize, bytes: &[u8]) -> bool
-    requires { ⌜ (address + length (now bytes) ≤ length (now table)) × (length (now table) ≡ tableSize) ⌝ }
+    requires { ⌜ (address + length (now bytes) ≤ length (now table)) × (length (now table) ≡ tableSize) × (everyTouched address (length (now bytes)) (covers address (length (now bytes))) registers ≡ true) ⌝ }
     ensures { λ r. ⌜ r ≡ leZ (valueOf minPosition (stored (now (table .entry)) address (now (bytes .entry)))) (valueOf maxPosition (stored (now (table .entry)) address (now (bytes .entry)))) ⌝ }
 {
     let min = word_after(table, address, bytes, 52);
@@ -206,7 +196,7 @@ fn in_order(table: &[u8], address: usize, bytes: &[u8]) -> bool
 
 // Where the write touches a limit, the limits are in order.
 fn limits_ordered(table: &[u8], address: usize, bytes: &[u8]) -> bool
-    requires { ⌜ (address + length (now bytes) ≤ length (now table)) × (length (now table) ≡ tableSize) ⌝ }
+    requires { ⌜ (address + length (now bytes) ≤ length (now table)) × (length (now table) ≡ tableSize) × (everyTouched address (length (now bytes)) (covers address (length (now bytes))) registers ≡ true) ⌝ }
     ensures { λ r. ⌜ r ≡ limitsOrdered address (length (now (bytes .entry))) (stored (now (table .entry)) address (now (bytes .entry))) ⌝ }
 {
     let end = address + bytes.len();
@@ -221,7 +211,7 @@ fn limits_ordered(table: &[u8], address: usize, bytes: &[u8]) -> bool
 
 // Where the write touches the goal position, that lies between the limits.
 fn goal_within(table: &[u8], address: usize, bytes: &[u8]) -> bool
-    requires { ⌜ (address + length (now bytes) ≤ length (now table)) × (length (now table) ≡ tableSize) ⌝ }
+    requires { ⌜ (address + length (now bytes) ≤ length (now table)) × (length (now table) ≡ tableSize) × (everyTouched address (length (now bytes)) (covers address (length (now bytes))) registers ≡ true) ⌝ }
     ensures { λ r. ⌜ r ≡ goalWithin address (length (now (bytes .entry))) (stored (now (table .entry)) address (now (bytes .entry))) ⌝ }
 {
     if !touched(116, 4, address, address + bytes.len()) {

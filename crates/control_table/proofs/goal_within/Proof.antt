@@ -2,8 +2,11 @@ use mathlib.Core.Path.{sym, _∙_}
 use mir.Syntax.{w32}
 use mir.Facts.{toZ-ofZ}
 use borrow.Author.Tests.{not-true, not-false}
+use native.Mathlib.Omega.{arith}
+use Rattle.control_table.specs.Registers.{registers}
 use Rattle.control_table.specs.Items.{valueAt}
-use Rattle.control_table.specs.Rules.{goalWithin}
+use Rattle.control_table.specs.Rules.{covers, goalWithin}
+use Rattle.control_table.proofs.Walks.{each}
 use borrow.Author.Needs.{needs}
 use Rattle.control_table.proofs.goal_within.Statement.{statement}
 use Rattle.control_table.proofs.goal_within.Tie as tie
@@ -19,13 +22,16 @@ unfolding goalWithin
 returns c = rw (sym (c .before .touched .ensures) ∙ not-true _ (c .if1 .taken))
 
 word-after-requires : tie.Need-word-after-requires
-word-after-requires c κs = search needs
+unfolding registers
+word-after-requires c κs = (search needs, search needs, each (covers _ _) _ _ registers 13 (omega arith) (c .before .before .before .before .pre .2))
 
 word-after-requires-2 : tie.Need-word-after-requires-2
-word-after-requires-2 c κs = search needs
+unfolding registers
+word-after-requires-2 c κs = (search needs, search needs, each (covers _ _) _ _ registers 6 (omega arith) (c .before .before .before .before .before .pre .2))
 
 word-after-requires-3 : tie.Need-word-after-requires-3
-word-after-requires-3 c κs = search needs
+unfolding registers
+word-after-requires-3 c κs = (search needs, search needs, each (covers _ _) _ _ registers 5 (omega arith) (c .before .before .before .before .before .before .pre .2))
 
 within-requires : tie.Need-within-requires
 within-requires c κs = search needs

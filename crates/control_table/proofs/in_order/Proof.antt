@@ -1,15 +1,21 @@
 use mir.Syntax.{w32}
 use mir.Facts.{toZ-ofZ}
+use native.Mathlib.Omega.{arith}
+use Rattle.control_table.specs.Registers.{registers}
 use Rattle.control_table.specs.Items.{valueAt}
+use Rattle.control_table.specs.Rules.{covers}
+use Rattle.control_table.proofs.Walks.{each}
 use borrow.Author.Needs.{needs}
 use Rattle.control_table.proofs.in_order.Statement.{statement}
 use Rattle.control_table.proofs.in_order.Tie as tie
 
 word-after-requires : tie.Need-word-after-requires
-word-after-requires c κs = search needs
+unfolding registers
+word-after-requires c κs = (search needs, search needs, each (covers _ _) _ _ registers 6 (omega arith) (c .before .before .pre .2))
 
 word-after-requires-2 : tie.Need-word-after-requires-2
-word-after-requires-2 c κs = search needs
+unfolding registers
+word-after-requires-2 c κs = (search needs, search needs, each (covers _ _) _ _ registers 5 (omega arith) (c .before .before .before .pre .2))
 
 returns : tie.Need-returns
 unfolding valueAt

@@ -1,71 +1,65 @@
-use lib.IntN.{pos}
-use Rattle.control_table.proofs.Signed.{small}
+use mathlib.Core.Path.{sym, ap, _∙_}
+use mathlib.Core.Bool.{_&&_}
+use lib.IntN.{ℤ}
+use lib.ListN.{getD}
+use lib.Signed.{leZ}
 use mir.Syntax.{w32}
 use mir.Facts.{toZ-ofZ}
-use mathlib.Core.Path.{ap, _∙_}
 use native.Mathlib.Omega.{arith}
-use borrow.Author.Tests.{not-true, not-false}
-use Rattle.control_table.proofs.Rows.{sound-end, sound-bytes, in-range-word, in-range-byte}
 use borrow.Author.Needs.{needs}
+use Rattle.control_table.proofs.Signed.{small, value-word, value-byte, one-byte}
 use Rattle.control_table.proofs.in_range.Statement.{statement}
 use Rattle.control_table.proofs.in_range.Tie as tie
 
-returns : tie.Need-returns
-returns c = simp (not-true (c .before .before .before .before .args .row .writable) (c .if1 .taken))
-
-word-after-requires : tie.Need-word-after-requires
-word-after-requires c κs =
-    let a = c .before .before .before .before .before .before .before .before in
-    let e = sound-end (a .args .row) (a .pre .2) in
-    omega arith
+word-at-requires : tie.Need-word-at-requires
+word-at-requires c κs = search needs
 
 within-requires : tie.Need-within-requires
 within-requires c κs = search needs
 
-returns-2 : tie.Need-returns-2
-returns-2 c =
-    let b = c .before .before in
-    let a = b .before .before .before .before .before .before .before .before in
-    let low = toZ-ofZ {w = w32} {z = a .args .row .low} (record { sfits = b .before .before .struct-told2 .given .1 .1 .1 .0 .1 }) in
-    let high = toZ-ofZ {w = w32} {z = a .args .row .high} (record { sfits = b .before .before .struct-told2 .given .1 .1 .1 .1 .0 .1 }) in
-    let v = toZ-ofZ {w = w32} {z = c .before .word-after .result} (record { sfits = c .before .word-after .ok }) in
-    let e = simp (low, high, v) at (c .within .ensures) in
-    e ∙ in-range-word _ (a .args .row) _ (not-false _ (b .before .before .before .before .if1 .left)) (b .if2 .taken) (c .before .word-after .ensures)
+returns : tie.Need-returns
+returns c =
+    let w = c .before in
+    let s = w .before .before .before in
+    let row = s .before .before .before .args .row in
+    let low = toZ-ofZ {w = w32} {z = row .low} (record { sfits = s .struct-told2 .given .1 .1 .1 .0 .1 }) in
+    let high = toZ-ofZ {w = w32} {z = row .high} (record { sfits = s .struct-told2 .given .1 .1 .1 .1 .0 .1 }) in
+    let v = toZ-ofZ {w = w32} {z = w .word-at .result} (record { sfits = w .word-at .ok }) in
+    (simp (low, high, v) at (c .within .ensures))
+    ∙ ap (λ (z : ℤ). leZ (row .low) z && leZ z (row .high)) (w .word-at .ensures ∙ sym (value-word _ _ _ (w .before .if1 .taken)))
 
-byte-after-requires : tie.Need-byte-after-requires
-byte-after-requires c κs =
-    let a = c .before .before .before .before .before .before .before .before in
-    let e = sound-end (a .args .row) (a .pre .2) in
-    let n = sound-bytes (a .args .row) (a .pre .2) (not-false (a .args .row .writable) (c .before .before .before .before .if1 .left)) (c .if2 .left) in
+shared-slice-read-within : tie.Need-shared-slice-read-within
+shared-slice-read-within c =
+    let n = one-byte _ (c .before .before .before .before .before .before .pre .1) (c .before .if1 .left) in
     omega arith
 
 cast-within : tie.Need-cast-within
-cast-within c = search needs
+cast-within c = let b = c .shared-slice-known2 .given (c .before .before .before .before .before .before .args .k) in search needs
 
 within-requires-2 : tie.Need-within-requires-2
 within-requires-2 c κs = search needs
 
-returns-3 : tie.Need-returns-3
-returns-3 c =
-    let b = c .before .before in
-    let a = b .before .before .before .before .before .before .before .before in
-    let w = not-false (a .args .row .writable) (b .before .before .before .before .if1 .left) in
-    let low = toZ-ofZ {w = w32} {z = a .args .row .low} (record { sfits = b .before .before .struct-told2 .given .1 .1 .1 .0 .1 }) in
-    let high = toZ-ofZ {w = w32} {z = a .args .row .high} (record { sfits = b .before .before .struct-told2 .given .1 .1 .1 .1 .0 .1 }) in
-    let v = small (c .before .byte-after .result) (search needs) in
-    let e = simp (low, high, v) at (c .within2 .ensures) in
-    e
-    ∙ in-range-byte _ (a .args .row) _ w (sound-bytes (a .args .row) (a .pre .2) w (b .if2 .left)) (ap pos (c .before .byte-after .ensures))
+returns-2 : tie.Need-returns-2
+returns-2 c =
+    let t = c .before in
+    let s = t .before .before .before in
+    let a = s .before .before .before in
+    let row = a .args .row in
+    let low = toZ-ofZ {w = w32} {z = row .low} (record { sfits = s .struct-told2 .given .1 .1 .1 .0 .1 }) in
+    let high = toZ-ofZ {w = w32} {z = row .high} (record { sfits = s .struct-told2 .given .1 .1 .1 .1 .0 .1 }) in
+    let b = t .shared-slice-known2 .given (a .args .k) in
+    let v = small (getD (a .args .bytes .now) (a .args .k) 0) (search needs) in
+    (simp (low, high, v) at (c .within2 .ensures))
+    ∙ ap (λ (z : ℤ). leZ (row .low) z && leZ z (row .high)) (sym (value-byte _ _ _ (one-byte _ (a .pre .1) (t .before .if1 .left))))
 
 pub in-range-spec : {M : Type 1} → statement M
 in-range-spec =
     tie.close
     (tie.spec
-    returns
-    word-after-requires
+    word-at-requires
     within-requires
-    returns-2
-    byte-after-requires
+    returns
+    shared-slice-read-within
     cast-within
     within-requires-2
-    returns-3)
+    returns-2)

@@ -5,10 +5,11 @@ use Prim.Native.Nat.{ℕ, _+_, _≤_}
 use native.Mathlib.Omega.{arith}
 use lib.ListN.{length}
 use borrow.Author.Tests.{not-true, not-false}
-use Rattle.control_table.specs.Rules.{everyByte, leastToWrite, limitsOrdered, goalWithin, stored, writeRule}
+use Rattle.control_table.specs.Registers.{registers}
+use Rattle.control_table.specs.Rules.{everyByte, covers, everyTouched, leastToWrite, limitsOrdered, goalWithin, stored, writeRule}
 use Rattle.control_table.specs.Answers.{inTable}
-use Rattle.control_table.proofs.Permits.{every-inside}
-use Rattle.control_table.proofs.Judged.{least-some, not-table, no-data, no-access, by-items, by-limits}
+use Rattle.control_table.proofs.Permits.{every-inside, every-weaker}
+use Rattle.control_table.proofs.Judged.{least-two, least-some, items-covered, not-table, no-data, no-access, by-items, by-limits}
 use borrow.Author.Needs.{needs}
 use Rattle.control_table.proofs.judge.Statement.{statement}
 use Rattle.control_table.proofs.judge.Tie as tie
@@ -55,7 +56,12 @@ inside c =
     omega arith
 
 judge-items-requires : tie.Need-judge-items-requires
-judge-items-requires c κs = (inside c, c .before .before .before .before .if1 .left)
+judge-items-requires c κs =
+    let a = c .before .before .before .before .before .before .before .args in (
+      search needs,
+      inside c,
+      every-weaker (leastToWrite (a .table .now)) 2 (a .address) (length (a .bytes .now)) (least-two (a .table .now)) (granted c),
+    )
 
 is-done-requires : tie.Need-is-done-requires
 is-done-requires c κs = search needs
@@ -68,10 +74,16 @@ returns-4 c =
     by-items (a .table .now) (a .address) (a .bytes .now) (b .before .if1 .left) (b .if2 .left) (granted g) (c .before .before .judge-items .result) (sym (c .before .is-done .ensures) ∙ not-true _ (c .if4 .taken))
     (c .before .before .judge-items .ensures)
 
+-- the items are good, so each that is touched is covered whole
+whole-items : (c : tie.Else4)
+    → let a = c .before .before .before .before .before .before .before .before .before .before .args in
+    everyTouched (a .address) (length (a .bytes .now)) (covers (a .address) (length (a .bytes .now))) registers ≡ true
+whole-items c =
+    let j = c .before .before .judge-items in
+    items-covered _ _ _ (j .result) (sym (c .before .is-done .ensures) ∙ not-false _ (c .if4 .left)) (j .ensures)
+
 limits-ordered-requires : tie.Need-limits-ordered-requires
-limits-ordered-requires c κs =
-    let g = c .before .before .before in
-    (inside g, g .before .before .before .before .if1 .left)
+limits-ordered-requires c κs = let g = c .before .before .before in (inside g, g .before .before .before .before .if1 .left, whole-items c)
 
 -- what the limits decide
 limits : (c : tie.Else4)
@@ -92,7 +104,7 @@ returns-5 c = sym (limits (c .before .before) ∙ rw (sym (c .before .limits-ord
 goal-within-requires : tie.Need-goal-within-requires
 goal-within-requires c κs =
     let g = c .before .before .before .before .before in
-    (inside g, g .before .before .before .before .if1 .left)
+    (inside g, g .before .before .before .before .if1 .left, whole-items (c .before .before))
 
 returns-6 : tie.Need-returns-6
 returns-6 c =

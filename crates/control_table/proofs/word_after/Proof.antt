@@ -1,56 +1,56 @@
+use mathlib.Core.Path.{_≡_, sym, ap, _∙_}
+use Prim.Native.Nat.{ℕ, _+_, _-_}
 use mir.Syntax.{w32}
 use mir.Facts.{toZ-ofZ}
-use mathlib.Core.Path.{ap, _∙_}
-use Rattle.control_table.specs.Items.{signed}
-use Rattle.control_table.proofs.Signed.{four-bytes}
+use native.Mathlib.Omega.{arith}
 use borrow.Author.Needs.{needs}
+use Rattle.control_table.specs.Items.{signed, numberAt}
+use Rattle.control_table.specs.Rules.{stored}
+use Rattle.control_table.proofs.Walks.{whole-before, whole-inside}
+use Rattle.control_table.proofs.Stored.{number-at, number-before, number-after}
 use Rattle.control_table.proofs.word_after.Statement.{statement}
 use Rattle.control_table.proofs.word_after.Tie as tie
 
-byte-after-requires : tie.Need-byte-after-requires
-byte-after-requires c κs = search needs
-
-add-byte-after : tie.Need-add-byte-after
-add-byte-after c = search needs
-
-byte-after-requires-2 : tie.Need-byte-after-requires-2
-byte-after-requires-2 c κs = search needs
-
-add-byte-after-2 : tie.Need-add-byte-after-2
-add-byte-after-2 c = search needs
-
-byte-after-requires-3 : tie.Need-byte-after-requires-3
-byte-after-requires-3 c κs = search needs
-
-add-byte-after-3 : tie.Need-add-byte-after-3
-add-byte-after-3 c = search needs
-
-byte-after-requires-4 : tie.Need-byte-after-requires-4
-byte-after-requires-4 c κs = search needs
-
-signed-of-requires : tie.Need-signed-of-requires
-signed-of-requires c κs = search needs
+word-at-requires : tie.Need-word-at-requires
+word-at-requires c κs = search needs
 
 returns : tie.Need-returns
 returns c =
-    let b₄ = c .before in
-    let b₃ = b₄ .before in
-    let b₂ = b₃ .before in
-    let b₁ = b₂ .before in
-    toZ-ofZ {w = w32} (record { sfits = c .signed-of .ok })
-    ∙ (rw (b₁ .byte-after .ensures, b₂ .byte-after2 .ensures, b₃ .byte-after3 .ensures, b₄ .byte-after4 .ensures) at (c .signed-of .ensures))
-    ∙ ap signed (four-bytes _ _)
+    let s = c .before .before .before .before in
+    let a = s .args in
+    toZ-ofZ {w = w32} (record { sfits = c .word-at .ok })
+    ∙ c .word-at .ensures
+    ∙ ap signed (sym (number-before (a .table .now) (a .address) (a .bytes .now) (s .pre .0) (a .a) 4 (whole-before (a .address) _ (a .a) (s .pre .2) (c .before .if1 .taken))))
+
+word-at-requires-2 : tie.Need-word-at-requires-2
+word-at-requires-2 c κs =
+    let s = c .before .before .before .before in
+    let w = whole-inside (s .args .address) _ (s .args .a) (s .pre .2) (c .before .if1 .left) (omega arith) in
+    omega arith
+
+returns-2 : tie.Need-returns-2
+returns-2 c =
+    let s = c .before .before .before .before .before in
+    let a = s .args in
+    let w = whole-inside (a .address) _ (a .a) (s .pre .2) (c .before .before .if1 .left) (omega arith) in
+    let e : a .a ≡ a .address + (a .a - a .address) = omega arith in
+    toZ-ofZ {w = w32} (record { sfits = c .word-at2 .ok })
+    ∙ c .word-at2 .ensures
+    ∙ ap signed (sym (ap (λ (n : ℕ). numberAt (stored (a .table .now) (a .address) (a .bytes .now)) n 4) e
+    ∙ number-at (a .table .now) (a .address) (a .bytes .now) (s .pre .0) (a .a - a .address) 4 (omega arith)))
+
+word-at-requires-3 : tie.Need-word-at-requires-3
+word-at-requires-3 c κs = search needs
+
+returns-3 : tie.Need-returns-3
+returns-3 c =
+    let s = c .before .before .before .before .before in
+    let a = s .args in
+    toZ-ofZ {w = w32} (record { sfits = c .word-at3 .ok })
+    ∙ c .word-at3 .ensures
+    ∙ ap signed (sym (number-after (a .table .now) (a .address) (a .bytes .now) (s .pre .0) (a .a) 4 (omega arith)))
 
 pub word-after-spec : {M : Type 1} → statement M
 word-after-spec =
     tie.close
-    (tie.spec
-    byte-after-requires
-    add-byte-after
-    byte-after-requires-2
-    add-byte-after-2
-    byte-after-requires-3
-    add-byte-after-3
-    byte-after-requires-4
-    signed-of-requires
-    returns)
+    (tie.spec word-at-requires returns word-at-requires-2 returns-2 word-at-requires-3 returns-3)

@@ -1,5 +1,5 @@
 use crate::Guarded;
-use reference::{device_call, Heard, Registered, Rng};
+use reference::{device_call, packet_call, Heard, Registered, Rng};
 use std::hint::black_box;
 
 pub const PACKET: u8 = 1;
@@ -63,16 +63,11 @@ impl DevicePair {
     }
 
     pub fn hear(&mut self, kind: u8, id: u8, body: &[u8]) -> Told {
-        self.filler = self.filler.wrapping_add(1);
-        for device in [&mut self.ours, &mut self.expected] {
-            device.reply.bytes_mut().fill(self.filler);
-        }
-        let (before, registered) = (self.table().to_vec(), self.registered);
+        let before = self.refill();
         let mut lent = body.to_vec();
 
-        let given = exports::Registered { address: registered.address, count: registered.count, bytes: registered.bytes };
         let Borrowed { table, reply } = &mut self.ours;
-        let answer = exports::device(table.bytes_mut(), given, kind, id, &lent, reply.bytes_mut());
+        let answer = exports::device(table.bytes_mut(), given(self.registered), kind, id, &lent, reply.bytes_mut());
 
         let heard = match kind {
             PACKET => Heard::Packet { id, body },
@@ -80,23 +75,67 @@ impl DevicePair {
             _ => Heard::Nothing,
         };
         let Borrowed { table, reply } = &mut self.expected;
-        let (count, slot, left) = match device_call(table.bytes_mut(), registered, heard, reply.bytes_mut()) {
+        let wanted = match device_call(table.bytes_mut(), self.registered, heard, reply.bytes_mut()) {
             Ok(answer) => (answer.count as i64, usize::from(answer.slot), answer.registered),
-            Err(refusal) => (-i64::from(refusal), 0, registered),
+            Err(refusal) => (-i64::from(refusal), 0, self.registered),
         };
 
-        let what = || format!("kind {kind}, ID {id}, body {body:02x?}, {registered:02x?}, table {before:02x?}");
+        let what = || format!("kind {kind}, ID {id}, body {body:02x?}, {before:02x?}");
+        assert!(*black_box(&mut lent) == *body, "the body; {}", what());
+        self.same(answer, wanted, what)
+    }
+
+    /// A packet as received, whose unstuffed body goes into a buffer of so many bytes.
+    pub fn hear_packet(&mut self, rng: &mut Rng, packet: &[u8], room: usize) -> Told {
+        let before = self.refill();
+        let mut lent = packet.to_vec();
+        let filler = rng.bytes(room);
+        let mut body = Guarded::new(rng, &filler);
+        let mut expected_body = body.clone();
+
+        let Borrowed { table, reply } = &mut self.ours;
+        let answer = exports::exchange(table.bytes_mut(), given(self.registered), &lent, body.bytes_mut(), reply.bytes_mut());
+
+        let Borrowed { table, reply } = &mut self.expected;
+        let buffer = expected_body.bytes_mut();
+        let wanted = match packet_call(table.bytes_mut(), self.registered, packet, buffer, reply.bytes_mut()) {
+            Ok(answer) => (answer.count as i64, usize::from(answer.slot), answer.registered),
+            Err(refusal) => (-i64::from(refusal), 0, self.registered),
+        };
+
+        let what = || format!("packet {packet:02x?}, room for {room}, {before:02x?}");
+        assert!(*black_box(&mut lent) == *packet, "the packet; {}", what());
+        assert!(body == expected_body, "the body buffer and the memory beside it; {}", what());
+        assert!(answer.count >= 0 || body.bytes() == filler, "a refusal leaves the body buffer; {}", what());
+        self.same(answer, wanted, what)
+    }
+
+    /// A new filling for the reply buffers; answers the registered write and the table, for messages.
+    fn refill(&mut self) -> (Registered, Vec<u8>) {
+        self.filler = self.filler.wrapping_add(1);
+        for device in [&mut self.ours, &mut self.expected] {
+            device.reply.bytes_mut().fill(self.filler);
+        }
+        (self.registered, self.table().to_vec())
+    }
+
+    /// The answer is the wanted count, slot and registered write, and both sides have left the same.
+    fn same(&mut self, answer: exports::Answer, wanted: (i64, usize, Registered), what: impl Fn() -> String) -> Told {
+        let (count, slot, left) = wanted;
         assert_eq!((answer.count, answer.slot), (count, slot), "count and slot; {}", what());
-        let exports::Registered { address, count: n, bytes } = answer.registered;
-        assert_eq!((address, n, bytes), (left.address, left.count, left.bytes), "the registered write; {}", what());
+        assert_eq!(answer.registered, given(left), "the registered write; {}", what());
         let (table, wanted) = (self.ours.table.bytes(), self.expected.table.bytes());
         let differs = (0..table.len()).find(|&i| table[i] != wanted[i]);
         assert_eq!(differs, None, "the first byte of the table that differs; {}", what());
         assert_eq!(self.ours.reply.bytes(), self.expected.reply.bytes(), "the reply buffer; {}", what());
         assert!(self.ours == self.expected, "memory beside table and reply buffer; {}", what());
-        assert!(*black_box(&mut lent) == *body, "the body; {}", what());
 
         self.registered = left;
         Told { count, slot, error: (count > 0).then(|| self.ours.reply.bytes()[8]) }
     }
+}
+
+fn given(registered: Registered) -> exports::Registered {
+    let Registered { address, count, bytes } = registered;
+    exports::Registered { address, count, bytes }
 }

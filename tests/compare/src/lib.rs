@@ -1,5 +1,6 @@
 //! What the tests in tests/ share.
 
+pub mod device_inputs;
 mod device_pair;
 mod inputs;
 mod lent;

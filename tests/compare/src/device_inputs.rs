@@ -1,0 +1,261 @@
+//! Random tables, registered writes and bodies that lead to the corners of the device's rules.
+
+use reference::{fresh, Registered, Rng, Table, TABLE_BYTES};
+
+/// Address and bytes of each item.
+const ITEMS: [(usize, usize); 15] = [
+    (0, 2),
+    (6, 1),
+    (7, 1),
+    (8, 1),
+    (20, 4),
+    (48, 4),
+    (52, 4),
+    (64, 1),
+    (65, 1),
+    (68, 1),
+    (69, 1),
+    (70, 1),
+    (104, 4),
+    (116, 4),
+    (132, 4),
+];
+const WRITABLE: [(usize, usize); 10] = [(7, 1), (8, 1), (20, 4), (48, 4), (52, 4), (64, 1), (65, 1), (68, 1), (104, 4), (116, 4)];
+/// The writable items that lie side by side, and what a write of all of them has.
+const SIDE_BY_SIDE: [(usize, usize); 3] = [(7, 2), (48, 8), (64, 2)];
+
+pub const INSTRUCTIONS: [u8; 9] = [0x01, 0x02, 0x03, 0x04, 0x05, 0x06, 0x08, 0x82, 0x83];
+
+/// Numbers at the ends of the ranges and beside them; near the limits that the table has.
+pub fn value(rng: &mut Rng, table: &[u8]) -> i32 {
+    let stored = |address: usize| i32::from_le_bytes(table[address..address + 4].try_into().unwrap());
+    match rng.between(0, 4) {
+        0 | 1 => rng.between(0, 4_095) as i32,
+        2 => rng.pick(&[
+            0,
+            1,
+            -1,
+            2,
+            3,
+            7,
+            8,
+            252,
+            253,
+            254,
+            255,
+            256,
+            330,
+            331,
+            -330,
+            -331,
+            4_094,
+            4_095,
+            4_096,
+            65_535,
+            65_536,
+            1_044_479,
+            1_044_480,
+            -1_044_479,
+            -1_044_480,
+            i32::MIN,
+            i32::MAX,
+            -4_095,
+            -256,
+        ]),
+        3 => {
+            let limit = stored(rng.pick(&[48, 52]));
+            limit.wrapping_add(rng.pick(&[-1, 0, 0, 1]))
+        }
+        _ => rng.word() as i32,
+    }
+}
+
+fn set(table: &mut [u8], address: usize, bytes: &[u8]) {
+    table[address..address + bytes.len()].copy_from_slice(bytes);
+}
+
+/// Fresh tables, lived-in ones, and any bytes; their ID is valid.
+pub fn table(rng: &mut Rng) -> Table {
+    let mut table = fresh();
+    if rng.one_in(5) {
+        return table;
+    }
+    if rng.one_in(4) {
+        table = rng.bytes(TABLE_BYTES).try_into().unwrap();
+        if rng.one_in(2) {
+            table[64] = 0;
+        }
+    } else {
+        for (address, bytes) in ITEMS {
+            if rng.one_in(2) && bytes == 4 {
+                let value = value(rng, &table);
+                set(&mut table, address, &value.to_le_bytes());
+            }
+        }
+        if rng.one_in(2) {
+            let (a, b) = (rng.between(0, 4_095) as i32, rng.between(0, 4_095) as i32);
+            set(&mut table, 48, &a.max(b).to_le_bytes());
+            set(&mut table, 52, &a.min(b).to_le_bytes());
+        }
+        table[64] = rng.pick(&[0, 0, 0, 1, 2, 255]);
+        if rng.one_in(3) {
+            let undefined = rng.pick(&[2, 5, 9, 19, 24, 47, 56, 63, 66, 67, 71, 103, 108, 115, 120, 131]);
+            table[undefined] = rng.byte();
+        }
+    }
+    if rng.one_in(5) {
+        // what has to be stuffed in a status
+        for address in [0, 1, 6].into_iter().chain(20..24).chain(48..56).chain(104..108).chain(116..120).chain(132..136) {
+            table[address] = rng.pick(&[0xFF, 0xFF, 0xFD]);
+        }
+    }
+    table[7] = rng.pick(&[0, 1, 1, 7, 251, 252]);
+    table[68] = rng.pick(&[0, 1, 2, 2, 2, 3, 128, 255]);
+    table[70] = rng.pick(&[0, 0, 0, 1, 0x20, 0x80, 0xFF]);
+    table
+}
+
+/// Registered writes: none, good ones, and such as no call has left; the count may be too large.
+pub fn registered(rng: &mut Rng, table: &[u8]) -> Registered {
+    let bytes: [u8; 8] = match rng.between(0, 2) {
+        0 => [0; 8],
+        1 => {
+            let (a, b) = (value(rng, table), value(rng, table));
+            [a.to_le_bytes(), b.to_le_bytes()].concat().try_into().unwrap()
+        }
+        _ => rng.bytes(8).try_into().unwrap(),
+    };
+    let (address, count) = rng.pick(&WRITABLE);
+    match rng.between(0, 9) {
+        0 | 1 => Registered::default(),
+        2 => Registered { address: rng.word() as u16, count: 0, bytes },
+        3 => Registered { address: rng.word() as u16, count: rng.byte(), bytes },
+        4 => Registered { address: rng.between(0, 140) as u16, count: rng.between(0, 9) as u8, bytes },
+        5 => Registered { address: (address + 256 * rng.between(1, 255)) as u16, count: count as u8, bytes },
+        6 => {
+            let (address, count) = rng.pick(&SIDE_BY_SIDE);
+            Registered { address: address as u16, count: count as u8, bytes }
+        }
+        _ => Registered { address: address as u16, count: count as u8, bytes },
+    }
+}
+
+/// An address and data to write there: mostly whole items, now and then cut, too long, or anywhere.
+fn write(rng: &mut Rng, table: &[u8]) -> Vec<u8> {
+    let (mut address, mut length) = match rng.between(0, 9) {
+        0 => rng.pick(&ITEMS),
+        1 => (rng.between(0, 140), rng.between(0, 12)),
+        2 => rng.pick(&SIDE_BY_SIDE),
+        _ => rng.pick(&WRITABLE),
+    };
+    if rng.one_in(12) {
+        address = match rng.between(0, 3) {
+            0 => address.saturating_sub(1),
+            1 => address + 1,
+            2 => rng.between(130, 140),
+            // the low byte is that of an item
+            _ => address + 256 * rng.between(1, 255),
+        };
+    }
+    if rng.one_in(12) {
+        length = rng.pick(&[0, 1, 2, 3, 4, 5, 7, 8, 9, length + 1]);
+    }
+    let mut data = Vec::new();
+    while data.len() < length {
+        match length {
+            1 | 2 => data.push(if rng.one_in(2) { rng.between(0, 3) as u8 } else { value(rng, table) as u8 }),
+            _ => data.extend(value(rng, table).to_le_bytes()),
+        }
+    }
+    data.truncate(length);
+    [&(address as u16).to_le_bytes()[..], &data].concat()
+}
+
+fn read(rng: &mut Rng) -> Vec<u8> {
+    let (address, length) = match rng.between(0, 4) {
+        0 => (rng.between(0, 140), rng.between(0, 12)),
+        1 => (rng.word() as u16 as usize, rng.word() as u16 as usize),
+        2 => rng.pick(&SIDE_BY_SIDE),
+        _ => rng.pick(&ITEMS),
+    };
+    // address or length with the low byte of a good one
+    let (address, length) = match rng.between(0, 19) {
+        0 => (address + 256 * rng.between(1, 255), length),
+        1 => (address, length + 256 * rng.between(1, 255)),
+        _ => (address, length),
+    };
+    [(address as u16).to_le_bytes(), (length as u16).to_le_bytes()].concat()
+}
+
+/// IDs, none of them twice, with ours among them or not.
+fn ids(rng: &mut Rng, own: u8, count: usize) -> Vec<u8> {
+    let mut ids: Vec<u8> = (0..=252).collect();
+    for i in 0..ids.len() {
+        let j = rng.between(i, ids.len() - 1);
+        ids.swap(i, j);
+    }
+    ids.truncate(count);
+    if rng.one_in(8) {
+        ids.retain(|&id| id != own);
+    } else if !ids.contains(&own) && !ids.is_empty() {
+        let place = rng.between(0, ids.len() - 1);
+        ids[place] = own;
+    }
+    ids
+}
+
+/// A Sync list, whole or broken in one of the ways that the rules name, far behind our entry too.
+fn sync(rng: &mut Rng, table: &[u8], with_bytes: bool) -> Vec<u8> {
+    let own = table[7];
+    let count = if rng.one_in(6) { rng.between(100, 253) } else { rng.between(0, 12) };
+    let mut ids = ids(rng, own, count);
+    if !ids.is_empty() && rng.one_in(6) {
+        let wrong = if rng.one_in(2) { rng.pick(&[253, 254, 255]) } else { rng.pick(&ids) };
+        let place = if rng.one_in(2) { ids.len() } else { rng.between(0, ids.len()) };
+        ids.insert(place, wrong);
+    }
+    let first = if with_bytes { write(rng, table) } else { read(rng) };
+    let length = if with_bytes { first.len() - 2 } else { usize::from(first[2]) + 256 * usize::from(first[3]) };
+    let mut parameters = [&first[..2], &(length as u16).to_le_bytes()].concat();
+    for id in ids {
+        parameters.push(id);
+        if with_bytes {
+            let data = if id == own { first[2..].to_vec() } else { rng.bytes(length) };
+            parameters.extend(data);
+        }
+    }
+    if rng.one_in(10) {
+        let kept = parameters.len() - rng.between(1, parameters.len().min(6));
+        parameters.truncate(kept);
+    }
+    if rng.one_in(20) {
+        parameters.push(rng.byte());
+    }
+    parameters
+}
+
+/// A body for this instruction, mostly with the right count of parameters.
+pub fn body(rng: &mut Rng, table: &[u8], instruction: u8) -> Vec<u8> {
+    let mut parameters = match instruction {
+        0x02 => read(rng),
+        0x03 | 0x04 => write(rng, table),
+        0x06 => vec![if rng.one_in(6) { rng.byte() } else { rng.pick(&[1, 2, 255]) }],
+        0x82 => sync(rng, table, false),
+        0x83 => sync(rng, table, true),
+        _ => vec![],
+    };
+    if rng.one_in(15) {
+        let count = rng.between(0, 20);
+        parameters.resize(count, 1);
+    }
+    [&[instruction], &parameters[..]].concat()
+}
+
+pub fn id(rng: &mut Rng, own: u8) -> u8 {
+    match rng.between(0, 19) {
+        0 => rng.byte(),
+        1 => rng.pick(&[253, 255]),
+        2..=5 => 254,
+        _ => own,
+    }
+}

@@ -264,6 +264,27 @@ struct dxl_answer {
 struct dxl_answer dxl_device(uint8_t *table, size_t n_table, struct dxl_registered registered, uint8_t kind, uint8_t id,
                              const uint8_t *body, size_t n_body, uint8_t *reply, size_t n_reply);
 
+/*
+ * dxl_unstuff and dxl_device in one call: the device hears a packet as it was received.
+ *
+ * table, n_table, registered, reply, n_reply   as for dxl_device
+ * packet, n_packet   the packet's bytes from its header to its checksum, as dxl_feed and dxl_gap leave them; n_packet is the
+ *                    count that they answer. The reader has tested them, and here only the stuffing is tested: the ID is
+ *                    byte 4, the body everything from byte 7 up to the last two bytes. Any other bytes are accepted too: fewer
+ *                    than 5 are sent to nobody, fewer than 10 have an empty body
+ * body, n_body       a buffer for the unstuffed body; DXL_MAX_BODY bytes are room enough for every packet of the reader
+ *
+ * Answers as dxl_device does of DXL_PACKET, the ID and the unstuffed body, or
+ *   -14  the body is not well stuffed; never of a packet of the reader
+ *   -13  the unstuffed body has more than n_body bytes
+ *   -21 to -24, as dxl_device
+ *
+ * The unstuffed body starts at byte 0 of body, also where the packet is for another device, and the bytes after it stay as they
+ * were. Where the call refuses, all of body stays too. table, reply and the registered write become what dxl_device makes of them.
+ */
+struct dxl_answer dxl_exchange(uint8_t *table, size_t n_table, struct dxl_registered registered, const uint8_t *packet,
+                               size_t n_packet, uint8_t *body, size_t n_body, uint8_t *reply, size_t n_reply);
+
 #ifdef __cplusplus
 }
 #endif

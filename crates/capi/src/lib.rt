@@ -4,6 +4,8 @@ use control_table::Outcome;
 use device::RegisteredWrite;
 use device::Replied;
 use device::Response;
+use exchange::Answered;
+use exchange::Exchanged;
 use packet::Encoded;
 use reader::Heard;
 use reader::Told;
@@ -22,6 +24,7 @@ ghost use Rattle.reading.specs.Calls.{first, fed, gapped};
 ghost use Rattle.packet.specs.Verdict.{protocol2};
 ghost use Rattle.reader.specs.Answer.{saidBy, saidFor, leftFor, packetFor};
 ghost use Rattle.device.specs.Answers.{repliedAnswer, callAnswer, callRegistered, callTable, callOut};
+ghost use Rattle.exchange.specs.Exchange.{exchangedAnswer, exchangeAnswer, exchangeRegistered, exchangeTable, exchangeBody, exchangeOut};
 ghost use Rattle.capi.specs.Exported.{exported, exportedRefusal, stepNumbers, deviceNumbers, heardBy, idBy};
 
 // What a feeding or gap call answers. kind 0: no event, of a gap call: nothing is left; 1: a packet of `count` bytes; 2: a bad
@@ -255,4 +258,46 @@ pub extern "C" fn dxl_device(
     }
     let nothing = device::Heard::BadChecksum;
     device_numbers(device::hear(table, registered, nothing, 255, body, reply))
+}
+
+fn exchange_numbers(answered: Answered) -> DeviceNumbers
+    ensures { λ r. ⌜ r ≡ deviceNumbers (exchangedAnswer (answered .exchanged)) (answered .registered) ⌝ }
+{
+    let registered = answered.registered;
+    let exchanged = answered.exchanged;
+    match exchanged {
+        Exchanged::Device(replied) => device_numbers(Response {
+            replied,
+            registered,
+        }),
+        Exchanged::BadStuffing => DeviceNumbers {
+            count: -14,
+            slot: 0,
+            registered,
+        },
+        Exchanged::NoRoom => DeviceNumbers {
+            count: -13,
+            slot: 0,
+            registered,
+        },
+    }
+}
+
+// The device call on a packet as received, whose body goes to `body` without its stuffing.
+#[no_mangle]
+pub extern "C" fn dxl_exchange(
+    table: &mut [u8],
+    registered: RegisteredWrite,
+    packet: &[u8],
+    body: &mut [u8],
+    reply: &mut [u8],
+) -> DeviceNumbers
+    ensures { λ r. ⌜ r ≡ deviceNumbers
+        (exchangeAnswer (now (table .entry)) registered (now (packet .entry)) (now (body .entry)) (now (reply .entry)))
+        (exchangeRegistered (now (table .entry)) registered (now (packet .entry)) (now (body .entry)) (now (reply .entry))) ⌝ }
+    ensures { λ _. ⌜ (now (table .exit) ≡ exchangeTable (now (table .entry)) registered (now (packet .entry)) (now (body .entry)) (now (reply .entry)))
+        × (now (body .exit) ≡ exchangeBody (now (table .entry)) registered (now (packet .entry)) (now (body .entry)) (now (reply .entry)))
+        × (now (reply .exit) ≡ exchangeOut (now (table .entry)) registered (now (packet .entry)) (now (body .entry)) (now (reply .entry))) ⌝ }
+{
+    exchange_numbers(exchange::answer(table, registered, packet, body, reply))
 }

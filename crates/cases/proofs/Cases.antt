@@ -7,7 +7,7 @@ use mathlib.Core.Logic.{⊎-elim}
 use Prim.Native.Nat.{ℕ}
 use native.Mathlib.Omega.{arith}
 use lib.Dec.{eqb}
-use lib.ListN.{length}
+use lib.ListN.{length, replicate}
 use borrow.Author.Tests.{eqb-true}
 use Rattle.lists.proofs.Bools.{and-left, and-right}
 use Rattle.reading.specs.Rules.{Verdict, isPacket, isBadChecksum, isWaiting, isNothing}
@@ -15,7 +15,16 @@ use Rattle.crc16.specs.Crc.{reduceIf, shift, shifts, crcByte, crcFrom}
 use Rattle.stuffing.specs.Stuffing.{stuffAfter, stuff, wellAfter, wellStuffed, unstuffAfter, unstuff}
 use Rattle.packet.specs.Packet.{lengthOf, bodyOf, checksumRight, withChecksum, packetOf}
 use Rattle.packet.specs.Verdict.{frontAgrees, lengthAgrees, verdict}
-use Rattle.cases.specs.Cases.{Case, packet, stuffing, Claim, table}
+use Rattle.control_table.specs.Registers.{registers, permitsBy}
+use Rattle.control_table.specs.Items.{numberAt, valueAt, bytesOf, put}
+use Rattle.control_table.specs.Fresh.{freshened}
+use Rattle.control_table.specs.Rules.{everyByte, everyTouched, limitsOrdered, goalWithin, writeRule, readRule}
+use Rattle.device.specs.Registered.{dropped}
+use Rattle.device.specs.Instructions.{read, write}
+use Rattle.device.specs.Device.{heardInstruction, carryOut}
+use Rattle.device.specs.Answers.{replyBytes}
+use Rattle.device.specs.declared.RegisteredWrite.{RegisteredWrite}
+use Rattle.cases.specs.Cases.{Case, packet, stuffing, exchange, carriedOut, Claim, table}
 
 -- ---- equality as a test
 
@@ -45,11 +54,27 @@ packet-of (isBadChecksum id) n e = let z : _≡_ {A = ℕ} 0 1 = cc in absurd (o
 packet-of isWaiting n e = let z : _≡_ {A = ℕ} 0 1 = cc in absurd (omega arith)
 packet-of isNothing n e = let z : _≡_ {A = ℕ} 0 1 = cc in absurd (omega arith)
 
+abbrev isDropped : RegisteredWrite → Bool
+isDropped w = eqb (w .address) 0 && (eqb (w .count) 0 && same (w .bytes) (replicate 8 0))
+
+is-dropped : (w : RegisteredWrite) → isDropped w ≡ true → w ≡ dropped
+is-dropped w e =
+    let r = and-right (eqb (w .address) 0) (eqb (w .count) 0 && same (w .bytes) (replicate 8 0)) e in
+    ap (λ (a : ℕ). record { address = a; count = w .count; bytes = w .bytes })
+    (eqb-true (w .address) 0 (and-left (eqb (w .address) 0) (eqb (w .count) 0 && same (w .bytes) (replicate 8 0)) e))
+    ∙ ap (λ (n : ℕ). record { address = 0; count = n; bytes = w .bytes })
+    (eqb-true (w .count) 0 (and-left (eqb (w .count) 0) (same (w .bytes) (replicate 8 0)) r))
+    ∙ ap (λ (b : List ℕ). record { address = 0; count = 0; bytes = b })
+    (same-lists (w .bytes) (replicate 8 0) (and-right (eqb (w .count) 0) (same (w .bytes) (replicate 8 0)) r))
+
 -- ---- the test of a case, and of the table
 
 abbrev right : Case → Bool
 right (packet id body bytes) = same (packetOf id body) bytes && isPacketOf (verdict bytes) (length bytes)
 right (stuffing body stuffed) = same (stuff body) stuffed && (wellStuffed stuffed && same (unstuff stuffed) body)
+right (exchange before bytes status slot after) =
+    let c = carriedOut before bytes in
+    same (replyBytes (c .reply)) status && (eqb (c .reply .slot) slot && (same (c .table) after && isDropped (c .registered)))
 
 claimed : (c : Case) → right c ≡ true → Claim c
 claimed (packet id body bytes) e =
@@ -62,6 +87,19 @@ claimed (stuffing body stuffed) e =
     let c = same (unstuff stuffed) body in
     let r = and-right a (b && c) e in
     (same-lists (stuff body) stuffed (and-left a (b && c) e), and-left b c r, same-lists (unstuff stuffed) body (and-right b c r))
+claimed (exchange before bytes status slot after) e =
+    let c = carriedOut before bytes in
+    let a = same (replyBytes (c .reply)) status in
+    let b = eqb (c .reply .slot) slot in
+    let d = same (c .table) after in
+    let f = isDropped (c .registered) in
+    let r = and-right a (b && (d && f)) e in
+    let q = and-right b (d && f) r in (
+      same-lists (replyBytes (c .reply)) status (and-left a (b && (d && f)) e),
+      eqb-true (c .reply .slot) slot (and-left b (d && f) r),
+      same-lists (c .table) after (and-left d f q),
+      is-dropped (c .registered) (and-right d f q),
+    )
 
 abbrev allRight : List Case → Bool
 allRight [] = true
@@ -75,5 +113,5 @@ each (d ∷ cs) e c m =
 
 -- the test is computed here
 pub cases-hold : (c : Case) → List·Memᴰ c table → Claim c
-unfolding reduceIf shift shifts crcByte crcFrom stuffAfter wellAfter unstuffAfter lengthOf bodyOf checksumRight withChecksum packetOf frontAgrees lengthAgrees verdict
+unfolding reduceIf shift shifts crcByte crcFrom stuffAfter wellAfter unstuffAfter lengthOf bodyOf checksumRight withChecksum packetOf frontAgrees lengthAgrees verdict registers permitsBy numberAt valueAt bytesOf put freshened everyByte everyTouched limitsOrdered goalWithin writeRule readRule read write heardInstruction carryOut
 cases-hold = each table refl

@@ -6,7 +6,7 @@ use mathlib.Core.Option.{Option, none, some}
 use Prim.Native.Nat.{ℕ}
 use native.Mathlib.Omega.{arith}
 use lib.ListN.{length, take, drop, set, length-take, length-drop}
-use borrow.Author.Tests.{eq-eqb, ne-eqb}
+use borrow.Author.Tests.{eq-eqb}
 use Rattle.lists.specs.Answer.{unlessRefused}
 use Rattle.control_table.specs.Registers.{tableSize, registeredInstruction}
 use Rattle.control_table.specs.Rules.{stored, readRule, writeRule}
@@ -16,8 +16,8 @@ use Rattle.control_table.specs.declared.Outcome.the-variants.{Done, DataRange, 
 use Rattle.control_table.proofs.Judged.{done-none}
 use Rattle.control_table.proofs.Theorems.{read-inside}
 use Rattle.control_table.proofs.Put.{put-byte}
-use Rattle.device.specs.Registered.{padded, registering, dropped, bytesToWrite}
-use Rattle.device.specs.Instructions.{Effect, refusing, errorOf, read, write, regWrite, action}
+use Rattle.device.specs.Registered.{padded, registering}
+use Rattle.device.specs.Instructions.{errorOf, read, write, regWrite}
 use Rattle.device.specs.Steps.{doneWith, doneOf}
 use Rattle.device.specs.declared.Done.{Done as DoneRecord}
 use Rattle.device.specs.declared.RegisteredWrite.{RegisteredWrite}
@@ -86,14 +86,3 @@ module _ (table : List ℕ) (w : RegisteredWrite) (address : ℕ) (sized : lengt
       reg-write-table d =
           rw (good-rule table sized (writeRule table address bytes) o e d)
           (sym (put-byte table registeredInstruction 1 refl (omega arith) (omega arith)))
-
-module _ (table : List ℕ) (w : RegisteredWrite) (sized : length table ≡ tableSize) where
-  pub action-none : w .count ≡ 0 → _≡_ {A = Effect} (refusing table w 0x02) (action table w)
-  unfolding action
-  action-none e = rw (eq-eqb (w .count) 0 e)
-
-  pub action-some : (w .count ≡ 0 → ⊥) → write (set table 69 0) dropped (w .address) (bytesToWrite w) ≡ action table w
-  unfolding action
-  action-some n =
-      rw (ne-eqb (w .count) 0 n)
-      (ap (λ (t : List ℕ). write t dropped (w .address) (bytesToWrite w)) (sym (put-byte table registeredInstruction 0 refl (omega arith) (omega arith))))

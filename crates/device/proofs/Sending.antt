@@ -7,21 +7,18 @@ use Prim.Native.Nat.{ℕ, suc, _+_, _≤_, _<_}
 use native.Mathlib.Nat.{le-of-eq}
 use native.Mathlib.Numerals.{add-one}
 use native.Mathlib.Omega.{arith}
-use lib.ListN.{length, take, drop, getD, length-append, length-take, drop-of-length-le}
+use lib.ListN.{length, take, drop, getD, length-take, drop-of-length-le}
 use lib.Seq.{drop-cons}
 use borrow.Author.Tests.{le-leb}
 use Rattle.lists.specs.Answer.{count, answered, unlessRefused}
 use Rattle.lists.specs.Write.{overwritten, placed}
 use Rattle.stuffing.specs.Stuffing.{mark, stuff, marksAfter}
 use Rattle.stuffing.proofs.Laws.{length-stuff}
-use Rattle.packet.specs.Packet.{withChecksum, packetOf}
+use Rattle.packet.specs.Packet.{packetOf}
+use Rattle.packet.proofs.Writing.{packet-length}
 use Rattle.packet.specs.Encoding.{encodedAnswer, encodeRefusal, encodeAnswer, encodeOut}
 use Rattle.packet.specs.declared.Encoded.{Encoded}
 use Rattle.packet.specs.declared.Encoded.the-variants.{Count, BadId, TooLong, NoRoom}
-
-packet-length : (id : ℕ) (body : List ℕ) → length (packetOf id body) ≡ length (stuff body) + 9
-unfolding packetOf withChecksum
-packet-length id body = simp length-append (omega arith)
 
 marks-le : (a b : ℕ) (s : List ℕ) → marksAfter a b s ≤ length s
 unfolding marksAfter

@@ -22,7 +22,7 @@ ghost use Rattle.device.specs.Instructions.{action as Instructions·acti
 ghost use Rattle.device.specs.Device.{silent, ownOnly, heardPing, heardRead, heardWrite, heardRegWrite, heardAction, heardReboot, heardFactoryReset};
 ghost use Rattle.device.specs.Device.{syncSearch, heardSyncRead, heardSyncWrite, heardInstruction, errorByte, carried, carryOut};
 ghost use Rattle.device.specs.Device.{reaction as Device·reaction};
-ghost use Rattle.device.specs.Answers.{replyBytes, repliedAnswer, callAnswer, callRegistered, callTable, callOut};
+ghost use Rattle.device.specs.Answers.{replyBytes, repliedAnswer, callRefusal, answeredBy, callAnswer, callRegistered, callTable, callOut};
 ghost use Rattle.device.specs.Steps.{doneWith, doneOf, reactedBy, reactedOf, replyTo, carriedOf};
 
 // What the device hears: a packet with its unstuffed body, or one whose checksum is wrong, which has no body.
@@ -689,8 +689,27 @@ fn send(reply: Reply, out: &mut [u8]) -> usize
     }
 }
 
-// The device call. Faults of the caller come first, whatever was heard, and change nothing: a table that is not 136 bytes long,
-// an ID above 252 in it, a registered write of more than 8 bytes, a reply buffer under 32 bytes.
+// What a device that has nothing to say answers: the caller's fault, or silence. Faults in their order: a table that is not 136
+// bytes long, an ID above 252 in it, a registered write of more than 8 bytes, a reply buffer under 32 bytes.
+pub fn idle(table: &[u8], registered: RegisteredWrite, out: &[u8]) -> Replied
+    ensures { λ r. ⌜ repliedAnswer r ≡ answeredBy (callRefusal (now (table .entry)) registered (now (out .entry))) Registered·silence ⌝ }
+{
+    if table.len() != 136 {
+        return Replied::NotTable;
+    }
+    if 252 < table[7] {
+        return Replied::BadId;
+    }
+    if 8 < registered.count {
+        return Replied::BadRegistered;
+    }
+    if out.len() < 32 {
+        return Replied::NoRoom;
+    }
+    Replied::Sent(0, 0)
+}
+
+// The device call. Faults of the caller come first, whatever was heard, and change nothing.
 pub fn hear(
     table: &mut [u8],
     registered: RegisteredWrite,
@@ -704,30 +723,13 @@ pub fn hear(
     ensures { λ _. ⌜ now (table .exit) ≡ callTable (now (table .entry)) registered heard id (now (body .entry)) (now (out .entry)) ⌝ }
     ensures { λ _. ⌜ now (out .exit) ≡ callOut (now (table .entry)) registered heard id (now (body .entry)) (now (out .entry)) ⌝ }
 {
-    if table.len() != 136 {
+    let replied = idle(&table[..], registered, &out[..]);
+    let Replied::Sent(_, _) = replied else {
         return Response {
-            replied: Replied::NotTable,
+            replied,
             registered,
         };
-    }
-    if 252 < table[7] {
-        return Response {
-            replied: Replied::BadId,
-            registered,
-        };
-    }
-    if 8 < registered.count {
-        return Response {
-            replied: Replied::BadRegistered,
-            registered,
-        };
-    }
-    if out.len() < 32 {
-        return Response {
-            replied: Replied::NoRoom,
-            registered,
-        };
-    }
+    };
     let carried = carry_out(table, registered, heard, id, body);
     let reply = carried.reply;
     let kept = carried.registered;

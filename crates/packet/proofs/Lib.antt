@@ -1,6 +1,6 @@
 mod Lists
 mod Rulings
-mod Writing
+pub mod Writing
 mod Agreement
 mod Looks
 pub mod Laws

@@ -3,6 +3,9 @@ use exports::{Answer, Registered, Step};
 /// Table, registered write, kind, ID, body and reply buffer.
 pub type DeviceCall = fn(&mut [u8], Registered, u8, u8, &[u8], &mut [u8]) -> Answer;
 
+/// Table, registered write, packet as received, body buffer and reply buffer.
+pub type ExchangeCall = fn(&mut [u8], Registered, &[u8], &mut [u8], &mut [u8]) -> Answer;
+
 /// The exports that are compared, as one value: a test of the comparison itself puts a wrong one in.
 #[derive(Clone, Copy)]
 pub struct Calls {
@@ -14,6 +17,7 @@ pub struct Calls {
     pub fresh: fn(&mut [u8]) -> i64,
     pub measure: fn(&mut [u8], i32, u8) -> i64,
     pub device: DeviceCall,
+    pub exchange: ExchangeCall,
 }
 
 pub const PROVED: Calls = Calls {
@@ -25,4 +29,5 @@ pub const PROVED: Calls = Calls {
     fresh: exports::fresh,
     measure: exports::measure,
     device: exports::device,
+    exchange: exports::exchange,
 };

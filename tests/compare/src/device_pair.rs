@@ -1,5 +1,5 @@
 use crate::{hex, must_agree, Calls, Comparison, Difference, Guarded, PROVED};
-use reference::{device_call, Heard, Registered, Rng};
+use reference::{device_call, packet_call, DeviceAnswer, Heard, Registered, Rng};
 use std::hint::black_box;
 
 pub const PACKET: u8 = 1;
@@ -67,6 +67,12 @@ impl DevicePair {
         must_agree(self.try_hear(kind, id, body))
     }
 
+    /// A packet as received, whose unstuffed body goes into a buffer of so many bytes.
+    pub fn hear_packet(&mut self, rng: &mut Rng, packet: &[u8], room: usize) -> Told {
+        let filler = rng.bytes(room);
+        must_agree(self.try_hear_packet(packet, &Guarded::new(rng, &filler)))
+    }
+
     pub fn try_fresh(&mut self) -> Result<i64, Difference> {
         let before = self.table().to_vec();
         let answer = (self.exports.fresh)(self.ours.table.bytes_mut());
@@ -96,16 +102,18 @@ impl DevicePair {
     }
 
     pub fn try_hear(&mut self, kind: u8, id: u8, body: &[u8]) -> Result<Told, Difference> {
-        self.filler = self.filler.wrapping_add(1);
-        for device in [&mut self.ours, &mut self.expected] {
-            device.reply.bytes_mut().fill(self.filler);
-        }
-        let (before, registered) = (self.table().to_vec(), self.registered);
+        let (before, registered) = self.refill();
         let mut lent = body.to_vec();
 
         let Borrowed { table, reply } = &mut self.ours;
         let answer = (self.exports.device)(table.bytes_mut(), exported(registered), kind, id, &lent, reply.bytes_mut());
-        let (wanted, left) = self.wanted(kind, id, body);
+        let heard = match kind {
+            PACKET => Heard::Packet { id, body },
+            BAD_CHECKSUM => Heard::BadChecksum { id },
+            _ => Heard::Nothing,
+        };
+        let Borrowed { table, reply } = &mut self.expected;
+        let wanted = device_call(table.bytes_mut(), registered, heard, reply.bytes_mut());
 
         let room = self.reply().len();
         let given = || {
@@ -113,28 +121,57 @@ impl DevicePair {
             format!("kind {kind}, ID {id}, body {body}, {registered:?}, table {table}, reply buffer of {room}")
         };
         let comparison = Comparison { export: "dxl_device", given: &given };
-        comparison.same_shown("the answer", answer, wanted, shown)?;
-        self.same_memory(&comparison)?;
         comparison.same_bytes("the body", black_box(&mut lent).as_slice(), body)?;
-
-        self.registered = left;
-        let exports::Answer { count, slot, .. } = answer;
-        Ok(Told { count, slot, error: (count > 0).then(|| self.reply()[8]) })
+        self.told(&comparison, answer, wanted)
     }
 
-    /// The reference's call: its answer as the exports give it, and the registered write that it leaves.
-    fn wanted(&mut self, kind: u8, id: u8, body: &[u8]) -> (exports::Answer, Registered) {
-        let heard = match kind {
-            PACKET => Heard::Packet { id, body },
-            BAD_CHECKSUM => Heard::BadChecksum { id },
-            _ => Heard::Nothing,
-        };
+    /// A packet as received, whose unstuffed body goes into this buffer.
+    pub fn try_hear_packet(&mut self, packet: &[u8], buffer: &Guarded) -> Result<Told, Difference> {
+        let (before, registered) = self.refill();
+        let mut lent = packet.to_vec();
+        let (mut body, mut expected_body) = (buffer.clone(), buffer.clone());
+
+        let Borrowed { table, reply } = &mut self.ours;
+        let answer = (self.exports.exchange)(table.bytes_mut(), exported(registered), &lent, body.bytes_mut(), reply.bytes_mut());
         let Borrowed { table, reply } = &mut self.expected;
-        let (count, slot, left) = match device_call(table.bytes_mut(), self.registered, heard, reply.bytes_mut()) {
+        let wanted = packet_call(table.bytes_mut(), registered, packet, expected_body.bytes_mut(), reply.bytes_mut());
+
+        let (room, reply) = (buffer.bytes().len(), self.reply().len());
+        let given = || {
+            let (packet, table) = (hex(packet), hex(&before));
+            format!("packet {packet}, body buffer of {room}, {registered:?}, table {table}, reply buffer of {reply}")
+        };
+        let comparison = Comparison { export: "dxl_exchange", given: &given };
+        comparison.same_bytes("the packet", black_box(&mut lent).as_slice(), packet)?;
+        comparison.same_guarded("the body buffer", &body, &expected_body)?;
+        self.told(&comparison, answer, wanted)
+    }
+
+    /// A new filling for the reply buffers; answers the table and the registered write.
+    fn refill(&mut self) -> (Vec<u8>, Registered) {
+        self.filler = self.filler.wrapping_add(1);
+        for device in [&mut self.ours, &mut self.expected] {
+            device.reply.bytes_mut().fill(self.filler);
+        }
+        (self.table().to_vec(), self.registered)
+    }
+
+    /// After a call of the device: the answer, and all that both sides have left.
+    fn told(
+        &mut self,
+        comparison: &Comparison,
+        answer: exports::Answer,
+        wanted: Result<DeviceAnswer, u8>,
+    ) -> Result<Told, Difference> {
+        let (count, slot, left) = match wanted {
             Ok(answer) => (answer.count as i64, usize::from(answer.slot), answer.registered),
             Err(refusal) => (-i64::from(refusal), 0, self.registered),
         };
-        (exports::Answer { count, slot, registered: exported(left) }, left)
+        comparison.same_shown("the answer", answer, exports::Answer { count, slot, registered: exported(left) }, shown)?;
+        self.same_memory(comparison)?;
+
+        self.registered = left;
+        Ok(Told { count, slot, error: (count > 0).then(|| self.reply()[8]) })
     }
 }
 

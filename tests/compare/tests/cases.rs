@@ -52,9 +52,14 @@ fn exchange(table: &mut [u8; 136], packet: &[u8]) -> Vec<u8> {
     assert_eq!((step.kind, step.id, step.taken, step.count), (1, packet[4], packet.len(), packet.len()));
     let mut body = [0; 1022];
     let n = exports::unstuff(&found[7..step.count - 2], &mut body) as usize;
-    let mut reply = [0; 32];
-    let answer = exports::device(table, exports::Registered::default(), step.kind, step.id, &body[..n], &mut reply);
-    reply[..answer.count as usize].to_vec()
+    let (mut reply, mut copy, none) = ([0; 32], *table, exports::Registered::default());
+    let answer = exports::device(table, none, step.kind, step.id, &body[..n], &mut reply);
+    let status = reply[..answer.count as usize].to_vec();
+    // and in one call
+    let (mut body, mut reply) = ([0; 1022], [0; 32]);
+    assert_eq!(exports::exchange(&mut copy, none, &found[..step.count], &mut body, &mut reply), answer);
+    assert_eq!((&copy, &reply[..status.len()]), (&*table, &status[..]));
+    status
 }
 
 /// Instruction and status, as they go over the line, of a fresh device that has measured 166.

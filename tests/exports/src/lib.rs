@@ -68,6 +68,17 @@ mod raw {
             reply: *mut u8,
             n_reply: usize,
         ) -> Answer;
+        pub fn dxl_exchange(
+            table: *mut u8,
+            n_table: usize,
+            registered: Registered,
+            packet: *const u8,
+            n_packet: usize,
+            body: *mut u8,
+            n_body: usize,
+            reply: *mut u8,
+            n_reply: usize,
+        ) -> Answer;
 
         pub fn dxl_test_well_stuffed(body: *const u8, n: usize) -> u8;
         pub fn dxl_test_stuff(first: u8, rest: *const u8, n_rest: usize, out: *mut u8, n_out: usize) -> usize;
@@ -115,6 +126,22 @@ pub fn device(table: &mut [u8], registered: Registered, kind: u8, id: u8, body: 
             kind,
             id,
             body.as_ptr(),
+            body.len(),
+            reply.as_mut_ptr(),
+            reply.len(),
+        )
+    }
+}
+
+pub fn exchange(table: &mut [u8], registered: Registered, packet: &[u8], body: &mut [u8], reply: &mut [u8]) -> Answer {
+    unsafe {
+        raw::dxl_exchange(
+            table.as_mut_ptr(),
+            table.len(),
+            registered,
+            packet.as_ptr(),
+            packet.len(),
+            body.as_mut_ptr(),
             body.len(),
             reply.as_mut_ptr(),
             reply.len(),

@@ -66,6 +66,11 @@ pub enum Operation {
         id: u8,
         body: Vec<u8>,
     },
+    /// A packet as received, with a body buffer of so many bytes.
+    Receive {
+        room: usize,
+        packet: Vec<u8>,
+    },
     /// The loop of the header: bytes come, the device hears each event, and its status is read back.
     Exchange {
         chunk: Vec<u8>,
@@ -84,6 +89,7 @@ impl Operation {
             Operation::Record { held, .. } => held.len(),
             Operation::Feed { chunk } | Operation::Arrive { chunk } | Operation::Exchange { chunk } => chunk.len(),
             Operation::Board { table, .. } => table.len(),
+            Operation::Receive { packet, .. } => packet.len(),
             _ => 0,
         }
     }

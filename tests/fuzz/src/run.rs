@@ -2,7 +2,7 @@
 
 use crate::{Case, Operation};
 use compare::{compare_checksum, compare_encode, compare_unstuff, BAD_CHECKSUM, PACKET};
-use compare::{hex, Calls, Comparison, DevicePair, Difference, Encoded, ReaderPair, Stepped, Told};
+use compare::{hex, Calls, Comparison, DevicePair, Difference, Encoded, Guarded, ReaderPair, Stepped, Told};
 use reference::{fresh, Event, Registered, Rng, MOST_HELD};
 use std::collections::BTreeMap;
 
@@ -120,6 +120,7 @@ impl<'a> World<'a> {
                 self.tally.call("dxl_measure", answer);
             }
             Operation::Hear { kind, id, ref body } => self.hear(kind, id, body)?,
+            Operation::Receive { room, ref packet } => self.receive(packet, room)?,
             _ => unreachable!("the others are no operations on a device"),
         }
         Ok(())
@@ -177,8 +178,20 @@ impl<'a> World<'a> {
     }
 
     fn hear(&mut self, kind: u8, id: u8, body: &[u8]) -> Result<(), Difference> {
-        let Told { count, slot, error } = self.device.try_hear(kind, id, body)?;
-        self.tally.call("dxl_device", count.min(0));
+        let told = self.device.try_hear(kind, id, body)?;
+        self.tally.call("dxl_device", told.count.min(0));
+        self.answered(told)
+    }
+
+    fn receive(&mut self, packet: &[u8], room: usize) -> Result<(), Difference> {
+        let filler = self.rng.bytes(room);
+        let told = self.device.try_hear_packet(packet, &Guarded::new(&mut self.rng, &filler))?;
+        self.tally.call("dxl_exchange", told.count.min(0));
+        self.answered(told)
+    }
+
+    fn answered(&mut self, told: Told) -> Result<(), Difference> {
+        let Told { count, slot, error } = told;
         if let Some(error) = error {
             self.tally.note("error", i64::from(error & 0x7F));
             self.tally.note("slot above 0", i64::from(slot > 0));

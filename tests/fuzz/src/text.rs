@@ -56,6 +56,7 @@ fn line(operation: &Operation) -> String {
         Operation::Fresh => "fresh".to_string(),
         Operation::Measure { position, error } => format!("measure position={position} error=0x{error:02x}"),
         Operation::Hear { kind, id, body } => format!("hear kind={kind} id={id} body={}", hex(body)),
+        Operation::Receive { room, packet } => format!("receive room={room} packet={}", hex(packet)),
         Operation::Exchange { chunk } => format!("exchange chunk={}", hex(chunk)),
         Operation::Silence => "silence".to_string(),
     }
@@ -111,6 +112,7 @@ fn operation(line: &str) -> Result<Operation, String> {
         "fresh" => Operation::Fresh,
         "measure" => Operation::Measure { position: fields.position("position")?, error: fields.number("error")? },
         "hear" => Operation::Hear { kind: fields.number("kind")?, id: fields.number("id")?, body: fields.bytes("body")? },
+        "receive" => Operation::Receive { room: fields.room("room")?, packet: fields.bytes("packet")? },
         "exchange" => Operation::Exchange { chunk: fields.bytes("chunk")? },
         "silence" => Operation::Silence,
         name => return Err(format!("there is no operation `{name}`")),

@@ -34,7 +34,7 @@ fn other_seeds_other_cases() {
 }
 
 /// What has to come up in a short search, and how each export answers then.
-const ANSWERS: [(&str, &[i64]); 9] = [
+const ANSWERS: [(&str, &[i64]); 10] = [
     ("dxl_crc16", &[0]),
     ("dxl_encode", &[0, -11, -12, -13]),
     ("dxl_unstuff", &[0, -13, -14]),
@@ -43,6 +43,7 @@ const ANSWERS: [(&str, &[i64]); 9] = [
     ("dxl_fresh", &[0, -21]),
     ("dxl_measure", &[0, -21]),
     ("dxl_device", &[0, -21, -22, -23, -24]),
+    ("dxl_exchange", &[0, -13, -14, -21, -22, -23, -24]),
     ("error", &[0, 2, 3, 4, 5, 6, 7]),
 ];
 

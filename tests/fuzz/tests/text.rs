@@ -34,6 +34,7 @@ fn every_operation_by_hand() {
         fresh\n\
         measure position=-166 error=0x80\n\
         hear kind=1 id=1 body=01\n\
+        receive room=5 packet=fffffd0001\n\
         exchange chunk=fffffd00\n\
         silence\n";
     let case = parse(text).expect("the text is a case");
@@ -55,6 +56,7 @@ fn every_operation_by_hand() {
         Operation::Fresh,
         Operation::Measure { position: -166, error: 0x80 },
         Operation::Hear { kind: 1, id: 1, body: vec![1] },
+        Operation::Receive { room: 5, packet: vec![0xFF, 0xFF, 0xFD, 0, 1] },
         Operation::Exchange { chunk: vec![0xFF, 0xFF, 0xFD, 0] },
         Operation::Silence,
     ];

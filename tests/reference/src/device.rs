@@ -1,7 +1,7 @@
 //! The device: what it does on hearing something, and the status that it answers.
 
-use crate::packet_of;
 use crate::table::{self, Table};
+use crate::{packet_of, unstuff, well_stuffed};
 
 const FEWEST_REPLY_BYTES: usize = 32;
 
@@ -81,6 +81,29 @@ pub fn device_call(table: &mut [u8], registered: Registered, heard: Heard, out: 
     let status = packet_of(id, &[&[0x55, error | alert], &data[..]].concat());
     out[..status.len()].copy_from_slice(&status);
     Ok(Answer { count: status.len(), slot, registered })
+}
+
+/// The device call on a packet as received, whose unstuffed body goes into a buffer of any length.
+pub fn packet_call(
+    table: &mut [u8],
+    registered: Registered,
+    packet: &[u8],
+    buffer: &mut [u8],
+    out: &mut [u8],
+) -> Result<Answer, u8> {
+    let stuffed = packet.get(7..packet.len().max(2) - 2).unwrap_or(&[]);
+    if !well_stuffed(stuffed) {
+        return Err(14);
+    }
+    let body = unstuff(stuffed);
+    if buffer.len() < body.len() {
+        return Err(13);
+    }
+    // bytes without an ID are sent to nobody
+    let heard = packet.get(4).map_or(Heard::Nothing, |&id| Heard::Packet { id, body: &body });
+    let answer = device_call(table, registered, heard, out)?;
+    buffer[..body.len()].copy_from_slice(&body);
+    Ok(answer)
 }
 
 fn hear(table: &mut Table, registered: &mut Registered, heard: Heard) -> Option<Reply> {
@@ -247,14 +270,13 @@ fn sync_write(table: &mut Table, parameters: &[u8]) {
 #[cfg(test)]
 mod tests {
     use super::*;
-    use crate::{fresh, measure_call, unstuff, well_formed};
+    use crate::{fresh, measure_call, well_formed};
 
     /// What a device does with a packet as it goes over the line, and its status.
     fn answer(table: &mut Table, registered: &mut Registered, packet: &[u8]) -> Vec<u8> {
         assert!(well_formed(packet));
-        let body = unstuff(&packet[7..packet.len() - 2]);
-        let mut out = [0; 40];
-        let answer = device_call(table, *registered, Heard::Packet { id: packet[4], body: &body }, &mut out).unwrap();
+        let (mut body, mut out) = ([0; 1_022], [0; 40]);
+        let answer = packet_call(table, *registered, packet, &mut body, &mut out).unwrap();
         *registered = answer.registered;
         out[..answer.count].to_vec()
     }

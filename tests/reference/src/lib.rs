@@ -10,7 +10,7 @@ mod stuffing;
 mod table;
 
 pub use checksum::checksum;
-pub use device::{device_call, Heard, Registered};
+pub use device::{device_call, packet_call, Answer as DeviceAnswer, Heard, Registered};
 pub use packet::{encode, framed, packet_of, verdict, well_formed, Verdict, LONGEST_LENGTH, SHORTEST_LENGTH};
 pub use reader::{feed, feed_record, gap, gap_record, reading, Event, Found, Given, Step, LONGEST_PACKET, MOST_HELD};
 pub use rng::Rng;

@@ -1,9 +1,14 @@
-use mathlib.Core.Path.{_≡_, ap, _∙_}
+use mathlib.Core.Path.{_≡_, refl, sym, ap, _∙_}
+use mathlib.Core.List.{List}
+use Prim.Native.Nat.{ℕ}
 use native.Mathlib.Omega.{arith}
 use lib.ListN.{length, length-set, length-take}
-use Rattle.device.specs.Instructions.{Effect}
+use borrow.Author.Tests.{eq-eqb, ne-eqb}
+use Rattle.control_table.specs.Registers.{registeredInstruction}
+use Rattle.control_table.proofs.Put.{put-byte}
+use Rattle.device.specs.Registered.{dropped, bytesToWrite}
+use Rattle.device.specs.Instructions.{write, action}
 use Rattle.device.specs.Steps.{doneOf}
-use Rattle.device.proofs.Effects.{action-none, action-some}
 use borrow.Author.Needs.{needs}
 use Rattle.device.proofs.action.Statement.{statement}
 use Rattle.device.proofs.action.Tie as tie
@@ -15,10 +20,11 @@ without-data-requires : tie.Need-without-data-requires
 without-data-requires c κs = search needs
 
 returns : tie.Need-returns
+unfolding action
 returns c =
     let a = c .before .before .before .before in
-    let e = action-none (a .args .table .now) (a .args .registered) (a .pre .0) (c .before .if1 .taken) in
-    (c .without-data .ensures ∙ ap doneOf e, ap (λ (f : Effect). f .table) e)
+    let e = eq-eqb (a .args .registered .count) 0 (c .before .if1 .taken) in
+    (rw e (c .without-data .ensures), rw e)
 
 slice-write-table : tie.Need-slice-write-table
 slice-write-table c = search needs
@@ -47,13 +53,16 @@ same-length : tie.Need-same-length
 same-length c = simp length-set at (c .before .before .write .kept .0)
 
 returns-2 : tie.Need-returns-2
+unfolding action
 returns-2 c =
     let r = c .before .before in
     let k = r .before .before in
     let a = k .before .before .before .before .before .before in
-    let e = action-some (a .args .table .now) (a .args .registered) (a .pre .0) (k .before .before .before .if1 .left) in (
-      (rw (k .dropped .ensures) at (r .write .ensures .0)) ∙ ap doneOf e,
-      (rw (k .dropped .ensures) at (r .write .ensures .1)) ∙ ap (λ (f : Effect). f .table) e,
+    let n = ne-eqb (a .args .registered .count) 0 (k .before .before .before .if1 .left) in
+    let w = a .args .registered in
+    let p = sym (put-byte (a .args .table .now) registeredInstruction 0 refl (omega arith) (omega arith)) in (
+      rw n ((rw (k .dropped .ensures) at (r .write .ensures .0)) ∙ ap (λ (t : List ℕ). doneOf (write t dropped (w .address) (bytesToWrite w))) p),
+      rw n ((rw (k .dropped .ensures) at (r .write .ensures .1)) ∙ ap (λ (t : List ℕ). write t dropped (w .address) (bytesToWrite w) .table) p),
     )
 
 pub action-spec : {M : Type 1} → statement M

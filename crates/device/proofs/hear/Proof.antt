@@ -1,69 +1,24 @@
 use mathlib.Core.Path.{_≡_, sym, ap, subst, _∙_}
+use mathlib.Core.List.{[], _∷_}
 use Prim.Native.Nat.{ℕ, _≤_}
+use types.Run.{miss}
 use lib.ListN.{length}
 use Rattle.lists.specs.Write.{overwritten}
 use Rattle.device.specs.Device.{carryOut}
-use Rattle.device.specs.Answers.{sent, replyBytes}
+use Rattle.device.specs.Answers.{sent, replyBytes, callRefusal}
 use Rattle.device.specs.declared.CarriedOut.{CarriedOut}
 use Rattle.device.specs.declared.Reply.{Reply}
 use Rattle.device.proofs.Bounds.{sendable}
-use Rattle.device.proofs.Calls.{refuses-table, refuses-id, refuses-registered, refuses-room, accepts}
+use Rattle.device.proofs.Calls.{Accepted, idle-refused, idle-none, idle-accepted}
 use borrow.Author.Needs.{needs}
 use Rattle.device.proofs.hear.Statement.{statement}
 use Rattle.device.proofs.hear.Tie as tie
 
-returns : tie.Need-returns
-returns c =
-    let a = c .before .before .before .before .args in
-    let e = refuses-table (a .table .now) (a .registered) (a .out .now) (c .if1 .taken) in
-    (rw e, (rw e, (rw e, rw e)))
+idle-requires : tie.Need-idle-requires
+idle-requires c κs = search needs
 
-slice-read-if2 : tie.Need-slice-read-if2
-slice-read-if2 c = search needs
-
-returns-2 : tie.Need-returns-2
-returns-2 c =
-    let k = c .before .before in
-    let a = k .before .before .before .before .args in
-    let e = refuses-id (a .table .now) (a .registered) (a .out .now) (k .if1 .left) (c .if2 .taken) in
-    (rw e, (rw e, (rw e, rw e)))
-
-returns-3 : tie.Need-returns-3
-returns-3 c =
-    let o = c .before .before in
-    let k = o .before .before in
-    let a = k .before .before .before .before .args in
-    let e = refuses-registered (a .table .now) (a .registered) (a .out .now) (k .if1 .left) (o .if2 .left) (c .if3 .taken) in
-    (rw e, (rw e, (rw e, rw e)))
-
-returns-4 : tie.Need-returns-4
-returns-4 c =
-    let w = c .before in
-    let o = w .before .before in
-    let k = o .before .before in
-    let a = k .before .before .before .before .args in
-    let e = refuses-room (a .table .now) (a .registered) (a .out .now) (k .if1 .left) (o .if2 .left) (w .if3 .left) (c .if4 .taken) in
-    (rw e, (rw e, (rw e, rw e)))
-
-carry-out-requires : tie.Need-carry-out-requires
-carry-out-requires c κs = search needs
-
--- the reply as the definition has it
-reply-is : (r : tie.After-carry-out)
-    → let a = r .before .before .before .before .before .before .before .before .before .before .before .args in
-    r .carry-out .result .reply ≡ carryOut (a .table .now) (a .registered) (a .heard) (a .id) (a .body .now) .reply
-reply-is r = ap (λ (x : CarriedOut). x .reply) (r .carry-out .ensures .0)
-
-send-requires : tie.Need-send-requires
-send-requires c κs =
-    let r = c .before .before .before .before .before in
-    let f = r .before .before in
-    let w = f .before in
-    let o = w .before .before in
-    let k = o .before .before in
-    let a = k .before .before .before .before .args in
-    let q = sendable (a .table .now) (a .registered) (k .if1 .left) (o .if2 .left) (a .heard) (a .id) (a .body .now) in
-    (subst (λ (x : Reply). x .id ≤ 252) (sym (reply-is r)) (q .known), subst (λ (x : Reply). x .count ≤ 8) (sym (reply-is r)) (q .short), f .if4 .left)
+enum-told : tie.Need-enum-told
+enum-told c = search needs
 
 same-length : tie.Need-same-length
 same-length c = search needs
@@ -71,16 +26,54 @@ same-length c = search needs
 same-length-2 : tie.Need-same-length-2
 same-length-2 c = search needs
 
-returns-5 : tie.Need-returns-5
-returns-5 c =
+returns : tie.Need-returns
+returns c =
+    let a = c .before .before .before .before .before .before .before .args in
+    let i = c .before .idle in
+    let q = idle-refused (callRefusal (a .table .now) (a .registered) (a .out .now)) (i .result) (i .ensures)
+    (λ n slot e. miss (1 ∷ 2 ∷ 3 ∷ 4 ∷ []) 0 tt (rw e at (c .match .keys2))) in
+    (q .answers _, (q .keeps _ _, (q .leaves _ _, q .leaves _ _)))
+
+-- nothing is refused, once the match is passed
+accepts : (t : tie.After-enum-told) → let a = t .before .before .before .before .before .before .before .before .args in
+    Accepted (a .table .now) (a .registered) (a .out .now)
+accepts t =
+    let a = t .before .before .before .before .before .before .before .before .args in
+    let i = t .before .before .idle in
+    idle-accepted (a .table .now) (a .registered) (a .out .now) (i .result) (i .ensures) _ _ (t .enum-told .given .1)
+
+carry-out-requires : tie.Need-carry-out-requires
+carry-out-requires c κs = let q = accepts (c .before) in (q .sized, q .short)
+
+-- the reply as the definition has it
+reply-is : (r : tie.After-carry-out)
+    → let a = r .before .before .before .before .before .before .before .before .before .before .args in
+    r .carry-out .result .reply ≡ carryOut (a .table .now) (a .registered) (a .heard) (a .id) (a .body .now) .reply
+reply-is r = ap (λ (x : CarriedOut). x .reply) (r .carry-out .ensures .0)
+
+send-requires : tie.Need-send-requires
+send-requires c κs =
+    let r = c .before .before .before .before .before in
+    let t = r .before .before in
+    let a = t .before .before .before .before .before .before .before .before .args in
+    let q = accepts t in
+    let s = sendable (a .table .now) (a .registered) (q .sized) (q .known) (a .heard) (a .id) (a .body .now) in
+    (subst (λ (x : Reply). x .id ≤ 252) (sym (reply-is r)) (s .known), subst (λ (x : Reply). x .count ≤ 8) (sym (reply-is r)) (s .short), q .room)
+
+same-length-3 : tie.Need-same-length-3
+same-length-3 c = search needs
+
+same-length-4 : tie.Need-same-length-4
+same-length-4 c = search needs
+
+returns-2 : tie.Need-returns-2
+returns-2 c =
     let s = c .before .before in
     let r = s .before .before .before .before .before .before in
-    let f = r .before .before in
-    let w = f .before in
-    let o = w .before .before in
-    let k = o .before .before in
-    let a = k .before .before .before .before .args in
-    let e = accepts (a .table .now) (a .registered) (a .out .now) (k .if1 .left) (o .if2 .left) (w .if3 .left) (f .if4 .left) in
+    let t = r .before .before in
+    let a = t .before .before .before .before .before .before .before .before .args in
+    let i = t .before .before .idle in
+    let e = idle-none (callRefusal (a .table .now) (a .registered) (a .out .now)) (i .result) (i .ensures) _ _ (t .enum-told .given .1) in
     let q = reply-is r in (
       rw e
           (ap (λ (n : ℕ). sent n (r .carry-out .result .reply .slot)) (s .send .ensures .0)
@@ -95,13 +88,13 @@ pub hear-spec : {M : Type 1} → statement M
 hear-spec =
     tie.close
     (tie.spec
-    returns
-    slice-read-if2
-    returns-2
-    returns-3
-    returns-4
-    carry-out-requires
-    send-requires
+    idle-requires
+    enum-told
     same-length
     same-length-2
-    returns-5)
+    returns
+    carry-out-requires
+    send-requires
+    same-length-3
+    same-length-4
+    returns-2)

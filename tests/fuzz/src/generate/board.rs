@@ -3,7 +3,7 @@
 use crate::Operation;
 use compare::device_inputs::{self, instruction_of_a_life, value};
 use compare::{BAD_CHECKSUM, PACKET};
-use reference::{device_call, fresh, reading, unstuff, Event, Heard, Registered, Rng, Table, TABLE_BYTES};
+use reference::{device_call, framed, fresh, packet_of, reading, unstuff, Event, Heard, Registered, Rng, Table, TABLE_BYTES};
 
 pub struct Board {
     table: Vec<u8>,
@@ -118,6 +118,26 @@ impl Board {
     pub fn hear(&mut self, kind: u8, id: u8, body: Vec<u8>, operations: &mut Vec<Operation>) {
         self.follow(kind, id, &body);
         operations.push(Operation::Hear { kind, id, body });
+    }
+
+    /// As a packet in its bytes, some of them damaged or cut short, with a body buffer that mostly has room.
+    pub fn receive(&mut self, rng: &mut Rng, id: u8, body: &[u8], operations: &mut Vec<Operation>) {
+        let mut packet = packet_of(id, body);
+        match rng.between(0, 9) {
+            0 => packet.truncate(rng.between(0, packet.len())),
+            1 => {
+                let place = rng.between(0, packet.len() - 1);
+                packet[place] = rng.pick(&[0xFF, 0xFD, 0x00]);
+            }
+            // no FD after the last FF FF FD
+            2 => packet = framed(id, &[body, &[0xFF, 0xFF, 0xFD]].concat()),
+            _ => self.follow(PACKET, id, body),
+        }
+        let room = match rng.between(0, 9) {
+            0 => rng.between(0, body.len() + 1),
+            _ => body.len() + rng.between(0, 4),
+        };
+        operations.push(Operation::Receive { room, packet });
     }
 
     fn follow(&mut self, kind: u8, id: u8, body: &[u8]) {

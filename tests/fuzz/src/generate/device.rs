@@ -38,6 +38,10 @@ pub fn life(rng: &mut Rng) -> Vec<Operation> {
         odd_for = odd_for.saturating_sub(1);
         board.meanwhile(rng, &mut operations);
         let (id, body) = board.instruction(rng);
+        if rng.one_in(4) {
+            board.receive(rng, id, &body, &mut operations);
+            continue;
+        }
         let kind = if rng.one_in(25) { rng.pick(&[0, 2, 2, 2, 3, 9, 25, 255]) } else { PACKET };
         board.hear(kind, id, body, &mut operations);
     }

@@ -31,6 +31,7 @@ pub fn all() -> Vec<Wrong> {
         wrong("dxl_device", "the reply buffer", Calls { device: other_error, ..PROVED }),
         wrong("dxl_device", "the table", Calls { device: stores_one_by_one, ..PROVED }),
         wrong("dxl_device", "the answer", Calls { device: keeps_registered, ..PROVED }),
+        wrong("dxl_exchange", "the body buffer", Calls { exchange: body_before_the_tests, ..PROVED }),
         wrong("dxl_device", "the bytes around the table", Calls { device: before_the_table, ..PROVED }),
     ]
 }
@@ -164,6 +165,15 @@ fn keeps_registered(table: &mut [u8], registered: Registered, kind: u8, id: u8, 
     let answer = exports::device(table, registered, kind, id, body, reply);
     if body == [5] {
         return Answer { registered, ..answer };
+    }
+    answer
+}
+
+/// The body buffer is written before the table is looked at.
+fn body_before_the_tests(table: &mut [u8], registered: Registered, packet: &[u8], body: &mut [u8], reply: &mut [u8]) -> Answer {
+    let answer = exports::exchange(table, registered, packet, body, reply);
+    if answer.count == -21 && packet.len() >= 9 {
+        exports::unstuff(&packet[7..packet.len() - 2], body);
     }
     answer
 }

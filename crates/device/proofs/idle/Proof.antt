@@ -1,0 +1,41 @@
+use mathlib.Core.Path.{_≡_}
+use Prim.Native.Nat.{ℕ, _≤_, _<_}
+use native.Mathlib.Omega.{arith}
+use lib.ListN.{length, getD}
+use Rattle.control_table.specs.Registers.{tableSize}
+use Rattle.device.proofs.Calls.{refuses-table, refuses-id, refuses-registered, refuses-room, accepts}
+use borrow.Author.Needs.{needs}
+use Rattle.device.proofs.idle.Statement.{statement}
+use Rattle.device.proofs.idle.Tie as tie
+
+returns : tie.Need-returns
+returns c =
+    let a = c .before .args in
+    rw (refuses-table (a .table .now) (a .registered) (a .out .now) (c .if1 .taken))
+
+shared-slice-read-if2 : tie.Need-shared-slice-read-if2
+shared-slice-read-if2 c = search needs
+
+returns-2 : tie.Need-returns-2
+returns-2 c =
+    let a = c .before .before .before .args in
+    rw (refuses-id (a .table .now) (a .registered) (a .out .now) (omega arith) (omega arith))
+
+returns-3 : tie.Need-returns-3
+returns-3 c =
+    let a = c .before .before .before .before .before .args in
+    rw (refuses-registered (a .table .now) (a .registered) (a .out .now) (omega arith) (omega arith) (omega arith))
+
+returns-4 : tie.Need-returns-4
+returns-4 c =
+    let a = c .before .before .before .before .before .before .args in
+    rw (refuses-room (a .table .now) (a .registered) (a .out .now) (omega arith) (omega arith) (omega arith) (omega arith))
+
+returns-5 : tie.Need-returns-5
+returns-5 c =
+    let a = c .before .before .before .before .before .before .args in
+    rw (accepts (a .table .now) (a .registered) (a .out .now) (omega arith) (omega arith) (omega arith) (omega arith))
+
+pub idle-spec : {M : Type 1} → statement M
+idle-spec =
+    tie.close (tie.spec returns shared-slice-read-if2 returns-2 returns-3 returns-4 returns-5)

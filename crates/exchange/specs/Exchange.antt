@@ -1,0 +1,60 @@
+-- From a packet as received to the device: what it hears, and what the call on a packet answers and leaves.
+use mathlib.Core.List.{List}
+use mathlib.Core.Option.{Option, none, some}
+use Prim.Native.Nat.{ℕ}
+use lib.ListN.{getD}
+use Rattle.lists.specs.Answer.{unlessRefused}
+use Rattle.lists.specs.Write.{overwritten}
+use Rattle.stuffing.specs.Stuffing.{unstuff}
+use Rattle.stuffing.specs.Answers.{removalRefusal}
+use Rattle.packet.specs.Packet.{bodyOf}
+use Rattle.device.specs.Registered.{keptBy}
+use Rattle.device.specs.Answers.{Answer, refused, repliedAnswer, callRefusal, callAnswer, callTable, callRegistered, callOut}
+use Rattle.device.specs.declared.RegisteredWrite.{RegisteredWrite}
+use Rattle.device.specs.declared.Heard.the-variants.{Packet}
+use Rattle.exchange.specs.declared.Exchanged.{Exchanged}
+use Rattle.exchange.specs.declared.Exchanged.the-variants.{Device, BadStuffing, NoRoom}
+
+-- byte 4; bytes too few to have it are sent to nobody, as 255 is
+abbrev pub idHeard : List ℕ → ℕ
+idHeard packet = getD packet 4 255
+
+pub record Message : Type 0 where
+  pub id : ℕ
+  pub body : List ℕ
+
+-- what the device hears of a packet event's bytes: the ID and the unstuffed body
+abbrev pub heardOf : List ℕ → Message
+heardOf packet = record { id = idHeard packet; body = unstuff (bodyOf packet) }
+
+-- a refusal by its number
+abbrev pub exchangedAnswer : Exchanged → Answer
+exchangedAnswer (Device replied) = repliedAnswer replied
+exchangedAnswer BadStuffing = refused 14
+exchangedAnswer NoRoom = refused 13
+
+-- a refusal, or else the device's answer
+abbrev pub refusedOr : Option ℕ → Answer → Answer
+refusedOr none answer = answer
+refusedOr (some number) answer = refused number
+
+-- Removal of the stuffing, 14 and 13, comes before the device's call, 21 to 24.
+module _ (table : List ℕ) (w : RegisteredWrite) (packet body out : List ℕ) where
+  abbrev pub removed : Option ℕ
+  removed = removalRefusal (bodyOf packet) body
+
+  abbrev pub exchangeAnswer : Answer
+  exchangeAnswer = refusedOr removed (callAnswer table w Packet (heardOf packet .id) (heardOf packet .body) out)
+
+  abbrev pub exchangeTable : List ℕ
+  exchangeTable = unlessRefused removed table (callTable table w Packet (heardOf packet .id) (heardOf packet .body) out)
+
+  abbrev pub exchangeRegistered : RegisteredWrite
+  exchangeRegistered = keptBy removed w (callRegistered table w Packet (heardOf packet .id) (heardOf packet .body) out)
+
+  abbrev pub exchangeOut : List ℕ
+  exchangeOut = unlessRefused removed out (callOut table w Packet (heardOf packet .id) (heardOf packet .body) out)
+
+  -- the unstuffed body, unless either of them refuses; the bytes after it stay
+  abbrev pub exchangeBody : List ℕ
+  exchangeBody = unlessRefused removed body (unlessRefused (callRefusal table w out) body (overwritten body (heardOf packet .body)))

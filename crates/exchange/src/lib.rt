@@ -1,0 +1,76 @@
+// One exchange on the bus: from a packet as received to the device's answer.
+use device::Heard;
+use device::RegisteredWrite;
+use device::Replied;
+use device::Response;
+use stuffing::Checked;
+ghost use mathlib.Core.Path.{_≡_};
+ghost use Rattle.exchange.specs.Exchange.{idHeard, exchangedAnswer, exchangeAnswer, exchangeRegistered, exchangeTable, exchangeBody, exchangeOut};
+
+// The device's answer, or a packet that it cannot be given: its body is not well stuffed, or has no room without its stuffing.
+pub enum Exchanged {
+    Device(Replied),
+    BadStuffing,
+    NoRoom,
+}
+
+pub struct Answered {
+    pub exchanged: Exchanged,
+    pub registered: RegisteredWrite,
+}
+
+// The packet's ID. Where its byte is not there, 255, which no device has.
+fn id_heard(packet: &[u8]) -> u8
+    ensures { λ r. ⌜ r ≡ idHeard (now (packet .entry)) ⌝ }
+{
+    if packet.len() <= 4 {
+        return 255;
+    }
+    packet[4]
+}
+
+// The packet's body goes to the body buffer without its stuffing, and the device hears it. Faults of the caller come first, in
+// the order of their tests here, and change nothing: not the body buffer either, which is written when all tests are passed.
+pub fn answer(
+    table: &mut [u8],
+    registered: RegisteredWrite,
+    packet: &[u8],
+    body: &mut [u8],
+    out: &mut [u8],
+) -> Answered
+    ensures { λ r. ⌜ exchangedAnswer (r .exchanged) ≡ exchangeAnswer (now (table .entry)) registered (now (packet .entry)) (now (body .entry)) (now (out .entry)) ⌝ }
+    ensures { λ r. ⌜ r .registered ≡ exchangeRegistered (now (table .entry)) registered (now (packet .entry)) (now (body .entry)) (now (out .entry)) ⌝ }
+    ensures { λ _. ⌜ now (table .exit) ≡ exchangeTable (now (table .entry)) registered (now (packet .entry)) (now (body .entry)) (now (out .entry)) ⌝ }
+    ensures { λ _. ⌜ now (body .exit) ≡ exchangeBody (now (table .entry)) registered (now (packet .entry)) (now (body .entry)) (now (out .entry)) ⌝ }
+    ensures { λ _. ⌜ now (out .exit) ≡ exchangeOut (now (table .entry)) registered (now (packet .entry)) (now (body .entry)) (now (out .entry)) ⌝ }
+{
+    let Checked::Good(n) = stuffing::check(packet::body(packet)) else {
+        return Answered {
+            exchanged: Exchanged::BadStuffing,
+            registered,
+        };
+    };
+    if body.len() < n {
+        return Answered {
+            exchanged: Exchanged::NoRoom,
+            registered,
+        };
+    }
+    let idle = device::idle(&table[..], registered, &out[..]);
+    let Replied::Sent(_, _) = idle else {
+        return Answered {
+            exchanged: Exchanged::Device(idle),
+            registered,
+        };
+    };
+    packet::unstuff(packet, body);
+    let heard = Heard::Packet;
+    let id = id_heard(packet);
+    let response = device::hear(table, registered, heard, id, &body[..n], out);
+    let replied = response.replied;
+    let kept = response.registered;
+    Answered {
+        exchanged: Exchanged::Device(replied),
+        registered: kept,
+    }
+}

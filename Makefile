@@ -33,7 +33,7 @@ help:
 	@echo 'make test   the gate: formatting, C and Rust tests, then every proof from nothing'
 	@echo 'make fuzz   compare all exports with the second implementation for 10 minutes (SECONDS=N, SEED=S)'
 	@echo 'make replay FILE=FILE  run a case again in which make fuzz has found a difference'
-	@echo 'make bench  measure the exports beside plain C, as ratios'
+	@echo 'make bench  measure the exports beside plain C, as ratios (RUNS=N repeats it and gives the medians)'
 	@echo 'make mutants CRATE=NAME  change the source of a crate in one place at a time and sort what the checker says'
 	@echo 'make fmt    format every Rattle file'
 	@echo 'make clean  remove build/ and target/'
@@ -124,15 +124,20 @@ fuzz_program: $(LIBS)
 	@$(call need,cargo)
 	@cd tests && cargo build --release --offline --quiet --bin fuzz || $(call failed,building the search for differences)
 
+RUNS ?= 1
 BENCH_SOURCES := tests/bench/bench.c tests/bench/baseline.c tests/bench/baseline_reader.c tests/bench/baseline_device.c
+BENCH_HEADERS := tests/bench/baseline.h tests/bench/test_exports.h include/mednukals.h
+BENCH_FLAGS := -O3 -fno-lto
 bench: build/c/bench
-	@build/c/bench || $(call failed,the benchmark)
+	@$(call need,python3)
+	@python3 tools/bench_runs.py '$(RUNS)' build/c/bench "$$(cat KIT)" || $(call failed,the benchmark)
 
 # The baseline is a file of its own and there is no link-time optimization: its calls stay calls, as ours are.
-build/c/bench: $(BENCH_SOURCES) tests/bench/baseline.h include/mednukals.h build/lib/libmednukals.a
+build/c/bench: $(BENCH_SOURCES) $(BENCH_HEADERS) $(LIBS)
 	@$(call need,$(CC))
 	@mkdir -p $(@D)
-	@$(CC) $(WARNINGS) -O3 -fno-lto -Iinclude -o $@ $(BENCH_SOURCES) build/lib/libmednukals.a \
+	@build="$$($(CC) --version | head -n 1), -std=c99 $(BENCH_FLAGS)" && \
+	    $(CC) $(WARNINGS) $(BENCH_FLAGS) -DBASELINE_BUILD="\"$$build\"" -Iinclude -o $@ $(BENCH_SOURCES) $(LIBS) \
 	    || $(call failed,compiling the benchmark)
 
 # Long: some seconds for each change. MOST=N tries N of them, picked by SEED.

@@ -5,7 +5,7 @@ SHELL := /bin/sh
 .DELETE_ON_ERROR:
 # rt works in one target/ folder, so two of its runs must never overlap.
 .NOTPARALLEL:
-.PHONY: help run events lib test fuzz replay bench mutants fmt clean kit format promises_test c_test header_test rust_test
+.PHONY: help run events lib test fuzz replay bench memory mutants fmt clean kit format promises_test c_test header_test rust_test
 .PHONY: fuzz_program replay_file
 
 # Each crate listed here becomes an archive for C: capi is libmednukals.a, capi_NAME is libmednukals_NAME.a.
@@ -34,6 +34,7 @@ help:
 	@echo 'make fuzz   compare all exports with the second implementation for 10 minutes (SECONDS=N, SEED=S)'
 	@echo 'make replay FILE=FILE  run a case again in which make fuzz has found a difference'
 	@echo 'make bench  measure the exports beside plain C, as ratios (RUNS=N repeats it and gives the medians)'
+	@echo 'make memory  print the size of records and answers, the stack depth of each export and the size of the archive'
 	@echo 'make mutants CRATE=NAME  change the source of a crate in one place at a time and sort what the checker says'
 	@echo 'make fmt    format every Rattle file'
 	@echo 'make clean  remove build/ and target/'
@@ -139,6 +140,16 @@ build/c/bench: $(BENCH_SOURCES) $(BENCH_HEADERS) $(LIBS)
 	@build="$$($(CC) --version | head -n 1), -std=c99 $(BENCH_FLAGS)" && \
 	    $(CC) $(WARNINGS) $(BENCH_FLAGS) -DBASELINE_BUILD="\"$$build\"" -Iinclude -o $@ $(BENCH_SOURCES) $(LIBS) \
 	    || $(call failed,compiling the benchmark)
+
+memory: build/c/memory build/c/stack
+	@$(call need,size)
+	@build/c/memory && build/c/stack || $(call failed,the memory figures)
+	@echo 'the archive that firmware links, in bytes' && size -t build/lib/libmednukals.a
+
+build/c/memory build/c/stack: build/c/%: tests/bench/%.c include/mednukals.h build/lib/libmednukals.a
+	@$(call need,$(CC))
+	@mkdir -p $(@D)
+	@$(CC) $(WARNINGS) -O2 -Iinclude -o $@ $< build/lib/libmednukals.a || $(call failed,compiling $<)
 
 # Long: some seconds for each change. MOST=N tries N of them, picked by SEED.
 mutants:

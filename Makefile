@@ -5,7 +5,7 @@ SHELL := /bin/sh
 .DELETE_ON_ERROR:
 # rt works in one target/ folder, so two of its runs must never overlap.
 .NOTPARALLEL:
-.PHONY: help run checksum demo lib test fuzz replay bench mutants fmt clean kit format promises_test c_test header_test demo_test rust_test
+.PHONY: help run checksum demo lib test fuzz replay bench memory mutants fmt clean kit format promises_test c_test header_test demo_test rust_test
 .PHONY: fuzz_program replay_file
 
 # Each crate listed here becomes an archive for C: capi is libmednukals.a, capi_NAME is libmednukals_NAME.a.
@@ -34,7 +34,8 @@ help:
 	@echo 'make test   the gate: formatting, C and Rust tests, then every proof from nothing'
 	@echo 'make fuzz   compare all exports with the second implementation for 10 minutes (SECONDS=N, SEED=S)'
 	@echo 'make replay FILE=FILE  run a case again in which make fuzz has found a difference'
-	@echo 'make bench  measure the exports beside plain C, as ratios'
+	@echo 'make bench  measure the exports beside plain C, as ratios (RUNS=N repeats it and gives the medians)'
+	@echo 'make memory  print the size of records and answers, the stack depth of each export and the size of the archive'
 	@echo 'make mutants CRATE=NAME  change the source of a crate in one place at a time and sort what the checker says'
 	@echo 'make fmt    format every Rattle file'
 	@echo 'make clean  remove build/ and target/'
@@ -149,16 +150,31 @@ fuzz_program: $(LIBS)
 	@$(call need,cargo)
 	@cd tests && cargo build --release --offline --quiet --bin fuzz || $(call failed,building the search for differences)
 
+RUNS ?= 1
 BENCH_SOURCES := tests/bench/bench.c tests/bench/baseline.c tests/bench/baseline_reader.c tests/bench/baseline_device.c
+BENCH_HEADERS := tests/bench/baseline.h tests/bench/test_exports.h include/mednukals.h
+BENCH_FLAGS := -O3 -fno-lto
 bench: build/c/bench
-	@build/c/bench || $(call failed,the benchmark)
+	@$(call need,python3)
+	@python3 tools/bench_runs.py '$(RUNS)' build/c/bench "$$(cat KIT)" || $(call failed,the benchmark)
 
 # The baseline is a file of its own and there is no link-time optimization: its calls stay calls, as ours are.
-build/c/bench: $(BENCH_SOURCES) tests/bench/baseline.h include/mednukals.h build/lib/libmednukals.a
+build/c/bench: $(BENCH_SOURCES) $(BENCH_HEADERS) $(LIBS)
 	@$(call need,$(CC))
 	@mkdir -p $(@D)
-	@$(CC) $(WARNINGS) -O3 -fno-lto -Iinclude -o $@ $(BENCH_SOURCES) build/lib/libmednukals.a \
+	@build="$$($(CC) --version | head -n 1), -std=c99 $(BENCH_FLAGS)" && \
+	    $(CC) $(WARNINGS) $(BENCH_FLAGS) -DBASELINE_BUILD="\"$$build\"" -Iinclude -o $@ $(BENCH_SOURCES) $(LIBS) \
 	    || $(call failed,compiling the benchmark)
+
+memory: build/c/memory build/c/stack
+	@$(call need,size)
+	@build/c/memory && build/c/stack || $(call failed,the memory figures)
+	@echo 'the archive that firmware links, in bytes' && size -t build/lib/libmednukals.a
+
+build/c/memory build/c/stack: build/c/%: tests/bench/%.c include/mednukals.h build/lib/libmednukals.a
+	@$(call need,$(CC))
+	@mkdir -p $(@D)
+	@$(CC) $(WARNINGS) -O2 -Iinclude -o $@ $< build/lib/libmednukals.a || $(call failed,compiling $<)
 
 # Long: some seconds for each change. MOST=N tries N of them, picked by SEED.
 mutants:

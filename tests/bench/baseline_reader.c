@@ -78,7 +78,17 @@ static void hold(const struct row *row, size_t from, size_t to, uint8_t *held, s
     memset(held + *count, 0, DXL_MAX_HELD - *count);
 }
 
-static struct dxl_step read_on(uint8_t *held, size_t *count, const uint8_t *chunk, size_t n, uint8_t *packet, int closed)
+/* What happens to the packet buffer past the packet. */
+enum rest { LEFT, CLEARED };
+
+static void end_packet(uint8_t *packet, size_t count, enum rest rest)
+{
+    if (rest == CLEARED)
+        memset(packet + count, 0, DXL_MAX_PACKET - count);
+}
+
+static struct dxl_step read_on(uint8_t *held, size_t *count, const uint8_t *chunk, size_t n, uint8_t *packet, int closed,
+                               enum rest rest)
 {
     struct dxl_step step = {0, 0, DXL_NO_EVENT, 0};
     if (*count > DXL_MAX_HELD) {
@@ -112,11 +122,11 @@ static struct dxl_step read_on(uint8_t *held, size_t *count, const uint8_t *chun
         } else {
             step.kind = DXL_BAD_CHECKSUM;
         }
-        memset(packet + step.count, 0, DXL_MAX_PACKET - step.count);
+        end_packet(packet, step.count, rest);
         hold(&row, right ? at + size : at + 1, decided, held, count);
         return step;
     }
-    memset(packet, 0, DXL_MAX_PACKET);
+    end_packet(packet, 0, rest);
     step.taken = n;
     hold(&row, at, row.all, held, count);
     return step;
@@ -124,11 +134,33 @@ static struct dxl_step read_on(uint8_t *held, size_t *count, const uint8_t *chun
 
 struct dxl_step baseline_feed(uint8_t held[1030], size_t *count, const uint8_t *chunk, size_t n, uint8_t packet[1031])
 {
-    return read_on(held, count, chunk, n, packet, 0);
+    return read_on(held, count, chunk, n, packet, 0, CLEARED);
 }
 
 struct dxl_step baseline_gap(uint8_t held[1030], size_t *count, uint8_t packet[1031])
 {
     static const uint8_t none[1];
-    return read_on(held, count, none, 0, packet, 1);
+    return read_on(held, count, none, 0, packet, 1, CLEARED);
+}
+
+struct core_step baseline_core_feed(uint8_t held[1030], size_t count, const uint8_t *chunk, size_t n, uint8_t packet[1031])
+{
+    struct dxl_step step = read_on(held, &count, chunk, n, packet, 0, LEFT);
+    uint8_t id = step.kind == DXL_PACKET ? 0 : step.id;
+    struct core_step core = {step.taken, count, step.count, step.kind, id};
+    return core;
+}
+
+struct value_step baseline_feed_value(uint8_t held[1030], size_t count, const uint8_t *chunk, size_t n)
+{
+    struct value_step value;
+    struct dxl_step step = read_on(held, &count, chunk, n, value.bytes, 0, CLEARED);
+    if (step.kind == DXL_BAD_READER)
+        memset(value.bytes, 0, sizeof value.bytes);
+    value.taken = step.taken;
+    value.held = count;
+    value.count = step.count;
+    value.kind = step.kind;
+    value.id = step.id;
+    return value;
 }

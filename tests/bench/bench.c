@@ -1,6 +1,7 @@
 /*
  * Measures the exports beside plain C in the same run. Rounds alternate between the two, so that a change of the machine's pace
- * meets both; the ratio is the median of the rounds' ratios, and above 1 the export is the faster one.
+ * meets both; the ratio is the median of the rounds' ratios, and above 1 the export is the faster one. Usage: bench KIT, the
+ * version of the kit that has built the archives; BASELINE_BUILD says how the C code was built.
  */
 #define _POSIX_C_SOURCE 199309L
 #include <stdio.h>
@@ -10,6 +11,7 @@
 
 #include "baseline.h"
 #include "mednukals.h"
+#include "test_exports.h"
 
 enum { ROUNDS = 9, LARGEST = 1048576 };
 static const double ROUND_SECONDS = 0.04;
@@ -125,10 +127,21 @@ static uint8_t held[DXL_MAX_HELD];
 typedef struct dxl_step feeder(uint8_t held[1030], size_t *count, const uint8_t *chunk, size_t n, uint8_t packet[1031]);
 typedef struct dxl_step gapper(uint8_t held[1030], size_t *count, uint8_t packet[1031]);
 
-static uint16_t mixed(uint16_t last, const struct dxl_step *step)
+/* end: the last byte of the packet, and some byte that is 0 beside any other answer */
+static uint16_t mixed(uint16_t last, size_t taken, size_t count, uint8_t kind, uint8_t id, uint8_t end)
+{
+    return (uint16_t)(last * 31u + taken * 7u + count * 5u + kind * 3u + id + end);
+}
+
+static uint16_t mixed_step(uint16_t last, const struct dxl_step *step)
 {
     uint8_t end = step->count > 0 ? packet[step->count - 1] : packet[0];
-    return (uint16_t)(last * 31u + step->taken * 7u + step->count * 5u + step->kind * 3u + step->id + end);
+    return mixed(last, step->taken, step->count, step->kind, step->id, end);
+}
+
+static size_t least(size_t a, size_t b)
+{
+    return a < b ? a : b;
 }
 
 /* The whole line in chunks of n bytes, and a gap. */
@@ -138,19 +151,69 @@ static uint16_t read_line(feeder *feed, gapper *gap, uint16_t last, size_t n)
     struct dxl_step step;
     for (size_t at = 0; at < n_line; at += n) {
         const uint8_t *chunk = line + at;
-        size_t left = n < n_line - at ? n : n_line - at;
+        size_t left = least(n, n_line - at);
         do {
             step = feed(held, &count, chunk, left, packet);
             chunk += step.taken;
             left -= step.taken;
-            last = mixed(last, &step);
+            last = mixed_step(last, &step);
         } while (step.kind != DXL_NO_EVENT);
     }
     do {
         step = gap(held, &count, packet);
-        last = mixed(last, &step);
+        last = mixed_step(last, &step);
     } while (step.kind != DXL_NO_EVENT);
     return last;
+}
+
+typedef struct core_step core_feeder(uint8_t held[1030], size_t count, const uint8_t *chunk, size_t n, uint8_t packet[1031]);
+typedef struct value_step value_feeder(uint8_t held[1030], size_t count, const uint8_t *chunk, size_t n);
+
+/* These two have no gap call beside them: they read a line that ends with a packet. */
+static uint16_t read_core(core_feeder *feed, uint16_t last, size_t n)
+{
+    size_t count = 0;
+    for (size_t at = 0; at < n_line;) {
+        struct core_step step = feed(held, count, line + at, least(n, n_line - at), packet);
+        uint8_t end = step.count > 0 ? packet[step.count - 1] : 0;
+        last = mixed(last, step.taken, step.count, step.kind, step.id, end);
+        count = step.held;
+        at += step.taken;
+    }
+    return last;
+}
+
+static uint16_t read_value(value_feeder *feed, uint16_t last, size_t n)
+{
+    size_t count = 0;
+    for (size_t at = 0; at < n_line;) {
+        struct value_step step = feed(held, count, line + at, least(n, n_line - at));
+        uint8_t end = step.bytes[step.count > 0 ? step.count - 1 : 0];
+        last = mixed(last, step.taken, step.count, step.kind, step.id, end);
+        count = step.held;
+        at += step.taken;
+    }
+    return last;
+}
+
+static uint16_t core_ours(uint16_t last, size_t n)
+{
+    return read_core(dxl_test_core_feed, last, n);
+}
+
+static uint16_t core_baseline(uint16_t last, size_t n)
+{
+    return read_core(baseline_core_feed, last, n);
+}
+
+static uint16_t value_ours(uint16_t last, size_t n)
+{
+    return read_value(dxl_test_feed_value, last, n);
+}
+
+static uint16_t value_baseline(uint16_t last, size_t n)
+{
+    return read_value(baseline_feed_value, last, n);
 }
 
 static uint16_t read_ours(uint16_t last, size_t n)
@@ -249,7 +312,7 @@ static int measure(const char *what, work *ours, work *baseline, size_t n, doubl
         baseline_rates[round] = baseline_now;
         ratios[round] = ours_now / baseline_now;
     }
-    printf("%-22s %8zu %-8s %10.2f %10.2f %8.2f\n", what, n, unit, median(our_rates), median(baseline_rates), median(ratios));
+    printf("%-30s %8zu %-8s %10.2f %10.2f %8.2f\n", what, n, unit, median(our_rates), median(baseline_rates), median(ratios));
     fflush(stdout);
     return 1;
 }
@@ -269,10 +332,18 @@ static int measure_device(const char *what, size_t n)
     return measure(what, device_ours, device_baseline, n, 1e-6, "Mcalls/s");
 }
 
+/* The core of the call with one byte, and the call that answers by value, which has to clear or copy the answer's bytes. */
+static int measure_one_byte(void)
+{
+    double amount = (double)n_line * 1e-6;
+    return measure("read core, packets of 14", core_ours, core_baseline, 1, amount, "MB/s")
+           && measure("read by value, packets of 14", value_ours, value_baseline, 1, amount, "MB/s");
+}
+
 static int measure_reader(void)
 {
     clean_line();
-    int good = measure_line("read, packets of 14", 1) && measure_line("read, packets of 14", 64)
+    int good = measure_one_byte() && measure_line("read, packets of 14", 1) && measure_line("read, packets of 14", 64)
                && measure_line("read, packets of 14", 4096);
     mixed_line();
     good = good && measure_line("read, mixed packets", 1) && measure_line("read, mixed packets", 64)
@@ -308,12 +379,16 @@ static void measure_clearing(void)
     for (int i = 0; i < CALLS; i++)
         clear(held, 0, sizeof held);
     double record = now() - start;
-    printf("a reader's call: memset takes %.0f ns for the answer's %zu bytes and %.0f ns for the record's %zu\n",
+    printf("\na reader's call: memset takes %.0f ns for the answer's %zu bytes and %.0f ns for the record's %zu\n",
            answer / CALLS * 1e9, sizeof packet, record / CALLS * 1e9, sizeof held);
 }
 
-int main(void)
+int main(int n_words, char **words)
 {
+    if (n_words != 2) {
+        fprintf(stderr, "usage: bench KIT\n");
+        return 1;
+    }
     uint32_t seed = 1;
     for (size_t i = 0; i < LARGEST; i++) {
         seed = seed * 1664525u + 1013904223u;
@@ -325,9 +400,9 @@ int main(void)
         longest[i] = longest[i + 1] = 0xFF;
         longest[i + 2] = 0xFD;
     }
-    printf("%d rounds; ours and plain C, the ratio ours to C (median); bytes are those of a call, for the reader of a chunk\n",
-           ROUNDS);
-    printf("%-22s %8s %-8s %10s %10s %8s\n", "what", "bytes", "unit", "ours", "C", "ratio");
+    printf("ours: the archives of %s, compiled at -O3; baseline: plain C by\n%s\n", words[1], BASELINE_BUILD);
+    printf("size: bytes of a call, for the reader of a chunk; ratio: ours to baseline, median of %d rounds\n\n", ROUNDS);
+    printf("%-30s %8s %-8s %10s %10s %8s\n", "what", "size", "unit", "ours", "baseline", "ratio");
     int good = measure_bytes("checksum", crc_ours, crc_baseline, 14) && measure_bytes("checksum", crc_ours, crc_baseline, 1031)
                && measure_bytes("checksum", crc_ours, crc_baseline, LARGEST)
                && measure_bytes("encode", encode_ours, encode_baseline, 14)

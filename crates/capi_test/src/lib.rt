@@ -1,5 +1,7 @@
-// Exports that only the comparison tests call: the leaves that firmware has no use for by themselves.
+// Exports that only the comparison tests and the benchmark call: parts that firmware has no use for by themselves.
+use framer::Event;
 use packet::Verdict;
+use reader::Heard;
 use stuffing::Checked;
 ghost use mathlib.Core.Path.{_≡_};
 ghost use mathlib.Core.List.{_∷_};
@@ -8,8 +10,12 @@ ghost use lib.ListN.{length, take, drop};
 ghost use Rattle.lists.specs.Write.{overwritten};
 ghost use Rattle.stuffing.specs.Stuffing.{stuff};
 ghost use Rattle.stuffing.specs.Answers.{checked};
-ghost use Rattle.packet.specs.Verdict.{verdict, lacks, answerFor};
+ghost use Rattle.reading.specs.Calls.{fed};
+ghost use Rattle.packet.specs.Verdict.{verdict, lacks, answerFor, protocol2};
+ghost use Rattle.framer.specs.Step.{CoreCall};
+ghost use Rattle.reader.specs.Answer.{saidFor, leftFor};
 ghost use Rattle.capi_test.specs.Numbers.{testNumber, verdictNumbers};
+ghost use Rattle.capi_test.specs.Calls.{stepFor, coreEvent, coreNumbers, heardEvent, valueNumbers};
 
 // A verdict as numbers. kind 0: nothing; 1: a packet of `count` bytes; 2: a bad checksum of `id`; 3: waiting for `count` bytes.
 #[repr(C)]
@@ -63,5 +69,110 @@ pub extern "C" fn dxl_test_verdict(segment: &[u8], offset: usize) -> VerdictNumb
             id: 0,
             count: n,
         },
+    }
+}
+
+// An event as numbers. kind 0: no event; 1: a packet of `count` bytes; 2: a bad checksum; 25: the count of held bytes is above
+// 1,030. `id` is that of a bad checksum, and that of a packet where the call tells it.
+pub struct EventNumbers {
+    pub count: usize,
+    pub kind: u8,
+    pub id: u8,
+}
+
+fn numbers(count: usize, kind: u8, id: u8) -> EventNumbers
+    ensures { λ r. ⌜ r ≡ record { count = count; kind = kind; id = id } ⌝ }
+{
+    EventNumbers { count, kind, id }
+}
+
+fn core_event(event: Event) -> EventNumbers
+    ensures { λ r. ⌜ r ≡ coreEvent event ⌝ }
+{
+    match event {
+        Event::Packet(count) => numbers(count, 1, 0),
+        Event::BadChecksum(id) => numbers(0, 2, id),
+        Event::Silent => numbers(0, 0, 0),
+        Event::Refused => numbers(0, 25, 0),
+    }
+}
+
+fn heard_event(heard: Heard) -> EventNumbers
+    ensures { λ r. ⌜ r ≡ heardEvent heard ⌝ }
+{
+    match heard {
+        Heard::Packet { id, size } => numbers(size, 1, id),
+        Heard::BadChecksum { id } => numbers(0, 2, id),
+        Heard::Silent => numbers(0, 0, 0),
+        Heard::Refused => numbers(0, 25, 0),
+    }
+}
+
+// What the core of a feeding call gives: the bytes taken, the bytes then held, and the event, of a packet without its ID.
+#[repr(C)]
+pub struct CoreNumbers {
+    pub taken: usize,
+    pub held: usize,
+    pub count: usize,
+    pub kind: u8,
+    pub id: u8,
+}
+
+// The core of a feeding call: the packet buffer past the packet is left free.
+#[no_mangle]
+pub extern "C" fn dxl_test_core_feed(
+    held: &mut [u8; 1030],
+    count: usize,
+    chunk: &[u8],
+    packet: &mut [u8; 1031],
+) -> CoreNumbers
+    ensures { λ r. ⌜ r ≡ coreNumbers (stepFor count (fed protocol2 (take count (now (held .entry))) (now (chunk .entry)))) ⌝ }
+    ensures { λ _. ⌜ CoreCall (fed protocol2 (take count (now (held .entry))) (now (chunk .entry))) count
+        (now (held .entry)) (now (packet .entry)) (stepFor count (fed protocol2 (take count (now (held .entry))) (now (chunk .entry))))
+        (now (held .exit)) (now (packet .exit)) ⌝ }
+{
+    let step = framer::feed_in(held, count, chunk, packet);
+    let event = step.event;
+    let told = core_event(event);
+    CoreNumbers {
+        taken: step.taken,
+        held: step.count,
+        count: told.count,
+        kind: told.kind,
+        id: told.id,
+    }
+}
+
+// What a feeding call by value answers: the same, with a packet's ID and its bytes, followed by 0.
+#[repr(C)]
+pub struct ValueNumbers {
+    pub taken: usize,
+    pub held: usize,
+    pub count: usize,
+    pub kind: u8,
+    pub id: u8,
+    pub bytes: [u8; 1031],
+}
+
+#[no_mangle]
+pub extern "C" fn dxl_test_feed_value(
+    held: &mut [u8; 1030],
+    count: usize,
+    chunk: &[u8],
+) -> ValueNumbers
+    ensures { λ r. ⌜ r ≡ valueNumbers (saidFor count (fed protocol2 (take count (now (held .entry))) (now (chunk .entry)))) ⌝ }
+    ensures { λ _. ⌜ now (held .exit) ≡ leftFor count (now (held .entry)) (fed protocol2 (take count (now (held .entry))) (now (chunk .entry))) ⌝ }
+{
+    let answer = reader::feed_value(held, count, chunk);
+    let heard = answer.heard;
+    let told = heard_event(heard);
+    let bytes = answer.bytes;
+    ValueNumbers {
+        taken: answer.taken,
+        held: answer.held,
+        count: told.count,
+        kind: told.kind,
+        id: told.id,
+        bytes,
     }
 }

@@ -1,0 +1,35 @@
+/* What a device keeps and passes around, by the header's own types. */
+#include <stdio.h>
+
+#include "mednukals.h"
+
+/* What mednukals.h has the caller keep for a reader. */
+struct reader {
+    uint8_t held[DXL_MAX_HELD];
+    size_t count;
+};
+
+static void tell(const char *what, size_t bytes)
+{
+    printf("  %-58s %6zu\n", what, bytes);
+}
+
+int main(void)
+{
+    size_t kept = sizeof(struct reader) + DXL_TABLE_BYTES + sizeof(struct dxl_registered);
+    size_t lent = DXL_MAX_PACKET + DXL_MAX_BODY + DXL_MIN_REPLY;
+    printf("kept as long as the device, in bytes\n");
+    tell("reader: 1,030 held bytes and their count", sizeof(struct reader));
+    tell("control table", DXL_TABLE_BYTES);
+    tell("registered write, struct dxl_registered", sizeof(struct dxl_registered));
+    tell("together", kept);
+    printf("lent for one call, in bytes\n");
+    tell("packet buffer", DXL_MAX_PACKET);
+    tell("body buffer, for the longest body", DXL_MAX_BODY);
+    tell("reply buffer, the shortest", DXL_MIN_REPLY);
+    tell("together", lent);
+    printf("answers, by value, in bytes\n");
+    tell("of the reader, struct dxl_step", sizeof(struct dxl_step));
+    tell("of the device, struct dxl_answer", sizeof(struct dxl_answer));
+    return 0;
+}

@@ -1,0 +1,221 @@
+/*
+ * How deep the stack of each export gets. A call runs on a stack of its own that was filled with a pattern; the lowest byte that
+ * has another value afterwards is as deep as it got. That is done with two patterns, so that no byte written with the pattern's
+ * value is missed. The depth counts from the stack pointer in the caller: the return address and what is passed on the stack are
+ * in it. It is exact for the inputs tried here; what a function reserves below that and writes on none of them does not show.
+ */
+#define _XOPEN_SOURCE 700
+#include <stdio.h>
+#include <stdlib.h>
+#include <string.h>
+#include <ucontext.h>
+
+#include "mednukals.h"
+
+enum { STACK_BYTES = 65536 };
+
+static uint8_t stack[STACK_BYTES];
+static ucontext_t here, there;
+
+/* The stack pointer of the function that calls the export. */
+static uint8_t *top;
+#define MARK_TOP() __asm__ volatile("mov %%rsp, %0" : "=r"(top))
+
+/* What the exports borrow, and where their answers go, so that no call can be left out. */
+static uint8_t line[16384], held[DXL_MAX_HELD], packet[DXL_MAX_PACKET], params[1100], out[1100];
+static uint8_t table[DXL_TABLE_BYTES], reply[DXL_MIN_REPLY], body[DXL_MAX_BODY];
+static size_t n_line, count, n_body;
+static volatile int64_t answered;
+
+static void call_crc16(void)
+{
+    MARK_TOP();
+    for (size_t n = 0; n <= sizeof line; n = n * 2 + 1)
+        answered = dxl_crc16(0, line, n);
+}
+
+/* Parameters of every number, with as many places to stuff as there can be. */
+static void call_encode(void)
+{
+    MARK_TOP();
+    for (size_t n = 0; n <= sizeof params; n++)
+        answered = dxl_encode(1, 0x55, params, n, out, sizeof out, n % 90);
+}
+
+/* Bodies of every number of bytes. */
+static void call_unstuff(void)
+{
+    MARK_TOP();
+    for (size_t n = 0; n <= sizeof packet; n++)
+        answered = dxl_unstuff(packet, n, out, sizeof out);
+}
+
+static void call_feed(void)
+{
+    MARK_TOP();
+    for (size_t n = 1; n <= sizeof line; n *= 8) {
+        struct dxl_step step;
+        count = 0;
+        for (size_t at = 0; at < n_line; at += step.taken) {
+            step = dxl_feed(held, &count, line + at, n < n_line - at ? n : n_line - at, packet);
+            answered = step.kind;
+        }
+    }
+}
+
+/* The record is full, and all of it is read. */
+static void call_gap(void)
+{
+    struct dxl_step step;
+    MARK_TOP();
+    do {
+        step = dxl_gap(held, &count, packet);
+        answered = step.kind;
+    } while (step.kind != DXL_NO_EVENT);
+}
+
+static void call_fresh(void)
+{
+    MARK_TOP();
+    answered = dxl_fresh(table, sizeof table) + dxl_fresh(table, 1);
+}
+
+static void call_measure(void)
+{
+    MARK_TOP();
+    answered = dxl_measure(table, sizeof table, -1, 1) + dxl_measure(table, 1, -1, 1);
+}
+
+/* To the device itself and to all, as a packet and as a bad checksum, with and without a registered write. */
+static void call_device(void)
+{
+    struct dxl_registered registered[2] = {{0, 0, {0}}, {116, 4, {0}}};
+    MARK_TOP();
+    for (int i = 0; i < 8; i++) {
+        uint8_t id = i & 1 ? 1 : DXL_BROADCAST_ID, kind = i & 2 ? DXL_PACKET : DXL_BAD_CHECKSUM;
+        answered =
+            dxl_device(table, sizeof table, registered[i >> 2], kind, id, body, n_body, reply, sizeof reply).count;
+    }
+}
+
+static size_t depth(void (*call)(void), uint8_t pattern)
+{
+    memset(stack, pattern, sizeof stack);
+    getcontext(&there);
+    there.uc_stack.ss_sp = stack;
+    there.uc_stack.ss_size = sizeof stack;
+    there.uc_link = &here;
+    makecontext(&there, call, 0);
+    swapcontext(&here, &there);
+    size_t lowest = 0;
+    while (lowest < sizeof stack && stack[lowest] == pattern)
+        lowest++;
+    if (lowest == 0) {
+        fprintf(stderr, "the stack of %d bytes was too short\n", STACK_BYTES);
+        exit(1);
+    }
+    return (size_t)(top - (stack + lowest));
+}
+
+/* The first call binds the functions of the C library, which takes stack of its own, and counts not. */
+static size_t deepest(void (*prepare)(void), void (*call)(void))
+{
+    size_t most = 0;
+    for (int i = 0; i < 3; i++) {
+        prepare();
+        size_t now = depth(call, i % 2 == 0 ? 0xA5 : 0x5A);
+        if (i > 0 && now > most)
+            most = now;
+    }
+    return most;
+}
+
+static void nothing(void)
+{
+}
+
+/* FF FF FD again and again. */
+static void places_to_stuff(void)
+{
+    for (size_t i = 0; i < sizeof params; i++)
+        params[i] = i % 3 == 2 ? 0xFD : 0xFF;
+    for (size_t i = 0; i < sizeof packet; i++)
+        packet[i] = i % 4 >= 2 ? 0xFD : 0xFF;
+}
+
+/* The worst noise, headers that each promise the longest packet; a status; the longest packet, good and bad. */
+static void all_kinds(void)
+{
+    static const uint8_t header[7] = {0xFF, 0xFF, 0xFD, 0x00, 0x01, 0x00, 0x04};
+    static const uint8_t parameters[1021];
+    for (n_line = 0; n_line < 4200; n_line += sizeof header)
+        memcpy(line + n_line, header, sizeof header);
+    n_line += (size_t)dxl_encode(1, 0x55, parameters, 4, line, sizeof line, n_line);
+    for (int i = 0; i < 2; i++)
+        n_line += (size_t)dxl_encode(1, 0x03, parameters, sizeof parameters, line, sizeof line, n_line);
+    line[n_line - 1] ^= 1;
+}
+
+/* Behind a header that waits, packets good and bad. */
+static void full_record(void)
+{
+    static const uint8_t parameters[4];
+    all_kinds();
+    memcpy(held, line, sizeof held);
+    for (count = 7; count + 14 <= sizeof held; count += 14) {
+        dxl_encode(1, 0x55, parameters, sizeof parameters, held, sizeof held, count);
+        held[count + 13] ^= count % 28 == 7;
+    }
+    count = sizeof held;
+}
+
+/* A read or a write of 4 bytes at 116, or what has these bytes; a list behind it has each ID once. */
+static void instruct(uint8_t instruction, size_t n)
+{
+    size_t entry = instruction == 0x83 ? 5 : 1;
+    dxl_fresh(table, sizeof table);
+    memset(body, 0, sizeof body);
+    body[0] = instruction;
+    body[1] = 116;
+    body[3] = instruction == 0x03 || instruction == 0x04 ? 0 : 4;
+    for (size_t at = 5; at < sizeof body; at += entry)
+        body[at] = (uint8_t)((at - 5) / entry);
+    n_body = n;
+}
+
+/* Every instruction with every number of parameters that matters to one of them. */
+static size_t deepest_device(void)
+{
+    static const uint8_t instructions[] = {0x01, 0x02, 0x03, 0x04, 0x05, 0x06, 0x08, 0x55, 0x82, 0x83, 0x92};
+    static const size_t numbers[] = {0, 1, 2, 3, 4, 5, 6, 7, 11, 105, 258, 1005, DXL_MAX_BODY};
+    size_t most = 0;
+    for (size_t i = 0; i < sizeof instructions; i++) {
+        for (size_t j = 0; j < sizeof numbers / sizeof numbers[0]; j++) {
+            instruct(instructions[i], numbers[j]);
+            size_t now = deepest(nothing, call_device);
+            if (now > most)
+                most = now;
+        }
+    }
+    return most;
+}
+
+static void tell(const char *name, size_t bytes)
+{
+    printf("  %-12s %6zu\n", name, bytes);
+}
+
+int main(void)
+{
+    dxl_fresh(table, sizeof table);
+    printf("greatest stack depth of each export, in bytes\n");
+    tell("dxl_crc16", deepest(nothing, call_crc16));
+    tell("dxl_encode", deepest(places_to_stuff, call_encode));
+    tell("dxl_unstuff", deepest(places_to_stuff, call_unstuff));
+    tell("dxl_feed", deepest(all_kinds, call_feed));
+    tell("dxl_gap", deepest(full_record, call_gap));
+    tell("dxl_fresh", deepest(nothing, call_fresh));
+    tell("dxl_measure", deepest(nothing, call_measure));
+    tell("dxl_device", deepest_device());
+    return 0;
+}

@@ -116,6 +116,27 @@ static void exchange(size_t chunk, int with_noise)
     expect(table[104] == 200 && table[69] == 0 && registered.count == 0, "the registered write is not carried out", chunk);
 }
 
+/* The same packets, each given to the device in one call. */
+static void in_one_call(void)
+{
+    static const struct dxl_registered none;
+    registered = none;
+    n_sent = 0;
+    expect(dxl_fresh(table, sizeof table) == 0 && dxl_measure(table, sizeof table, 166, 0) == 0, "the table is refused", 0);
+    for (size_t at = 0; at < sizeof line;) {
+        size_t n = 7 + line[at + 5] + 256 * (size_t)line[at + 6];
+        struct dxl_answer answer =
+            dxl_exchange(table, sizeof table, registered, line + at, n, body, sizeof body, reply, sizeof reply);
+        registered = answer.registered;
+        if (answer.count > 0)
+            send_in_slot(reply, (size_t)answer.count, answer.slot);
+        expect(memcmp(body, line + at + 7, n - 9) == 0, "in one call: the body buffer does not have the body", 0);
+        at += n;
+    }
+    expect(n_sent == sizeof wanted && memcmp(sent, wanted, sizeof wanted) == 0, "in one call: the answers are not those printed", 0);
+    expect(last_slot == 1 && table[117] == 2 && table[104] == 200, "in one call: slot or table are not those wanted", 0);
+}
+
 /* Every refusal once; nothing else changes. */
 static void refusals(void)
 {
@@ -138,6 +159,14 @@ static void refusals(void)
     answer = dxl_device(other, sizeof other, none, DXL_NO_EVENT, 1, ping, 1, reply, DXL_MIN_REPLY - 1);
     expect(answer.count == -DXL_SHORT_REPLY, "a short reply buffer is accepted", 0);
 
+    answer = dxl_exchange(other, sizeof other, none, line, 10, body, 0, reply, sizeof reply);
+    expect(answer.count == -DXL_NO_ROOM, "a body buffer without room is accepted", 0);
+    const uint8_t unstuffed[] = {0xFF, 0xFF, 0xFD, 0x00, 0x01, 0x05, 0x00, 0xFF, 0xFF, 0xFD, 0x00, 0x00};
+    answer = dxl_exchange(other, 135, none, unstuffed, sizeof unstuffed, body, 0, reply, 0);
+    expect(answer.count == -DXL_BAD_STUFFING, "a body without its stuffing is accepted", 0);
+    answer = dxl_exchange(other, 135, none, line, 10, body, sizeof body, reply, sizeof reply);
+    expect(answer.count == -DXL_NOT_A_TABLE, "a short table hears a packet", 0);
+
     size_t too_many = DXL_MAX_HELD + 1;
     struct dxl_step step = dxl_feed(held, &too_many, line, sizeof line, packet);
     expect(step.kind == DXL_BAD_READER && step.taken == 0 && step.count == 0 && step.id == 0, "1,031 held bytes are fed", 0);
@@ -152,6 +181,7 @@ int main(void)
         exchange(chunks[i], 0);
         exchange(chunks[i], 1);
     }
+    in_one_call();
     refusals();
     if (failures != 0)
         return 1;

@@ -1,12 +1,13 @@
 -- A wrong count of parameters, and a right one, in the reaction to an instruction.
-use mathlib.Core.Path.{_≡_, refl, sym, ap, _∙_}
+use mathlib.Core.Path.{_≡_, refl, sym, ap, ap₂, _∙_}
 use mathlib.Core.Bool.{Bool, true, false}
 use mathlib.Core.List.{List, [], _∷_}
-use Prim.Native.Nat.{ℕ}
+use Prim.Native.Nat.{ℕ, _-_, _≤_, _<_}
 use native.Mathlib.Omega.{arith}
-use lib.Dec.{eqb}
-use lib.ListN.{length, getD, drop}
-use borrow.Author.Tests.{eq-eqb, ne-eqb}
+use lib.Dec.{leb, eqb}
+use lib.ListN.{length, getD, take, drop, length-drop}
+use lib.Seq.{take-all}
+use borrow.Author.Tests.{eq-eqb, ne-eqb, le-leb, lt-leb}
 use Rattle.device.specs.Instructions.{Effect, refusing, wordAt, ping, read}
 use Rattle.device.specs.Device.{Voice, silent, speaks, replyBy, Carried, carried, carryOut, ownOnly, reaction, Reaction, reacting, counted, ownId, heardPing, heardRead, heardUndefined, syncSearch, syncReadBy, heardSyncRead, heardInstruction}
 use Rattle.device.specs.declared.Heard.{Heard}
@@ -24,15 +25,51 @@ module _ (voice : Voice) (table : List ℕ) (w : RegisteredWrite) (e : Effect) (
       → r ≡ reactedOf (reacting (counted right table w e) voice)
   wrong-count h r d a b = a ∙ ap (reactedBy voice) b ∙ ap (λ (c : Bool). reactedOf (reacting (counted c table w e) voice)) (sym h)
 
-  pub wrong-table : right ≡ false → table ≡ counted right table w e .table
-  wrong-table h = ap (λ (c : Bool). counted c table w e .table) (sym h)
-
   pub right-count : right ≡ true → (r : Reacted) (d : Done) → r ≡ reactedBy voice d → d ≡ doneOf e
       → r ≡ reactedOf (reacting (counted right table w e) voice)
   right-count h r d a b = a ∙ ap (reactedBy voice) b ∙ ap (λ (c : Bool). reactedOf (reacting (counted c table w e) voice)) (sym h)
 
-  pub right-table : right ≡ true → (t : List ℕ) → t ≡ e .table → t ≡ counted right table w e .table
-  right-table h t a = a ∙ ap (λ (c : Bool). counted c table w e .table) (sym h)
+  -- and the table that is left
+  pub wrong : right ≡ false → (r : Reacted) (d : Done) → r ≡ reactedBy voice d → d ≡ doneWith 0x05 [] w
+      → (r ≡ reactedOf (reacting (counted right table w e) voice)) × (table ≡ counted right table w e .table)
+  wrong h r d a b = (wrong-count h r d a b, ap (λ (c : Bool). counted c table w e .table) (sym h))
+
+  pub fitting : right ≡ true → (r : Reacted) (d : Done) (t : List ℕ) → r ≡ reactedBy voice d → d ≡ doneOf e → t ≡ e .table
+      → (r ≡ reactedOf (reacting (counted right table w e) voice)) × (t ≡ counted right table w e .table)
+  fitting h r d t a b f = (right-count h r d a b, f ∙ ap (λ (c : Bool). counted c table w e .table) (sym h))
+
+-- ---- Action and Reboot have no parameters, Write and Reg Write an address and data
+
+module _ (all : Bool) (table : List ℕ) (w : RegisteredWrite) (params : List ℕ) where
+  module _ (e : Effect) where
+    pub some-parameters : (length params ≡ 0 → ⊥) → (r : Reacted) (d : Done) → r ≡ reactedBy (ownOnly all 2) d → d ≡ doneWith 0x05 [] w
+        → (r ≡ reactedOf (reacting (counted (eqb (length params) 0) table w e) (ownOnly all 2)))
+        × (table ≡ counted (eqb (length params) 0) table w e .table)
+    some-parameters n = wrong (ownOnly all 2) table w e (eqb (length params) 0) (ne-eqb (length params) 0 n)
+
+    pub no-parameters : length params ≡ 0 → (r : Reacted) (d : Done) (t : List ℕ) → r ≡ reactedBy (ownOnly all 2) d → d ≡ doneOf e
+        → t ≡ e .table
+        → (r ≡ reactedOf (reacting (counted (eqb (length params) 0) table w e) (ownOnly all 2)))
+        × (t ≡ counted (eqb (length params) 0) table w e .table)
+    no-parameters n = fitting (ownOnly all 2) table w e (eqb (length params) 0) (eq-eqb (length params) 0 n)
+
+  module _ (f : ℕ → List ℕ → Effect) where
+    abbrev toAddress : Effect
+    toAddress = counted (leb 2 (length params)) table w (f (wordAt params 0) (drop 2 params))
+
+    pub no-address : length params < 2 → (r : Reacted) (d : Done) → r ≡ reactedBy (ownOnly all 2) d → d ≡ doneWith 0x05 [] w
+        → (r ≡ reactedOf (reacting toAddress (ownOnly all 2))) × (table ≡ toAddress .table)
+    no-address l = wrong (ownOnly all 2) table w _ (leb 2 (length params)) (lt-leb 2 (length params) l)
+
+    -- the data as the code lends them
+    pub with-address : 2 ≤ length params → (address : ℕ) → address ≡ wordAt params 0 → (r : Reacted) (d : Done) (t : List ℕ)
+        → r ≡ reactedBy (ownOnly all 2) d → d ≡ doneOf (f address (take (length params - 2) (drop 2 params)))
+        → t ≡ f address (take (length params - 2) (drop 2 params)) .table
+        → (r ≡ reactedOf (reacting toAddress (ownOnly all 2))) × (t ≡ toAddress .table)
+    with-address l address is r d t a b g =
+        let p = ap₂ f is (take-all (length params - 2) (drop 2 params) (simp length-drop (omega arith))) in
+        fitting (ownOnly all 2) table w _ (leb 2 (length params)) (le-leb 2 (length params) l) r d t a (b ∙ ap doneOf p)
+        (g ∙ ap (λ (x : Effect). x .table) p)
 
 -- ---- instructions that leave the table
 

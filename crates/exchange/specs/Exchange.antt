@@ -40,21 +40,22 @@ refusedOr (some number) answer = refused number
 
 -- Removal of the stuffing, 14 and 13, comes before the device's call, 21 to 24.
 module _ (table : List ℕ) (w : RegisteredWrite) (packet body out : List ℕ) where
-  abbrev pub removed : Option ℕ
-  removed = removalRefusal (bodyOf packet) body
+  -- of the packet's body, by the room in the body buffer
+  abbrev pub bodyRefusal : Option ℕ
+  bodyRefusal = removalRefusal (bodyOf packet) body
 
   abbrev pub exchangeAnswer : Answer
-  exchangeAnswer = refusedOr removed (callAnswer table w Packet (heardOf packet .id) (heardOf packet .body) out)
+  exchangeAnswer = refusedOr bodyRefusal (callAnswer table w Packet (heardOf packet .id) (heardOf packet .body) out)
 
   abbrev pub exchangeTable : List ℕ
-  exchangeTable = unlessRefused removed table (callTable table w Packet (heardOf packet .id) (heardOf packet .body) out)
+  exchangeTable = unlessRefused bodyRefusal table (callTable table w Packet (heardOf packet .id) (heardOf packet .body) out)
 
   abbrev pub exchangeRegistered : RegisteredWrite
-  exchangeRegistered = keptBy removed w (callRegistered table w Packet (heardOf packet .id) (heardOf packet .body) out)
+  exchangeRegistered = keptBy bodyRefusal w (callRegistered table w Packet (heardOf packet .id) (heardOf packet .body) out)
 
   abbrev pub exchangeOut : List ℕ
-  exchangeOut = unlessRefused removed out (callOut table w Packet (heardOf packet .id) (heardOf packet .body) out)
+  exchangeOut = unlessRefused bodyRefusal out (callOut table w Packet (heardOf packet .id) (heardOf packet .body) out)
 
   -- the unstuffed body, unless either of them refuses; the bytes after it stay
   abbrev pub exchangeBody : List ℕ
-  exchangeBody = unlessRefused removed body (unlessRefused (callRefusal table w out) body (overwritten body (heardOf packet .body)))
+  exchangeBody = unlessRefused bodyRefusal body (unlessRefused (callRefusal table w out) body (overwritten body (heardOf packet .body)))

@@ -1,13 +1,15 @@
-use mathlib.Core.Path.{sym, _∙_}
-use mathlib.Core.Bool.{cond}
+use mathlib.Core.Path.{sym, ap, _∙_}
+use mathlib.Core.Bool.{Bool, cond, _&&_}
+use mathlib.Core.List.{List}
+use Prim.Native.Nat.{ℕ}
 use lib.Dec.{eqb}
 use lib.ListN.{length, getD}
 use borrow.Author.Tests.{eq-eqb, ne-eqb}
-use Rattle.device.specs.Instructions.{factoryReset}
-use Rattle.device.specs.Device.{ownOnly}
-use Rattle.device.proofs.Reactions.{wrong-count, wrong-table, right-count, right-table}
-use Rattle.device.specs.Device.{unchanged}
-use mathlib.Core.Bool.{_&&_}
+use Rattle.device.specs.Instructions.{Effect, factoryReset}
+use Rattle.device.specs.Device.{ownOnly, unchanged}
+use Rattle.device.specs.Steps.{doneOf}
+use Rattle.device.specs.declared.RegisteredWrite.{RegisteredWrite}
+use Rattle.device.proofs.Reactions.{wrong, fitting}
 use borrow.Author.Needs.{needs}
 use Rattle.device.proofs.heard_factory_reset.Statement.{statement}
 use Rattle.device.proofs.heard_factory_reset.Tie as tie
@@ -18,10 +20,19 @@ without-data-requires c κs = search needs
 own-only-requires : tie.Need-own-only-requires
 own-only-requires c κs = search needs
 
+-- the effect where the count is right
+abbrev chosen : Bool → List ℕ → RegisteredWrite → List ℕ → Effect
+chosen idle table w params = cond idle (unchanged table w) (factoryReset table w (getD params 0 0))
+
+abbrev effect : Bool → List ℕ → RegisteredWrite → List ℕ → Effect
+effect all table w params = chosen (all && eqb (getD params 0 0) 0xFF) table w params
+
 returns : tie.Need-returns
 returns c =
-    let a = c .before .before .before .before .before .args in
-    (wrong-count (ownOnly (a .all) 2) (a .table .now) (a .registered) (cond (a .all && eqb (getD (a .params .now) 0 0) 0xFF) (unchanged (a .table .now) (a .registered)) (factoryReset (a .table .now) (a .registered) (getD (a .params .now) 0 0))) (eqb (length (a .params .now)) 1) (ne-eqb _ _ (c .before .before .if1 .taken)) _ _ (c .own-only .ensures) (c .before .without-data .ensures), wrong-table (ownOnly (a .all) 2) (a .table .now) (a .registered) (cond (a .all && eqb (getD (a .params .now) 0 0) 0xFF) (unchanged (a .table .now) (a .registered)) (factoryReset (a .table .now) (a .registered) (getD (a .params .now) 0 0))) (eqb (length (a .params .now)) 1) (ne-eqb _ _ (c .before .before .if1 .taken)))
+    let k = c .before .before in
+    let a = k .before .before .before .args in
+    wrong (ownOnly (a .all) 2) (a .table .now) (a .registered) (effect (a .all) (a .table .now) (a .registered) (a .params .now))
+    (eqb (length (a .params .now)) 1) (ne-eqb _ _ (k .if1 .taken)) _ _ (c .own-only .ensures) (c .before .without-data .ensures)
 
 shared-slice-read-option : tie.Need-shared-slice-read-option
 shared-slice-read-option c = search needs
@@ -40,11 +51,9 @@ returns-2 c =
     let i = c .before .before .before in
     let k = i .before .before in
     let a = k .before .before .before .args in
-    let right = eq-eqb _ _ (k .if1 .left) in
-    let every = sym (i .resets-every-id .ensures) ∙ c .before .before .if2 .taken in (
-      right-count (ownOnly (a .all) 2) (a .table .now) (a .registered) (cond (a .all && eqb (getD (a .params .now) 0 0) 0xFF) (unchanged (a .table .now) (a .registered)) (factoryReset (a .table .now) (a .registered) (getD (a .params .now) 0 0))) (eqb (length (a .params .now)) 1) right _ _ (c .own-only2 .ensures) (rw every (c .before .without-data2 .ensures)),
-      right-table (ownOnly (a .all) 2) (a .table .now) (a .registered) (cond (a .all && eqb (getD (a .params .now) 0 0) 0xFF) (unchanged (a .table .now) (a .registered)) (factoryReset (a .table .now) (a .registered) (getD (a .params .now) 0 0))) (eqb (length (a .params .now)) 1) right _ (rw every),
-    )
+    let every = sym (i .resets-every-id .ensures) ∙ c .before .before .if2 .taken in
+    fitting (ownOnly (a .all) 2) (a .table .now) (a .registered) (effect (a .all) (a .table .now) (a .registered) (a .params .now))
+    (eqb (length (a .params .now)) 1) (eq-eqb _ _ (k .if1 .left)) _ _ _ (c .own-only2 .ensures) (c .before .without-data2 .ensures ∙ ap (λ (b : Bool). doneOf (chosen b (a .table .now) (a .registered) (a .params .now))) (sym every)) (ap (λ (b : Bool). chosen b (a .table .now) (a .registered) (a .params .now) .table) (sym every))
 
 factory-reset-requires : tie.Need-factory-reset-requires
 factory-reset-requires c κs = search needs
@@ -61,11 +70,10 @@ returns-3 c =
     let i = r .before .before .before in
     let k = i .before .before in
     let a = k .before .before .before .args in
-    let right = eq-eqb _ _ (k .if1 .left) in
-    let every = sym (i .resets-every-id .ensures) ∙ r .before .before .if2 .left in (
-      right-count (ownOnly (a .all) 2) (a .table .now) (a .registered) (cond (a .all && eqb (getD (a .params .now) 0 0) 0xFF) (unchanged (a .table .now) (a .registered)) (factoryReset (a .table .now) (a .registered) (getD (a .params .now) 0 0))) (eqb (length (a .params .now)) 1) right _ _ (c .own-only3 .ensures) (rw every (r .factory-reset .ensures .0)),
-      right-table (ownOnly (a .all) 2) (a .table .now) (a .registered) (cond (a .all && eqb (getD (a .params .now) 0 0) 0xFF) (unchanged (a .table .now) (a .registered)) (factoryReset (a .table .now) (a .registered) (getD (a .params .now) 0 0))) (eqb (length (a .params .now)) 1) right _ (rw every (r .factory-reset .ensures .1)),
-    )
+    let every = sym (i .resets-every-id .ensures) ∙ r .before .before .if2 .left in
+    fitting (ownOnly (a .all) 2) (a .table .now) (a .registered) (effect (a .all) (a .table .now) (a .registered) (a .params .now))
+    (eqb (length (a .params .now)) 1) (eq-eqb _ _ (k .if1 .left)) _ _ _ (c .own-only3 .ensures) (r .factory-reset .ensures .0 ∙ ap (λ (b : Bool). doneOf (chosen b (a .table .now) (a .registered) (a .params .now))) (sym every))
+    (r .factory-reset .ensures .1 ∙ ap (λ (b : Bool). chosen b (a .table .now) (a .registered) (a .params .now) .table) (sym every))
 
 pub heard-factory-reset-spec : {M : Type 1} → statement M
 heard-factory-reset-spec =

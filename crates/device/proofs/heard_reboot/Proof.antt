@@ -1,9 +1,5 @@
-use lib.Dec.{eqb}
-use lib.ListN.{length}
-use borrow.Author.Tests.{eq-eqb, ne-eqb}
 use Rattle.device.specs.Instructions.{reboot}
-use Rattle.device.specs.Device.{ownOnly}
-use Rattle.device.proofs.Reactions.{wrong-count, wrong-table, right-count, right-table}
+use Rattle.device.proofs.Reactions.{some-parameters, no-parameters}
 use borrow.Author.Needs.{needs}
 use Rattle.device.proofs.heard_reboot.Statement.{statement}
 use Rattle.device.proofs.heard_reboot.Tie as tie
@@ -16,8 +12,10 @@ own-only-requires c κs = search needs
 
 returns : tie.Need-returns
 returns c =
-    let a = c .before .before .before .before .before .args in
-    (wrong-count (ownOnly (a .all) 2) (a .table .now) (a .registered) (reboot (a .table .now) (a .registered)) (eqb (length (a .params .now)) 0) (ne-eqb _ _ (c .before .before .if1 .taken)) _ _ (c .own-only .ensures) (c .before .without-data .ensures), wrong-table (ownOnly (a .all) 2) (a .table .now) (a .registered) (reboot (a .table .now) (a .registered)) (eqb (length (a .params .now)) 0) (ne-eqb _ _ (c .before .before .if1 .taken)))
+    let k = c .before .before in
+    let a = k .before .before .before .args in
+    some-parameters (a .all) (a .table .now) (a .registered) (a .params .now) (reboot (a .table .now) (a .registered)) (k .if1 .taken) _ _
+    (c .own-only .ensures) (c .before .without-data .ensures)
 
 reboot-requires : tie.Need-reboot-requires
 reboot-requires c κs = search needs
@@ -33,10 +31,8 @@ returns-2 c =
     let r = c .before .before .before in
     let k = r .before .before in
     let a = k .before .before .before .args in
-    let right = eq-eqb _ _ (k .if1 .left) in (
-      right-count (ownOnly (a .all) 2) (a .table .now) (a .registered) (reboot (a .table .now) (a .registered)) (eqb (length (a .params .now)) 0) right _ _ (c .own-only2 .ensures) (r .reboot .ensures .0),
-      right-table (ownOnly (a .all) 2) (a .table .now) (a .registered) (reboot (a .table .now) (a .registered)) (eqb (length (a .params .now)) 0) right _ (r .reboot .ensures .1),
-    )
+    no-parameters (a .all) (a .table .now) (a .registered) (a .params .now) (reboot (a .table .now) (a .registered)) (k .if1 .left) _ _ _
+    (c .own-only2 .ensures) (r .reboot .ensures .0) (r .reboot .ensures .1)
 
 pub heard-reboot-spec : {M : Type 1} → statement M
 heard-reboot-spec =

@@ -2,8 +2,8 @@
 // count, and as many bytes as it says:
 //   0  a text, printed as it is
 //   1  a new device: ID and position, low byte first, on a fresh control table; printed as `device ID POSITION`
-//   2  a segment: prints its events, as `line` does, and after each what the device answers, `status SLOT BYTES` or `silent`, and
-//      `stored ADDRESS VALUE` for each byte of the control table that this has changed
+//   2  a segment: prints its events, as `line` does, and after each what the device answers, `status SLOT BYTES` or `silent`, or
+//      `refused` where its ID is above 252; then `stored ADDRESS VALUE` for each byte of the control table that has changed
 // Reading stops at a record that is cut short or of another form. The last line, `end BYTES`, has the count of bytes before it.
 // Until the first device comes the control table holds 0.
 use device::RegisteredWrite;
@@ -17,6 +17,21 @@ ghost use Prim.Native.Nat.{_≤_};
 
 fn wide(x: u8) -> u64 {
     x as u64
+}
+
+fn size(x: u8) -> usize {
+    x as usize
+}
+
+fn least(a: usize, b: usize) -> usize
+    ensures { λ r. ⌜ r ≤ b ⌝ }
+{
+    if a < b { a } else { b }
+}
+
+// The first n bytes, or all where there are not so many.
+fn first(bytes: &[u8], n: usize) -> &[u8] {
+    if n <= bytes.len() { &bytes[..n] } else { bytes }
 }
 
 fn print_number(n: u64) {
@@ -35,6 +50,30 @@ fn print_end() {
 
 fn print_text(text: &[u8]) {
     io::write_all(STDOUT_FILENO, text);
+    print_end();
+}
+
+fn print_device(id: u8, position: u64) {
+    io::write_all(STDOUT_FILENO, b"device");
+    print_number(wide(id));
+    print_number(position);
+    print_end();
+}
+
+// A packet's body is never empty.
+fn print_packet(id: u8, body: &[u8]) {
+    io::write_all(STDOUT_FILENO, b"packet");
+    print_number(wide(id));
+    if 0 < body.len() {
+        print_number(wide(body[0]));
+        print_number((body.len() - 1) as u64);
+    }
+    print_end();
+}
+
+fn print_bad_checksum(id: u8) {
+    io::write_all(STDOUT_FILENO, b"crc");
+    print_number(wide(id));
     print_end();
 }
 
@@ -59,11 +98,6 @@ fn print_silence() {
 
 fn print_refusal() {
     print_text(b"refused");
-}
-
-// The first n bytes, or all where there are not so many.
-fn first(bytes: &[u8], n: usize) -> &[u8] {
-    if n <= bytes.len() { &bytes[..n] } else { bytes }
 }
 
 fn print_reply(replied: Replied, out: &[u8]) {
@@ -116,21 +150,12 @@ fn answer(
     response.registered
 }
 
-// A packet's body is never empty.
-fn print_packet(id: u8, body: &[u8]) {
-    io::write_all(STDOUT_FILENO, b"packet");
-    print_number(wide(id));
-    if 0 < body.len() {
-        print_number(wide(body[0]));
-        print_number((body.len() - 1) as u64);
+fn unstuffed(got: Unstuffed) -> usize {
+    match got {
+        Unstuffed::Count(n) => n,
+        Unstuffed::BadStuffing => 0,
+        Unstuffed::NoRoom => 0,
     }
-    print_end();
-}
-
-fn print_bad_checksum(id: u8) {
-    io::write_all(STDOUT_FILENO, b"crc");
-    print_number(wide(id));
-    print_end();
 }
 
 // A packet's body, unstuffed, has at most 1,022 bytes.
@@ -156,20 +181,6 @@ fn hear_bad_checksum(
     print_bad_checksum(id);
     let heard = device::Heard::BadChecksum;
     answer(table, registered, heard, id, b"")
-}
-
-fn unstuffed(got: Unstuffed) -> usize {
-    match got {
-        Unstuffed::Count(n) => n,
-        Unstuffed::BadStuffing => 0,
-        Unstuffed::NoRoom => 0,
-    }
-}
-
-fn least(a: usize, b: usize) -> usize
-    ensures { λ r. ⌜ r ≤ b ⌝ }
-{
-    if a < b { a } else { b }
 }
 
 fn is_event(heard: Heard) -> bool {
@@ -249,13 +260,6 @@ fn nothing_registered() -> RegisteredWrite {
     }
 }
 
-fn print_device(id: u8, position: u64) {
-    io::write_all(STDOUT_FILENO, b"device");
-    print_number(wide(id));
-    print_number(position);
-    print_end();
-}
-
 fn new_device(table: &mut [u8; 136], id: u8, low: u8, high: u8) {
     let position = (low as u16) + (high as u16) * 256;
     control_table::fresh(table);
@@ -268,7 +272,7 @@ fn is_known(kind: u8, n: usize) -> bool {
     kind == 0 || kind == 2 || (kind == 1 && n == 3)
 }
 
-// The registered write as the record leaves it.
+// The registered write as the record leaves it; the record is of a known form.
 fn record(
     kind: u8,
     bytes: &[u8],
@@ -286,10 +290,6 @@ fn record(
     } else {
         hear_segment(bytes, table, registered)
     }
-}
-
-fn size(x: u8) -> usize {
-    x as usize
 }
 
 // Answers the count of bytes in the records that were read.

@@ -35,6 +35,7 @@ fn exchange(row: &'static str) -> Exchange {
 /// What is printed of one packet and one device.
 struct Section {
     place: &'static str,
+    what: &'static str,
     lines: Vec<&'static str>,
 }
 
@@ -42,8 +43,8 @@ fn sections() -> Vec<Section> {
     let mut sections: Vec<Section> = Vec::new();
     for line in STORED.lines() {
         if let Some(title) = line.strip_prefix("== ") {
-            let place = title.split(':').next().expect("a split gives a part");
-            sections.push(Section { place, lines: Vec::new() });
+            let (place, what) = title.split_once(": ").expect("a title has a place and says what it is");
+            sections.push(Section { place, what, lines: Vec::new() });
         } else {
             sections.last_mut().expect("a title comes first").lines.push(line);
         }
@@ -149,6 +150,23 @@ fn statuses_and_parts() {
             _ if exchanges.iter().any(|exchange| exchange.place == section.place) => {}
             _ => assert_eq!(section.answer(), Some(vec![]), "{}", section.place),
         }
+    }
+}
+
+/// What the examples store: 512, 150 and 170 as goal position (116), 200 as goal velocity (104), by Reg Write (69) and Action.
+#[test]
+fn stored_bytes() {
+    for section in sections() {
+        let stored: Vec<&str> = section.lines.iter().filter(|line| line.starts_with("stored ")).copied().collect();
+        let wanted: &[&str] = match (section.what, section.lines[1]) {
+            ("Write to 1", _) => &["stored 117 2"],
+            ("Reg Write to 1", _) => &["stored 69 1"],
+            ("Action to 1", _) => &["stored 69 1", "stored 69 0", "stored 104 200"],
+            ("Sync Write to all", "device 1 0") => &["stored 116 150"],
+            ("Sync Write to all", "device 2 0") => &["stored 116 170"],
+            _ => &[],
+        };
+        assert_eq!(stored, wanted, "{}", section.place);
     }
 }
 

@@ -5,6 +5,7 @@ use compare::{published, Published, Status};
 use reference::packet_of;
 use std::io::Write as _;
 use std::process::{Command, Stdio};
+use std::str::FromStr;
 
 const INPUT: &[u8] = include_bytes!("../../../crates/vectors/stdin");
 const STORED: &str = include_str!("../../../crates/vectors/stdout");
@@ -15,6 +16,7 @@ struct Exchange {
     place: String,
     reply: Option<String>,
     id: u8,
+    position: u16,
     answer: &'static str,
 }
 
@@ -28,8 +30,22 @@ fn exchange(row: &'static str) -> Exchange {
         panic!("not five fields: {row}");
     };
     let place = |line: &str| format!("{document} line {line}");
-    let id = device.split(' ').next().and_then(|id| id.parse().ok()).unwrap_or_else(|| panic!("no ID: {row}"));
-    Exchange { place: place(line), reply: (reply != "-").then(|| place(reply)), id, answer }
+    let (id, position) = match device.split(' ').collect::<Vec<_>>()[..] {
+        [id] | [id, "after", _] => (id, "0"),
+        [id, "at", position] => (id, position),
+        _ => panic!("no device: {row}"),
+    };
+    Exchange {
+        place: place(line),
+        reply: (reply != "-").then(|| place(reply)),
+        id: number(id),
+        position: number(position),
+        answer,
+    }
+}
+
+fn number<T: FromStr>(word: &str) -> T {
+    word.parse().unwrap_or_else(|_| panic!("no such number: {word}"))
 }
 
 /// What is printed of one packet and one device.
@@ -61,6 +77,22 @@ impl Section {
     }
 }
 
+/// The last segment in the input of each section.
+fn last_segments() -> Vec<&'static [u8]> {
+    let mut segments = Vec::new();
+    let mut rest = INPUT;
+    while let [kind, count, after @ ..] = rest {
+        let (bytes, next) = after.split_at(usize::from(*count));
+        match kind {
+            0 if bytes.starts_with(b"== ") => segments.push(&[][..]),
+            2 => *segments.last_mut().expect("a title comes first") = bytes,
+            _ => {}
+        }
+        rest = next;
+    }
+    segments
+}
+
 fn at<'a>(packets: &'a [Published], place: &str) -> &'a Published {
     packets.iter().find(|packet| packet.place == place).unwrap_or_else(|| panic!("packets.txt has no {place}"))
 }
@@ -80,6 +112,15 @@ fn prints_the_stored_file() {
     assert!(output.status.success());
     assert!(output.stdout == STORED.as_bytes(), "it is not crates/vectors/stdout that is printed");
     assert_eq!(STORED.lines().last(), Some(format!("end {}", INPUT.len()).as_str()));
+}
+
+#[test]
+fn the_input_has_the_packets() {
+    let (packets, sections, segments) = (published(), sections(), last_segments());
+    assert_eq!(sections.len(), segments.len());
+    for (section, segment) in sections.iter().zip(segments) {
+        assert_eq!(segment, at(&packets, section.place).bytes, "{}", section.place);
+    }
 }
 
 /// A section for each exchange, and one for each packet that is no instruction, in the order of packets.txt.
@@ -115,9 +156,9 @@ fn answers() {
     let (packets, exchanges, sections) = (published(), exchanges(), sections());
     let mut printed = 0;
     let mut of_exchanges = sections.iter().filter(|section| exchanges.iter().any(|exchange| exchange.place == section.place));
-    for Exchange { place, reply, id, answer } in &exchanges {
+    for Exchange { place, reply, id, position, answer } in &exchanges {
         let section = of_exchanges.next().expect("every exchange has its section");
-        assert_eq!(section.place, place);
+        assert_eq!((section.place, section.lines[1]), (place.as_str(), format!("device {id} {position}").as_str()));
         let given = section.answer().unwrap_or_else(|| panic!("{place}: no event"));
         let reply = reply.as_ref().map(|reply| &at(&packets, reply).bytes);
         if *answer == "as printed" {
@@ -128,7 +169,7 @@ fn answers() {
         assert_ne!(Some(&given), reply, "{place}, device {id}: the reply is as printed");
         let (answer, reason) = answer.split_once(": ").unwrap_or((answer, ""));
         let wanted = match answer.strip_prefix("error ") {
-            Some(error) => packet_of(*id, &[0x55, error.parse().expect("a decimal number")]),
+            Some(error) => packet_of(*id, &[0x55, number(error)]),
             None if answer == "silent" => vec![],
             None => panic!("{place}: no such answer: {answer}"),
         };

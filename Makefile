@@ -5,7 +5,7 @@ SHELL := /bin/sh
 .DELETE_ON_ERROR:
 # rt works in one target/ folder, so two of its runs must never overlap.
 .NOTPARALLEL:
-.PHONY: help run checksum demo lib test fuzz replay bench memory mutants fmt clean kit format promises_test c_test header_test demo_test rust_test
+.PHONY: help run checksum demo lib test fuzz replay bench memory mutants fmt clean kit format promises_test vectors_test c_test header_test demo_test rust_test
 .PHONY: fuzz_program replay_file
 
 # Each crate listed here becomes an archive for C: capi is libmednukals.a, capi_NAME is libmednukals_NAME.a.
@@ -74,7 +74,7 @@ endef
 $(foreach crate,$(EXPORT_CRATES),$(eval $(call archive_rule,$(crate))))
 
 # rt ci comes last: it removes target/, and its count is the last line.
-test: kit format promises_test lib c_test header_test demo_test rust_test
+test: kit format promises_test vectors_test lib c_test header_test demo_test rust_test
 	@rt ci || $(call failed,rt ci)
 
 # Another kit may prove the same crates, so a difference is only said.
@@ -126,6 +126,11 @@ promises_test:
 	@$(call need,python3)
 	@python3 tests/check_promises.py || $(call failed,docs/PROMISES.md beside the tree)
 	@python3 tests/check_believe.py || $(call failed,docs/BELIEVE.md beside the tree)
+
+# The rest is in tests/vectors, and rt ci holds the proved program to its stored run.
+vectors_test:
+	@$(call need,python3)
+	@python3 tests/check_vectors.py || $(call failed,the input of the program vectors beside the published packets)
 
 rust_test: $(LIBS) build/bin/line
 	@$(call need,cargo)

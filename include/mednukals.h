@@ -61,7 +61,7 @@ enum {
     DXL_MAX_BODY = 1022,   /* its body, stuffed or not */
     DXL_MAX_HELD = 1030,   /* the most bytes that a reader holds between two calls */
     DXL_TABLE_BYTES = 136, /* the control table */
-    DXL_MIN_REPLY = 32     /* the shortest reply buffer; the longest status packet of dxl_device has 21 bytes */
+    DXL_MIN_REPLY = 32     /* the shortest reply buffer; every status packet of dxl_device fits */
 };
 
 /* The ID that addresses all devices. */
@@ -225,7 +225,8 @@ int64_t dxl_fresh(uint8_t *table, size_t n);
  */
 int64_t dxl_measure(uint8_t *table, size_t n, int32_t position, uint8_t hardware_error);
 
-/* A write that waits for Action. Begin with all 0, and hand each call of dxl_device what the last one answered. */
+/* A write that waits for Action. Begin with all 0, and hand each call of dxl_device or dxl_exchange what the last one
+ * answered. */
 struct dxl_registered {
     uint16_t address;
     uint8_t count; /* how many of bytes are to be written, at most 8; 0 where no write waits */
@@ -251,7 +252,7 @@ struct dxl_answer {
  * body, n_body     DXL_PACKET: the unstuffed body, instruction and parameters, of any number of bytes; otherwise it is ignored
  * reply, n_reply   the buffer for the status packet
  *
- * Answers the status packet's byte count, 11 to 21, with its slot, 0 for silence, or
+ * Answers the status packet's byte count, 11 to 32, with its slot, 0 for silence, or
  *   -21  n_table is not 136
  *   -22  the table's ID (byte 7) is above 252
  *   -23  the registered write's count is above 8

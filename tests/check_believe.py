@@ -1,6 +1,7 @@
 """Holds docs/BELIEVE.md to the tree: usage check_believe.py, in the repository's root
 
-Every file of definitions has its row there, with its count of lines, and every row has its file.
+Every file of definitions has its row there, with its count of lines, and every row has its file. No file that is to be believed
+names one that is said to be inside.
 """
 import re
 import sys
@@ -9,10 +10,20 @@ from pathlib import Path
 from faults import report
 
 PAGE = Path("docs/BELIEVE.md")
+INSIDE = "### Inside"
+
+
+def module(name):
+    """crate/specs/File.antt as a `use` line names it, from another crate or from its own."""
+    crate, _, file = name.split("/")
+    return f"{crate}.specs.{file[:-5]}.", f"{crate}·specs.specs.{file[:-5]}."
 
 
 def main():
-    rows = re.findall(r"^\| `([\w/]+\.antt)` \| (\d+) \|", PAGE.read_text(encoding="utf-8"), flags=re.M)
+    text = PAGE.read_text(encoding="utf-8")
+    row = r"^\| `([\w/]+\.antt)` \| (\d+) \|"
+    rows = re.findall(row, text, flags=re.M)
+    inside = {name for name, _ in re.findall(row, text[text.index(INSIDE):], flags=re.M)}
     listed = {name: int(lines) for name, lines in rows}
     there = {}
     for path in Path("crates").glob("*/specs/*.antt"):
@@ -27,6 +38,10 @@ def main():
         for name in sorted(there.keys() & listed.keys())
         if there[name] != listed[name]
     ]
+    for name in sorted(there.keys() - inside):
+        uses = [line for line in (Path("crates") / name).read_text(encoding="utf-8").splitlines() if line.startswith("use Rattle·")]
+        named = {other for other in inside for line in uses if line[len("use Rattle·"):].startswith(module(other))}
+        faults += [f"{name} is to be believed and names {other}" for other in sorted(named)]
     return report("believe", faults, f"{len(there)} files of definitions with {sum(there.values())} lines, each with its row")
 
 

@@ -1,5 +1,5 @@
 -- The register list of the control table, and what is read off it. An item is the register's bytes in a table.
-use mathlib.Core.Bool.{Bool, cond, _&&_}
+use mathlib.Core.Bool.{Bool, true, false, cond, _&&_}
 use mathlib.Core.List.{List, [], _∷_}
 use Prim.Native.Nat.{ℕ, _+_}
 use lib.Dec.{leb, ltb}
@@ -13,6 +13,10 @@ pub data Area : Type 0 where
 pub data Access : Type 0 where
   readOnly : Access
   readWrite : ℤ → ℤ → Access
+
+abbrev pub writable : Access → Bool
+writable readOnly = false
+writable (readWrite low high) = true
 
 pub record Register : Type 0 where
   pub address : ℕ

@@ -1,5 +1,5 @@
 -- The registers as the code has them, and the parts of the write rule that its private functions answer.
-use mathlib.Core.Bool.{Bool, true, false, not, cond, _&&_, _||_}
+use mathlib.Core.Bool.{Bool, true, not, cond, _&&_, _||_}
 use mathlib.Core.List.{List, [], _∷_}
 use mathlib.Core.Option.{Option}
 use Prim.Native.Nat.{ℕ, _+_}
@@ -10,10 +10,6 @@ use Rattle.control_table.specs.Registers.{Register, Access, readOnly, re
 use Rattle.control_table.specs.Items.{valueInRange}
 use Rattle.control_table.specs.Rules.{covers, everyTouched}
 use Rattle.control_table.specs.declared.Row.{Row}
-
-abbrev pub writable : Access → Bool
-writable readOnly = false
-writable (readWrite low high) = true
 
 abbrev pub lowest : Access → ℤ
 lowest readOnly = pos 0

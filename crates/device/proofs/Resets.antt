@@ -8,9 +8,8 @@ use lib.Dec.{T, leb}
 use borrow.Author.Tests.{leb-true, ne-eqb}
 use lib.ListN.{length, take, drop, getD, set, length-set}
 use lib.Seq.{drop-cons, sets}
-use Rattle.control_table.specs.Registers.{Register, registers, tableSize, endOf, modelNumber, firmwareVersion, deviceId, baudCode}
+use Rattle.control_table.specs.Registers.{Register, registers, tableSize, endOf, modelNumber, firmwareVersion, deviceId, baudCode, writable}
 use Rattle.control_table.specs.Items.{bytesOf, put}
-use Rattle.control_table.specs.Rows.{writable}
 use Rattle.control_table.specs.Fresh.{freshened}
 use Rattle.control_table.specs.Rules.{stored}
 use Rattle.control_table.proofs.Put.{put-sets, put-length, put-byte}

@@ -12,7 +12,8 @@ use Rattle.reading.proofs.Held.{held-bound}
 use Rattle.framer.specs.declared.Step.{Step}
 use Rattle.framer.specs.declared.Event.the-variants.{Silent}
 use Rattle.framer.specs.Scan.{Waits}
-use Rattle.framer.specs.Step.{padded, Replied, CoreCall, refusal}
+use Rattle.lists.specs.Write.{padded}
+use Rattle.framer.specs.Step.{Replied, CoreCall, refusal}
 
 -- held bytes of a call that is not refused
 pub held-fits : (s : List ℕ) (n m : ℕ) → n ≤ m → length (take n s) ≤ m

@@ -1,9 +1,10 @@
 -- What the in-place core answers and leaves, beside the reply of the rules.
 use mathlib.Core.Path.{_≡_}
-use mathlib.Core.List.{List, [], _++_}
+use mathlib.Core.List.{List, []}
 use mathlib.Core.Option.{Option, none, some}
-use Prim.Native.Nat.{ℕ, _-_, _≤_, _<_}
-use lib.ListN.{length, take, replicate}
+use Prim.Native.Nat.{ℕ, _≤_, _<_}
+use lib.ListN.{length, take}
+use Rattle.lists.specs.Write.{padded}
 use Rattle.reading.specs.Reading.{Event, packet, badChecksum}
 use Rattle.reading.specs.Calls.{Reply}
 use Rattle.framer.specs.declared.Event.{Event as Outcome}
@@ -20,10 +21,6 @@ abbrev pub bytesOf : Option Event → List ℕ
 bytesOf none = []
 bytesOf (some (packet w)) = w
 bytesOf (some (badChecksum id)) = []
-
--- followed by 0 up to n bytes
-abbrev pub padded : ℕ → List ℕ → List ℕ
-padded n s = s ++ replicate (n - length s) 0
 
 -- the step says what the reply says; the held bytes and the packet's bytes stand at the start of their buffers
 pub record Replied (r : Reply) (step : Step) (held bytes : List ℕ) : Type 0 where

@@ -62,7 +62,8 @@ begunAs true true k n = Whole n
 abbrev pub begunBy : List ℕ → Begun
 begunBy s = begunAs (frontAgrees s && lengthAgrees s) (complete s) (lacks s) (sizeOf s)
 
--- how many bytes settle the verdict: all of the packet, where they are there; 0 where none begins, or some are missing
+-- how many bytes checksum and stuffing are judged by: the packet's, where they are all there. 0 where no packet begins, which
+-- as many bytes as the shortest has show, or where some are missing.
 abbrev pub settledAs : Begun → ℕ
 settledAs Nothing·begun = 0
 settledAs (Waiting·begun k) = 0

@@ -191,8 +191,8 @@ pub fn judge(segment: &[u8], offset: usize) -> Verdict
     judge_start(&segment[offset..])
 }
 
-// How many bytes settle the verdict on those from an offset on: all of a packet by header, ID and length that is there, and 0
-// where none is.
+// How many bytes checksum and stuffing are judged by at an offset: all of a packet by header, ID and length that is there; 0
+// where none begins, which as many bytes as the shortest packet has show, or where some are missing.
 pub fn settled(segment: &[u8], offset: usize) -> usize
     ensures { λ r. ⌜ r ≡ settledBy (drop offset (now (segment .entry))) ⌝ }
 {

@@ -19,7 +19,7 @@ use Rattle.reader.specs.declared.Heard.{Heard}
 use Rattle.reader.specs.declared.Heard.the-variants.{Packet, BadChecksum, Silent, Refused}
 use Rattle.reader.specs.declared.Answer.{Answer}
 use Rattle.reader.specs.declared.Reader.{Reader}
-use Rattle.framer.specs.Step.{padded}
+use Rattle.lists.specs.Write.{padded}
 use Rattle.reader.specs.Answer.{Said, saidBy, said, toldBy, told, leftFor}
 use Rattle.reader.specs.Records.{heldIn, saidOn, leftBy, eventIn, records, NeverRefused}
 

@@ -6,6 +6,7 @@ use mathlib.Core.Option.{Option, none, some}
 use Prim.Native.Nat.{ℕ}
 use lib.Dec.{leb}
 use lib.ListN.{length, replicate}
+use Rattle.lists.specs.Write.{padded}
 use Rattle.reading.specs.Reading.{Event, packet, badChecksum}
 use Rattle.reading.specs.Calls.{Reply}
 use Rattle.packet.specs.Packet.{idOf}
@@ -16,7 +17,6 @@ use Rattle.reader.specs.declared.Heard.the-variants.{Packet as Heard·Pa
 use Rattle.reader.specs.declared.Heard.the-variants.{Silent as Heard·Silent, Refused as Heard·Refused}
 use Rattle.reader.specs.declared.Answer.{Answer}
 use Rattle.reader.specs.declared.Told.{Told}
-use Rattle.framer.specs.Step.{padded}
 
 -- a packet event, a bad checksum, or no event (of a gap call: nothing is left)
 pub data Kind : Type 0 where

@@ -23,12 +23,13 @@ pub record Patient (R : Rules) (t : List ℕ) (k : ℕ) : Type 0 where
   pub room : length t + k ≤ R .longest
   pub silent-while : (x : List ℕ) → length x < k → (u : List ℕ) × (first R open′ (t ++ x) ≡ silent u)
 
--- For code that looks ahead in a chunk: `settled s` bytes settle the verdict on s.
+-- For code that looks ahead in a chunk: `settled s` bytes, or those of a shortest packet (`lacks []`) where that is more, settle
+-- a verdict on s that does not wait.
 pub record Settles (R : Rules) (settled : List ℕ → ℕ) : Type 0 where
   -- they are there, and fewer of them wait
   pub there : (s : List ℕ) → settled s ≤ length s
   pub sooner : (s : List ℕ) (k : ℕ) → k < settled s → R .verdict (take k s) ≡ isWaiting
-  -- what does not wait is decided by them, where they are no fewer than any packet has
+  -- what does not wait is decided by them, where they are also as many as the shortest packet has
   pub enough : (s : List ℕ) (k : ℕ) → ¬ (R .verdict s ≡ isWaiting) → settled s ≤ k → R .lacks [] ≤ k
       → R .verdict (take k s) ≡ R .verdict s
   pub of-packet : (s : List ℕ) (n : ℕ) → R .verdict s ≡ isPacket n → (settled s ≡ n) × (R .lacks [] ≤ n)

@@ -208,18 +208,22 @@ static int entry_of(const uint8_t *list, size_t n, size_t entry, uint8_t id)
     return found;
 }
 
+/* 0, or the caller's fault. */
+static int64_t fault(const uint8_t *table, size_t n_table, struct dxl_registered registered, size_t n_reply)
+{
+    if (n_table != DXL_TABLE_BYTES)
+        return -DXL_NOT_A_TABLE;
+    if (table[ID] > 252)
+        return -DXL_BAD_TABLE_ID;
+    if (registered.count > 8)
+        return -DXL_BAD_REGISTERED;
+    return n_reply < DXL_MIN_REPLY ? -DXL_SHORT_REPLY : 0;
+}
+
 struct dxl_answer baseline_device(uint8_t *table, size_t n_table, struct dxl_registered registered, uint8_t kind, uint8_t id,
                                   const uint8_t *body, size_t n_body, uint8_t *reply, size_t n_reply)
 {
-    struct dxl_answer answer = {0, 0, registered};
-    if (n_table != DXL_TABLE_BYTES)
-        answer.count = -DXL_NOT_A_TABLE;
-    else if (table[ID] > 252)
-        answer.count = -DXL_BAD_TABLE_ID;
-    else if (registered.count > 8)
-        answer.count = -DXL_BAD_REGISTERED;
-    else if (n_reply < DXL_MIN_REPLY)
-        answer.count = -DXL_SHORT_REPLY;
+    struct dxl_answer answer = {fault(table, n_table, registered, n_reply), 0, registered};
     if (answer.count < 0 || (kind != DXL_PACKET && kind != DXL_BAD_CHECKSUM))
         return answer;
 
@@ -323,4 +327,38 @@ struct dxl_answer baseline_device(uint8_t *table, size_t n_table, struct dxl_reg
     answer.count = baseline_encode(own, 0x55, status, 1 + n_data, reply, n_reply, 0);
     answer.slot = slot;
     return answer;
+}
+
+/* How many bytes a stuffed body has without its stuffing, or -1 where some FF FF FD is not followed by FD. They go to out. */
+static int64_t removed(const uint8_t *stuffed, size_t n, uint8_t *out)
+{
+    unsigned ff = 0;
+    int64_t count = 0;
+    for (size_t i = 0; i < n; i++) {
+        uint8_t byte = stuffed[i];
+        if (out != NULL)
+            out[count] = byte;
+        count++;
+        if (ff >= 2 && byte == 0xFD && (++i == n || stuffed[i] != 0xFD))
+            return -1;
+        ff = byte == 0xFF ? ff + 1 : 0;
+    }
+    return count;
+}
+
+struct dxl_answer baseline_exchange(uint8_t *table, size_t n_table, struct dxl_registered registered, const uint8_t *packet,
+                                    size_t n_packet, uint8_t *body, size_t n_body, uint8_t *reply, size_t n_reply)
+{
+    struct dxl_answer refused = {0, 0, registered};
+    const uint8_t *stuffed = n_packet < 9 ? packet : packet + 7;
+    size_t n_stuffed = n_packet < 9 ? 0 : n_packet - 9;
+    int64_t count = removed(stuffed, n_stuffed, NULL);
+    refused.count = count < 0                    ? -DXL_BAD_STUFFING
+                    : n_body < (size_t)count ? -DXL_NO_ROOM
+                                             : fault(table, n_table, registered, n_reply);
+    if (refused.count < 0)
+        return refused;
+    removed(stuffed, n_stuffed, body);
+    uint8_t id = n_packet > 4 ? packet[4] : 255;
+    return baseline_device(table, n_table, registered, DXL_PACKET, id, body, (size_t)count, reply, n_reply);
 }

@@ -280,6 +280,41 @@ static uint16_t device_baseline(uint16_t last, size_t n)
     return told(baseline_device, last, n);
 }
 
+typedef struct dxl_answer exchanger(uint8_t *table, size_t n_table, struct dxl_registered registered, const uint8_t *packet,
+                                    size_t n_packet, uint8_t *body, size_t n_body, uint8_t *reply, size_t n_reply);
+
+/* The packet of the instruction, as received: the last answer picks one of 256 with other goals. */
+static uint8_t received[256][64];
+
+static void receive(size_t n)
+{
+    for (unsigned i = 0; i < 256; i++) {
+        body[goal_at] = (uint8_t)i;
+        baseline_encode(1, body[0], body + 1, n - 1, received[i], sizeof received[i], 0);
+    }
+}
+
+static uint16_t exchanged(exchanger *exchange, uint16_t last, size_t n)
+{
+    static uint8_t reply[DXL_MIN_REPLY], unstuffed[DXL_MAX_BODY];
+    static const struct dxl_registered none;
+    const uint8_t *bytes = received[last & 255];
+    struct dxl_answer answer =
+        exchange(table, sizeof table, none, bytes, n, unstuffed, sizeof unstuffed, reply, sizeof reply);
+    size_t end = answer.count > 0 ? (size_t)answer.count - 1 : 0;
+    return (uint16_t)(last * 31u + (uint16_t)answer.count + reply[end] + table[116] + 1);
+}
+
+static uint16_t exchange_ours(uint16_t last, size_t n)
+{
+    return exchanged(dxl_exchange, last, n);
+}
+
+static uint16_t exchange_baseline(uint16_t last, size_t n)
+{
+    return exchanged(baseline_exchange, last, n);
+}
+
 /* Seconds of so many calls, and what the last one answered. */
 static double seconds(work *f, size_t n, size_t calls, uint16_t *answer)
 {
@@ -362,6 +397,8 @@ static int measure_instructions(void)
     good = good && measure_device("device, Read", sizeof get);
     instruct(put, sizeof put, 3);
     good = good && measure_device("device, Write", sizeof put);
+    receive(sizeof put);
+    good = good && measure("exchange, Write", exchange_ours, exchange_baseline, sizeof put + 9, 1e-6, "Mcalls/s");
     size_t n = instruct_200();
     return good && measure_device("device, Sync Write", n);
 }

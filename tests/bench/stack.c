@@ -24,7 +24,8 @@ static uint8_t *top;
 /* What the exports borrow, and where their answers go, so that no call can be left out. */
 static uint8_t line[16384], held[DXL_MAX_HELD], packet[DXL_MAX_PACKET], params[1100], out[1100];
 static uint8_t table[DXL_TABLE_BYTES], reply[DXL_MIN_REPLY], body[DXL_MAX_BODY];
-static size_t n_line, count, n_body;
+static uint8_t received[2][DXL_MAX_PACKET];
+static size_t n_line, count, n_body, n_received;
 static volatile int64_t answered;
 
 static void call_crc16(void)
@@ -95,6 +96,18 @@ static void call_device(void)
         uint8_t id = i & 1 ? 1 : DXL_BROADCAST_ID, kind = i & 2 ? DXL_PACKET : DXL_BAD_CHECKSUM;
         answered =
             dxl_device(table, sizeof table, registered[i >> 2], kind, id, body, n_body, reply, sizeof reply).count;
+    }
+}
+
+/* The same as packets in their bytes. */
+static void call_exchange(void)
+{
+    struct dxl_registered registered[2] = {{0, 0, {0}}, {116, 4, {0}}};
+    MARK_TOP();
+    for (int i = 0; i < 4; i++) {
+        const uint8_t *bytes = received[i & 1];
+        answered = dxl_exchange(table, sizeof table, registered[i >> 1], bytes, n_received, out, sizeof out, reply, sizeof reply)
+                       .count;
     }
 }
 
@@ -183,8 +196,18 @@ static void instruct(uint8_t instruction, size_t n)
     n_body = n;
 }
 
+/* The packets with this body, to the device itself and to all. */
+static void receive(void)
+{
+    n_received = 0;
+    for (int i = 0; i < 2 && n_body > 0; i++) {
+        int64_t n = dxl_encode(i ? 1 : DXL_BROADCAST_ID, body[0], body + 1, n_body - 1, received[i], sizeof received[i], 0);
+        n_received = n > 0 ? (size_t)n : 0;
+    }
+}
+
 /* Every instruction with every number of parameters that matters to one of them. */
-static size_t deepest_device(void)
+static size_t deepest_device(void (*call)(void))
 {
     static const uint8_t instructions[] = {0x01, 0x02, 0x03, 0x04, 0x05, 0x06, 0x08, 0x55, 0x82, 0x83, 0x92};
     static const size_t numbers[] = {0, 1, 2, 3, 4, 5, 6, 7, 11, 105, 258, 1005, DXL_MAX_BODY};
@@ -192,7 +215,7 @@ static size_t deepest_device(void)
     for (size_t i = 0; i < sizeof instructions; i++) {
         for (size_t j = 0; j < sizeof numbers / sizeof numbers[0]; j++) {
             instruct(instructions[i], numbers[j]);
-            size_t now = deepest(nothing, call_device);
+            size_t now = deepest(receive, call);
             if (now > most)
                 most = now;
         }
@@ -216,6 +239,7 @@ int main(void)
     tell("dxl_gap", deepest(full_record, call_gap));
     tell("dxl_fresh", deepest(nothing, call_fresh));
     tell("dxl_measure", deepest(nothing, call_measure));
-    tell("dxl_device", deepest_device());
+    tell("dxl_device", deepest_device(call_device));
+    tell("dxl_exchange", deepest_device(call_exchange));
     return 0;
 }

@@ -256,18 +256,24 @@ static size_t instruct_200(void)
 typedef struct dxl_answer device(uint8_t *table, size_t n_table, struct dxl_registered registered, uint8_t kind, uint8_t id,
                                  const uint8_t *body, size_t n_body, uint8_t *reply, size_t n_reply);
 
+static uint8_t reply[DXL_MIN_REPLY];
+static const struct dxl_registered none;
+
+static uint16_t folded(uint16_t last, const struct dxl_answer *answer)
+{
+    size_t end = answer->count > 0 ? (size_t)answer->count - 1 : 0;
+    return (uint16_t)(last * 31u + (uint16_t)answer->count + reply[end] + table[116] + 1);
+}
+
 static uint16_t told(device *hear, uint16_t last, size_t n)
 {
-    static uint8_t reply[DXL_MIN_REPLY];
-    static const struct dxl_registered none;
     if (goal_at > 0) {
         body[goal_at] = (uint8_t)last;
         body[goal_at + 1] = (uint8_t)(last >> 8 & 15);
     }
     uint8_t id = body[0] == 0x83 ? 254 : 1;
     struct dxl_answer answer = hear(table, sizeof table, none, DXL_PACKET, id, body, n, reply, sizeof reply);
-    size_t end = answer.count > 0 ? (size_t)answer.count - 1 : 0;
-    return (uint16_t)(last * 31u + (uint16_t)answer.count + reply[end] + table[116] + 1);
+    return folded(last, &answer);
 }
 
 static uint16_t device_ours(uint16_t last, size_t n)
@@ -296,13 +302,11 @@ static void receive(size_t n)
 
 static uint16_t exchanged(exchanger *exchange, uint16_t last, size_t n)
 {
-    static uint8_t reply[DXL_MIN_REPLY], unstuffed[DXL_MAX_BODY];
-    static const struct dxl_registered none;
+    static uint8_t unstuffed[DXL_MAX_BODY];
     const uint8_t *bytes = received[last & 255];
     struct dxl_answer answer =
         exchange(table, sizeof table, none, bytes, n, unstuffed, sizeof unstuffed, reply, sizeof reply);
-    size_t end = answer.count > 0 ? (size_t)answer.count - 1 : 0;
-    return (uint16_t)(last * 31u + (uint16_t)answer.count + reply[end] + table[116] + 1);
+    return folded(last, &answer);
 }
 
 static uint16_t exchange_ours(uint16_t last, size_t n)

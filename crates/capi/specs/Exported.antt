@@ -7,9 +7,9 @@ use lib.Dec.{eqb}
 use Rattle.lists.specs.Answer.{Answer, count, refused}
 use Rattle.reader.specs.Answer.{Kind, aPacket, aBadChecksum, noEvent, Said}
 use Rattle.device.specs.Answers.{sent, Answer as Device·Answer, refused as Device·refused}
-use Rattle.device.specs.declared.RegisteredWrite.{RegisteredWrite}
-use Rattle.device.specs.declared.Heard.{Heard}
-use Rattle.device.specs.declared.Heard.the-variants.{Packet, BadChecksum}
+use Rattle.instructions.specs.declared.RegisteredWrite.{RegisteredWrite}
+use Rattle.reactions.specs.declared.Heard.{Heard}
+use Rattle.reactions.specs.declared.Heard.the-variants.{Packet, BadChecksum}
 use Rattle.capi.specs.declared.StepNumbers.{StepNumbers}
 use Rattle.capi.specs.declared.DeviceNumbers.{DeviceNumbers}
 

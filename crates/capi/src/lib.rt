@@ -1,11 +1,11 @@
 // What C calls. Each function hands on to a crate of the project and keeps that crate's promise, as numbers and byte slices;
 // include/mednukals.h declares and documents them. A `&[u8]` is a pointer and a length in C.
 use control_table::Outcome;
-use device::RegisteredWrite;
 use device::Replied;
 use device::Response;
 use exchange::Answered;
 use exchange::Exchanged;
+use instructions::RegisteredWrite;
 use packet::Encoded;
 use reader::Heard;
 use reader::Told;
@@ -249,14 +249,14 @@ pub extern "C" fn dxl_device(
         × (now (reply .exit) ≡ callOut (now (table .entry)) registered (heardBy kind) (idBy kind id) (now (body .entry)) (now (reply .entry))) ⌝ }
 {
     if kind == 1 {
-        let heard = device::Heard::Packet;
+        let heard = reactions::Heard::Packet;
         return device_numbers(device::hear(table, registered, heard, id, body, reply));
     }
     if kind == 2 {
-        let bad = device::Heard::BadChecksum;
+        let bad = reactions::Heard::BadChecksum;
         return device_numbers(device::hear(table, registered, bad, id, body, reply));
     }
-    let nothing = device::Heard::BadChecksum;
+    let nothing = reactions::Heard::BadChecksum;
     device_numbers(device::hear(table, registered, nothing, 255, body, reply))
 }
 

@@ -19,11 +19,12 @@ use Rattle.control_table.specs.Registers.{registers, permitsBy}
 use Rattle.control_table.specs.Items.{numberAt, valueAt, bytesOf, put}
 use Rattle.control_table.specs.Fresh.{freshened}
 use Rattle.control_table.specs.Rules.{everyByte, everyTouched, limitsOrdered, goalWithin, writeRule, readRule}
-use Rattle.device.specs.Registered.{dropped}
-use Rattle.device.specs.Instructions.{read, write}
-use Rattle.device.specs.Device.{heardInstruction, carryOut}
-use Rattle.device.specs.Answers.{replyBytes}
-use Rattle.device.specs.declared.RegisteredWrite.{RegisteredWrite}
+use Rattle.instructions.specs.Registered.{dropped}
+use Rattle.instructions.specs.Instructions.{read, write}
+use Rattle.reactions.specs.Reactions.{heardInstruction}
+use Rattle.device.specs.Device.{carryOut}
+use Rattle.status.specs.Status.{replyBytes}
+use Rattle.instructions.specs.declared.RegisteredWrite.{RegisteredWrite}
 use Rattle.cases.specs.Cases.{Case, packet, stuffing, exchange, carriedOut, Claim, table}
 
 -- ---- equality as a test

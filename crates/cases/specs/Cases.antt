@@ -12,10 +12,10 @@ use Rattle.packet.specs.Verdict.{verdict}
 use Rattle.control_table.specs.Registers.{goalPosition}
 use Rattle.control_table.specs.Items.{put}
 use Rattle.control_table.specs.Fresh.{freshTable, measured}
-use Rattle.device.specs.Registered.{dropped}
+use Rattle.instructions.specs.Registered.{dropped}
 use Rattle.device.specs.Device.{Carried, carryOut}
-use Rattle.device.specs.Answers.{replyBytes}
-use Rattle.device.specs.declared.Heard.the-variants.{Packet}
+use Rattle.status.specs.Status.{replyBytes}
+use Rattle.reactions.specs.declared.Heard.the-variants.{Packet}
 use Rattle.exchange.specs.Exchange.{heardOf}
 
 pub data Case : Type 0 where

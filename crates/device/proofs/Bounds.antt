@@ -12,13 +12,14 @@ use Rattle.lists.specs.Answer.{unlessRefused}
 use Rattle.control_table.specs.Registers.{tableSize}
 use Rattle.control_table.specs.Rules.{readRule}
 use Rattle.control_table.proofs.Theorems.{read-short}
-use Rattle.device.proofs.Every.{pick, every}
-use Rattle.device.specs.Instructions.{Effect, ping, read, write, regWrite, action}
-use Rattle.device.specs.Device.{Voice, silent, speaks, ownId, reaction, replyBy, Carried, carried, carryOut}
-use Rattle.device.specs.Registered.{silence}
-use Rattle.device.specs.declared.RegisteredWrite.{RegisteredWrite}
-use Rattle.device.specs.declared.Reply.{Reply}
-use Rattle.device.specs.declared.Heard.{Heard}
+use Rattle.reactions.proofs.Every.{pick, every}
+use Rattle.instructions.specs.Instructions.{Effect, ping, read, write, regWrite, action}
+use Rattle.reactions.specs.Reactions.{Voice, silent, speaks, ownId, reaction}
+use Rattle.device.specs.Device.{replyBy, Carried, carried, carryOut}
+use Rattle.status.specs.Status.{silence}
+use Rattle.instructions.specs.declared.RegisteredWrite.{RegisteredWrite}
+use Rattle.status.specs.declared.Reply.{Reply}
+use Rattle.reactions.specs.declared.Heard.{Heard}
 
 pub record Sendable (r : Reply) : Type 0 where
   pub known : r .id ≤ 252

@@ -9,14 +9,15 @@ use lib.Dec.{eqb, leb}
 use lib.ListN.{length}
 use borrow.Author.Tests.{eq-eqb, ne-eqb, le-leb, lt-leb, eqb-true, leb-true}
 use Rattle.control_table.specs.Registers.{tableSize}
-use Rattle.device.specs.Device.{ownId}
+use Rattle.reactions.specs.Reactions.{ownId}
 use Rattle.device.specs.Answers.{sent, callRefusal, repliedAnswer, answeredBy}
-use Rattle.device.specs.Registered.{silence, keptBy}
-use Rattle.device.specs.declared.Reply.{Reply}
+use Rattle.status.specs.Status.{silence}
+use Rattle.instructions.specs.Registered.{keptBy}
+use Rattle.status.specs.declared.Reply.{Reply}
 use Rattle.lists.specs.Answer.{unlessRefused}
 use Rattle.device.specs.declared.Replied.{Replied}
 use Rattle.device.specs.declared.Replied.the-variants.{Sent, NotTable, BadId, BadRegistered, NoRoom}
-use Rattle.device.specs.declared.RegisteredWrite.{RegisteredWrite}
+use Rattle.instructions.specs.declared.RegisteredWrite.{RegisteredWrite}
 
 module _ (table : List ℕ) (w : RegisteredWrite) (out : List ℕ) where
   pub refuses-table : (length table ≡ tableSize → ⊥) → callRefusal table w out ≡ some 21

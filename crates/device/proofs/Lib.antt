@@ -1,9 +1,3 @@
-pub mod Effects
-pub mod Resets
-pub mod Searching
-pub mod Reactions
-pub mod Every
+pub mod Replies
 pub mod Bounds
-pub mod Sending
 pub mod Calls
-pub mod Theorems

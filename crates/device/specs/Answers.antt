@@ -1,29 +1,21 @@
--- The device call: refusals, the status packet, and what is answered and left.
-use mathlib.Core.Bool.{cond}
+-- The device call: refusals, and what is answered and left.
 use mathlib.Core.List.{List, [], _∷_}
 use mathlib.Core.Option.{Option, none, some}
 use Prim.Native.Nat.{ℕ}
 use lib.Dec.{leb, eqb}
-use lib.ListN.{length, take}
+use lib.ListN.{length}
 use Rattle.lists.specs.Answer.{firstFailing, unlessRefused}
 use Rattle.lists.specs.Write.{overwritten}
-use Rattle.packet.specs.Packet.{packetOf}
 use Rattle.control_table.specs.Registers.{tableSize}
-use Rattle.device.specs.Registered.{keptBy}
-use Rattle.device.specs.Device.{ownId, carryOut}
-use Rattle.device.specs.declared.RegisteredWrite.{RegisteredWrite}
-use Rattle.device.specs.declared.Reply.{Reply}
-use Rattle.device.specs.declared.Heard.{Heard}
+use Rattle.instructions.specs.Registered.{keptBy}
+use Rattle.reactions.specs.Reactions.{ownId}
+use Rattle.device.specs.Device.{carryOut}
+use Rattle.instructions.specs.declared.RegisteredWrite.{RegisteredWrite}
+use Rattle.status.specs.declared.Reply.{Reply}
+use Rattle.reactions.specs.declared.Heard.{Heard}
 use Rattle.device.specs.declared.Replied.{Replied}
 use Rattle.device.specs.declared.Replied.the-variants.{Sent, NotTable, BadId, BadRegistered, NoRoom}
-
--- instruction 55, error byte, data
-abbrev pub statusPacket : Reply → List ℕ
-statusPacket r = packetOf (r .id) (0x55 ∷ r .error ∷ take (r .count) (r .bytes))
-
--- silence is no bytes
-abbrev pub replyBytes : Reply → List ℕ
-replyBytes r = cond (r .speaks) (statusPacket r) []
+use Rattle.status.specs.Status.{replyBytes}
 
 -- faults of the caller come first, whatever was heard
 unfoldable pub callRefusal : List ℕ → RegisteredWrite → List ℕ → Option ℕ

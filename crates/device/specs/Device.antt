@@ -1,135 +1,17 @@
 -- What the device makes of what it hears: one definition from (table, registered write, what was heard, its ID, unstuffed body) to
 -- (new table, new registered write, reply).
-use mathlib.Core.Bool.{Bool, true, false, not, cond, _&&_}
-use mathlib.Core.List.{List, [], _∷_}
-use Prim.Native.Nat.{ℕ, _+_, _%_}
+use mathlib.Core.Bool.{true, false, cond}
+use mathlib.Core.List.{List}
+use Prim.Native.Nat.{ℕ}
 use lib.Dec.{leb, eqb}
-use lib.ListN.{length, take, drop, getD}
-use Rattle.control_table.specs.Registers.{deviceId, statusReturnLevel, hardwareError}
-use Rattle.device.specs.Registered.{status, silence}
-use Rattle.device.specs.Entries.{search}
-use Rattle.device.specs.Instructions.{Effect, leaving, refusing, wordAt, ping, read, write, regWrite, action, reboot, factoryReset}
-use Rattle.device.specs.declared.RegisteredWrite.{RegisteredWrite}
-use Rattle.device.specs.declared.Reply.{Reply}
-use Rattle.device.specs.declared.Found.{Found}
-use Rattle.device.specs.declared.Found.the-variants.{At, Nothing}
-use Rattle.device.specs.declared.Heard.{Heard}
-use Rattle.device.specs.declared.Heard.the-variants.{Packet, BadChecksum}
-
-abbrev pub ownId : List ℕ → ℕ
-ownId table = getD table (deviceId .address) 0
-
--- How an instruction is answered: not at all, or from a status return level on and in a reply slot (the paper's turn number).
-pub data Voice : Type 0 where
-  silent : Voice
-  speaks : ℕ → ℕ → Voice
-
--- to the own ID only; `all` says that it was sent to all devices
-abbrev pub ownOnly : Bool → ℕ → Voice
-ownOnly all level = cond all silent (speaks level 0)
-
--- what is done, and how that is answered: a refusal at the level of its instruction
-pub record Reaction : Type 0 where
-  pub effect : Effect
-  pub voice : Voice
-
-abbrev pub reacting : Effect → Voice → Reaction
-reacting effect voice = record { effect = effect; voice = voice }
-
-abbrev pub unchanged : List ℕ → RegisteredWrite → Effect
-unchanged table w = leaving table w 0 []
-
--- a wrong count of parameters comes before anything else
-abbrev pub counted : Bool → List ℕ → RegisteredWrite → Effect → Effect
-counted right table w effect = cond right effect (refusing table w 0x05)
-
--- ---- each instruction
-
-abbrev pub heardPing : Bool → List ℕ → RegisteredWrite → List ℕ → Reaction
-heardPing all table w params =
-    let right = eqb (length params) 0 in
-    reacting (counted right table w (ping table w)) (cond all (cond right (speaks 0 (ownId table)) silent) (speaks 0 0))
-
-abbrev pub heardRead : Bool → List ℕ → RegisteredWrite → List ℕ → Reaction
-heardRead all table w params =
-    reacting (counted (eqb (length params) 4) table w (read table w (wordAt params 0) (wordAt params 2))) (ownOnly all 1)
-
-abbrev pub heardWrite : Bool → List ℕ → RegisteredWrite → List ℕ → Reaction
-heardWrite all table w params =
-    reacting (counted (leb 2 (length params)) table w (write table w (wordAt params 0) (drop 2 params))) (ownOnly all 2)
-
-abbrev pub heardRegWrite : Bool → List ℕ → RegisteredWrite → List ℕ → Reaction
-heardRegWrite all table w params =
-    reacting (counted (leb 2 (length params)) table w (regWrite table w (wordAt params 0) (drop 2 params))) (ownOnly all 2)
-
-abbrev pub heardAction : Bool → List ℕ → RegisteredWrite → List ℕ → Reaction
-heardAction all table w params = reacting (counted (eqb (length params) 0) table w (action table w)) (ownOnly all 2)
-
-abbrev pub heardReboot : Bool → List ℕ → RegisteredWrite → List ℕ → Reaction
-heardReboot all table w params = reacting (counted (eqb (length params) 0) table w (reboot table w)) (ownOnly all 2)
-
--- FF to all devices does nothing: they would all get the same ID
-abbrev pub heardFactoryReset : Bool → List ℕ → RegisteredWrite → List ℕ → Reaction
-heardFactoryReset all table w params =
-    let option = getD params 0 0 in
-    reacting
-    (counted (eqb (length params) 1) table w (cond (all && eqb option 0xFF) (unchanged table w) (factoryReset table w option)))
-    (ownOnly all 2)
-
-abbrev pub heardUndefined : Bool → List ℕ → RegisteredWrite → Reaction
-heardUndefined all table w = reacting (refusing table w 0x02) (ownOnly all 2)
-
--- ---- Sync lists: address, length, entries; they are sent to all devices
-
--- without a length there is no list
-abbrev pub syncSearch : ℕ → ℕ → List ℕ → Found
-syncSearch size own params =
-    cond (leb 4 (length params) && not (eqb (wordAt params 2) 0)) (search (λ rest. size) own params 4) Nothing
-
-abbrev pub syncReadBy : Found → List ℕ → RegisteredWrite → List ℕ → Reaction
-syncReadBy (At slot at) table w params = reacting (read table w (wordAt params 0) (wordAt params 2)) (speaks 1 slot)
-syncReadBy Nothing table w params = reacting (unchanged table w) silent
-
-abbrev pub syncWriteBy : Found → List ℕ → RegisteredWrite → List ℕ → Reaction
-syncWriteBy (At slot at) table w params =
-    reacting (write table w (wordAt params 0) (take (wordAt params 2) (drop (at + 1) params))) silent
-syncWriteBy Nothing table w params = reacting (unchanged table w) silent
-
--- an entry is an ID
-abbrev pub heardSyncRead : Bool → List ℕ → RegisteredWrite → List ℕ → Reaction
-heardSyncRead all table w params =
-    cond all (syncReadBy (syncSearch 1 (ownId table) params) table w params) (reacting (refusing table w 0x02) (speaks 1 0))
-
--- an entry is an ID and as many bytes as the length says
-abbrev pub heardSyncWrite : Bool → List ℕ → RegisteredWrite → List ℕ → Reaction
-heardSyncWrite all table w params =
-    cond all (syncWriteBy (syncSearch (1 + wordAt params 2) (ownId table) params) table w params)
-    (reacting (refusing table w 0x02) (speaks 2 0))
-
--- ---- the device
-
-unfoldable pub heardInstruction : ℕ → Bool → List ℕ → RegisteredWrite → List ℕ → Reaction
-heardInstruction instruction all table w params =
-    cond (eqb instruction 0x01) (heardPing all table w params)
-    (cond (eqb instruction 0x02) (heardRead all table w params)
-    (cond (eqb instruction 0x03) (heardWrite all table w params)
-    (cond (eqb instruction 0x04) (heardRegWrite all table w params)
-    (cond (eqb instruction 0x05) (heardAction all table w params)
-    (cond (eqb instruction 0x06) (heardFactoryReset all table w params)
-    (cond (eqb instruction 0x08) (heardReboot all table w params)
-    (cond (eqb instruction 0x55) (reacting (unchanged table w) silent)
-    (cond (eqb instruction 0x82) (heardSyncRead all table w params)
-    (cond (eqb instruction 0x83) (heardSyncWrite all table w params) (heardUndefined all table w))))))))))
-
--- an empty body counts as an undefined instruction; a bad checksum has no body
-abbrev pub reaction : Heard → Bool → List ℕ → RegisteredWrite → List ℕ → Reaction
-reaction BadChecksum all table w body = reacting (refusing table w 0x03) (ownOnly all 2)
-reaction Packet all table w [] = heardUndefined all table w
-reaction Packet all table w (instruction ∷ params) = heardInstruction instruction all table w params
-
--- bit 7, the alert, is set where the hardware error is not 0
-abbrev pub errorByte : ℕ → List ℕ → ℕ
-errorByte error table = cond (eqb (getD table (hardwareError .address) 0) 0) error (error % 128 + 128)
+use lib.ListN.{getD}
+use Rattle.control_table.specs.Registers.{statusReturnLevel}
+use Rattle.status.specs.Status.{status, silence, errorByte}
+use Rattle.instructions.specs.Instructions.{Effect}
+use Rattle.instructions.specs.declared.RegisteredWrite.{RegisteredWrite}
+use Rattle.status.specs.declared.Reply.{Reply}
+use Rattle.reactions.specs.declared.Heard.{Heard}
+use Rattle.reactions.specs.Reactions.{ownId, Voice, silent, speaks, Reaction, reaction}
 
 -- ID and status return level are those before the instruction, the alert is that after it
 abbrev pub replyBy : Voice → List ℕ → Effect → Reply

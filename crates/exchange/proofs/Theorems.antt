@@ -13,8 +13,8 @@ use Rattle.packet.specs.Packet.{goodId, idOf, bodyOf, WellFormed, withChecksum,
 use Rattle.packet.specs.RoundTrip.{RoundTrip}
 use Rattle.packet.proofs.RoundTrip.{round-trip}
 use Rattle.device.specs.Answers.{callAnswer}
-use Rattle.device.specs.declared.RegisteredWrite.{RegisteredWrite}
-use Rattle.device.specs.declared.Heard.the-variants.{Packet}
+use Rattle.instructions.specs.declared.RegisteredWrite.{RegisteredWrite}
+use Rattle.reactions.specs.declared.Heard.the-variants.{Packet}
 use Rattle.exchange.specs.Exchange.{idHeard, Message, heardOf, exchangeAnswer}
 use Rattle.exchange.proofs.Hearing.{getD-there}
 

@@ -8,10 +8,10 @@ use Rattle.lists.specs.Write.{overwritten}
 use Rattle.stuffing.specs.Stuffing.{unstuff}
 use Rattle.stuffing.specs.Answers.{removalRefusal}
 use Rattle.packet.specs.Packet.{bodyOf}
-use Rattle.device.specs.Registered.{keptBy}
+use Rattle.instructions.specs.Registered.{keptBy}
 use Rattle.device.specs.Answers.{Answer, refused, repliedAnswer, callRefusal, callAnswer, callTable, callRegistered, callOut}
-use Rattle.device.specs.declared.RegisteredWrite.{RegisteredWrite}
-use Rattle.device.specs.declared.Heard.the-variants.{Packet}
+use Rattle.instructions.specs.declared.RegisteredWrite.{RegisteredWrite}
+use Rattle.reactions.specs.declared.Heard.the-variants.{Packet}
 use Rattle.exchange.specs.declared.Exchanged.{Exchanged}
 use Rattle.exchange.specs.declared.Exchanged.the-variants.{Device, BadStuffing, NoRoom}
 

@@ -1,8 +1,8 @@
 // One exchange on the bus: from a packet as received to the device's answer.
-use device::Heard;
-use device::RegisteredWrite;
 use device::Replied;
 use device::Response;
+use instructions::RegisteredWrite;
+use reactions::Heard;
 use stuffing::Checked;
 ghost use mathlib.Core.Path.{_≡_};
 ghost use Rattle.exchange.specs.Exchange.{idHeard, exchangedAnswer, exchangeAnswer, exchangeRegistered, exchangeTable, exchangeBody, exchangeOut};

@@ -6,8 +6,8 @@
 //      `refused` where its ID is above 252; then `stored ADDRESS VALUE` for each byte of the control table that has changed
 // Reading stops at a record that is cut short or of another form. The last line, `end BYTES`, has the count of bytes before it.
 // Until the first device comes the control table holds 0.
-use device::RegisteredWrite;
 use device::Replied;
+use instructions::RegisteredWrite;
 use libc::STDIN_FILENO;
 use libc::STDOUT_FILENO;
 use reader::Heard;
@@ -137,7 +137,7 @@ fn print_changes(before: &[u8; 136], after: &[u8; 136]) {
 fn answer(
     table: &mut [u8; 136],
     registered: RegisteredWrite,
-    heard: device::Heard,
+    heard: reactions::Heard,
     id: u8,
     body: &[u8],
 ) -> RegisteredWrite {
@@ -169,7 +169,7 @@ fn hear_packet(
     let n = unstuffed(packet::unstuff(found, &mut body));
     let part = first(&body, n);
     print_packet(id, part);
-    let heard = device::Heard::Packet;
+    let heard = reactions::Heard::Packet;
     answer(table, registered, heard, id, part)
 }
 
@@ -179,7 +179,7 @@ fn hear_bad_checksum(
     id: u8,
 ) -> RegisteredWrite {
     print_bad_checksum(id);
-    let heard = device::Heard::BadChecksum;
+    let heard = reactions::Heard::BadChecksum;
     answer(table, registered, heard, id, b"")
 }
 

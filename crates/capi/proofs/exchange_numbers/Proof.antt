@@ -1,5 +1,5 @@
 use mathlib.Core.Path.{_≡_, sym, ap, _∙_}
-use Rattle.device.specs.declared.RegisteredWrite.{RegisteredWrite}
+use Rattle.instructions.specs.declared.RegisteredWrite.{RegisteredWrite}
 use Rattle.exchange.specs.declared.Exchanged.{Exchanged}
 use Rattle.exchange.specs.Exchange.{exchangedAnswer}
 use Rattle.capi.specs.Exported.{deviceNumbers}

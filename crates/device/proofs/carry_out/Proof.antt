@@ -1,8 +1,8 @@
 use mathlib.Core.Path.{ap, _∙_}
-use Rattle.device.specs.declared.Reply.{Reply}
+use Rattle.status.specs.declared.Reply.{Reply}
 use Rattle.device.specs.Device.{Carried}
 use Rattle.device.specs.Steps.{carriedOf}
-use Rattle.device.proofs.Reactions.{to-own, to-all, to-another}
+use Rattle.device.proofs.Replies.{to-own, to-all, to-another}
 use borrow.Author.Needs.{needs}
 use Rattle.device.proofs.carry_out.Statement.{statement}
 use Rattle.device.proofs.carry_out.Tie as tie

@@ -5,9 +5,10 @@ use types.Run.{miss}
 use lib.ListN.{length}
 use Rattle.lists.specs.Write.{overwritten}
 use Rattle.device.specs.Device.{carryOut}
-use Rattle.device.specs.Answers.{sent, replyBytes, callRefusal}
+use Rattle.device.specs.Answers.{sent, callRefusal}
+use Rattle.status.specs.Status.{replyBytes}
 use Rattle.device.specs.declared.CarriedOut.{CarriedOut}
-use Rattle.device.specs.declared.Reply.{Reply}
+use Rattle.status.specs.declared.Reply.{Reply}
 use Rattle.device.proofs.Bounds.{sendable}
 use Rattle.device.proofs.Calls.{Accepted, idle-refused, idle-none, idle-accepted}
 use borrow.Author.Needs.{needs}

@@ -2,12 +2,14 @@ use mathlib.Core.Path.{ap, _∙_}
 use mathlib.Core.List.{List}
 use Prim.Native.Nat.{ℕ}
 use lib.ListN.{getD}
-use Rattle.device.specs.declared.Done.{Done}
-use Rattle.device.specs.declared.Reacted.{Reacted}
-use Rattle.device.specs.declared.Reply.{Reply}
-use Rattle.device.specs.Device.{reaction, replyBy}
+use Rattle.instructions.specs.declared.Done.{Done}
+use Rattle.reactions.specs.declared.Reacted.{Reacted}
+use Rattle.status.specs.declared.Reply.{Reply}
+use Rattle.reactions.specs.Reactions.{reaction}
+use Rattle.device.specs.Device.{replyBy}
 use Rattle.device.specs.Steps.{replyTo}
-use Rattle.device.proofs.Reactions.{reacted-done, reply-of}
+use Rattle.reactions.proofs.Reactions.{reacted-done}
+use Rattle.device.proofs.Replies.{reply-of}
 use borrow.Author.Needs.{needs}
 use Rattle.device.proofs.heed.Statement.{statement}
 use Rattle.device.proofs.heed.Tie as tie

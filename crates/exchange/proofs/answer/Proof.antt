@@ -9,7 +9,7 @@ use Rattle.stuffing.specs.Answers.{checked, removalRefusal}
 use Rattle.stuffing.specs.declared.Checked.the-variants.{Good}
 use Rattle.packet.specs.Packet.{bodyOf}
 use Rattle.device.specs.Answers.{callRefusal, callAnswer, callRegistered, callTable, callOut}
-use Rattle.device.specs.declared.Heard.the-variants.{Packet}
+use Rattle.reactions.specs.declared.Heard.the-variants.{Packet}
 use Rattle.device.proofs.Calls.{idle-refused, idle-none}
 use Rattle.exchange.specs.Exchange.{Message}
 use Rattle.exchange.proofs.Hearing.{bad-stuffing, no-room, fits, unstuffed, first-count, message-is}

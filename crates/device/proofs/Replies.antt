@@ -1,0 +1,38 @@
+-- The reply of a reaction, and to whom the device listens.
+use mathlib.Core.Path.{_≡_, refl}
+use mathlib.Core.Bool.{true, false}
+use mathlib.Core.List.{List}
+use Prim.Native.Nat.{ℕ, _-_}
+use lib.ListN.{getD}
+use borrow.Author.Tests.{eq-eqb, ne-eqb}
+use Rattle.reactions.specs.Reactions.{Voice, silent, speaks, reaction, Reaction}
+use Rattle.device.specs.Device.{replyBy, Carried, carried, carryOut}
+use Rattle.reactions.specs.declared.Heard.{Heard}
+use Rattle.instructions.specs.Steps.{doneOf}
+use Rattle.reactions.specs.Steps.{reactedBy, reactedOf}
+use Rattle.device.specs.Steps.{replyTo}
+use Rattle.status.specs.Status.{silence}
+use Rattle.instructions.specs.declared.RegisteredWrite.{RegisteredWrite}
+
+pub reply-of : (table : List ℕ) (q : Reaction)
+    → replyTo (q .effect .table) (getD table 7 0) (getD table 68 0) (reactedOf q) ≡ replyBy (q .voice) table (q .effect)
+reply-of table q = by-voice (q .voice)
+  where
+    by-voice : (voice : Voice)
+        → replyTo (q .effect .table) (getD table 7 0) (getD table 68 0) (reactedBy voice (doneOf (q .effect))) ≡ replyBy voice table (q .effect)
+    by-voice silent = refl
+    by-voice (speaks least slot) = refl
+
+module _ (table : List ℕ) (w : RegisteredWrite) (heard : Heard) (id : ℕ) (body : List ℕ) where
+  pub to-own : id ≡ getD table 7 0 → carried table (reaction heard false table w body) ≡ carryOut table w heard id body
+  unfolding carryOut
+  to-own e = rw (eq-eqb id (getD table 7 0) e)
+
+  pub to-all : (id ≡ getD table 7 0 → ⊥) → id ≡ 254 → carried table (reaction heard true table w body) ≡ carryOut table w heard id body
+  unfolding carryOut
+  to-all n e = rw (ne-eqb id (getD table 7 0) n, eq-eqb id 254 e)
+
+  pub to-another : (id ≡ getD table 7 0 → ⊥) → (id ≡ 254 → ⊥)
+      → _≡_ {A = Carried} (record { table = table; registered = w; reply = silence }) (carryOut table w heard id body)
+  unfolding carryOut
+  to-another n m = rw (ne-eqb id (getD table 7 0) n, ne-eqb id 254 m)

@@ -1,0 +1,95 @@
+use mathlib.Core.Path.{sym, ap, _∙_}
+use mathlib.Core.List.{List, []}
+use Prim.Native.Nat.{ℕ, _≤_}
+use native.Mathlib.Omega.{arith}
+use lib.ListN.{length}
+use borrow.Author.Tests.{not-true, not-false}
+use Rattle.control_table.proofs.Judged.{done-none}
+use Rattle.control_table.proofs.Theorems.{write-short}
+use Rattle.instructions.specs.Steps.{doneWith}
+use Rattle.instructions.proofs.Effects.{reg-write-refused, reg-write-stays, reg-write-done, reg-write-table}
+use borrow.Author.Needs.{needs}
+use Rattle.instructions.proofs.reg_write.Statement.{statement}
+use Rattle.instructions.proofs.reg_write.Tie as tie
+
+judge-requires : tie.Need-judge-requires
+judge-requires c κs = search needs
+
+is-done-requires : tie.Need-is-done-requires
+is-done-requires c κs = search needs
+
+error-of-requires : tie.Need-error-of-requires
+error-of-requires c κs = search needs
+
+without-data-requires : tie.Need-without-data-requires
+without-data-requires c κs = search needs
+
+same-length : tie.Need-same-length
+same-length c = search needs
+
+returns : tie.Need-returns
+returns c =
+    let k = c .before .before in
+    let d = k .before in
+    let j = d .before in
+    let a = j .before .before .before .before in
+    let bad = sym (d .is-done .ensures) ∙ not-true _ (k .if1 .taken) in (
+      c .without-data .ensures
+          ∙ ap (λ (error : ℕ). doneWith error [] (a .args .registered)) (c .before .error-of .ensures)
+          ∙ reg-write-refused (a .args .table .now) (a .args .registered) (a .args .address) (a .pre) (a .args .bytes .now) (j .judge .result) (j .judge .ensures) bad,
+      reg-write-stays (a .args .table .now) (a .args .registered) (a .args .address) (a .pre) (a .args .bytes .now) (j .judge .result) (j .judge .ensures) bad,
+    )
+
+slice-write-table : tie.Need-slice-write-table
+slice-write-table c = search needs
+
+short : (c : tie.Else1) → length (c .before .before .before .before .before .before .args .bytes .now) ≤ 8
+short c =
+    let d = c .before in
+    let j = d .before in
+    let a = j .before .before .before .before in
+    write-short (a .args .table .now) (a .args .address) (a .args .bytes .now)
+    (sym (j .judge .ensures) ∙ done-none (j .judge .result) (sym (d .is-done .ensures) ∙ not-false _ (c .if1 .left)))
+
+cast-t14 : tie.Need-cast-t14
+cast-t14 c = omega (arith, short c)
+
+padded-bytes-requires : tie.Need-padded-bytes-requires
+padded-bytes-requires c κs = short c
+
+without-data-requires-2 : tie.Need-without-data-requires-2
+without-data-requires-2 c κs = search needs
+
+same-length-2 : tie.Need-same-length-2
+same-length-2 c = search needs
+
+returns-2 : tie.Need-returns-2
+returns-2 c =
+    let p = c .before in
+    let k = p .before in
+    let d = k .before in
+    let j = d .before in
+    let a = j .before .before .before .before in
+    let good = sym (d .is-done .ensures) ∙ not-false _ (k .if1 .left) in (
+      c .without-data2 .ensures
+          ∙ ap (λ (b : List ℕ). doneWith 0 [] (record { address = a .args .address; count = length (a .args .bytes .now); bytes = b })) (p .padded-bytes .ensures)
+          ∙ reg-write-done (a .args .table .now) (a .args .registered) (a .args .address) (a .pre) (a .args .bytes .now) (j .judge .result) (j .judge .ensures) good,
+      reg-write-table (a .args .table .now) (a .args .registered) (a .args .address) (a .pre) (a .args .bytes .now) (j .judge .result) (j .judge .ensures) good,
+    )
+
+pub reg-write-spec : {M : Type 1} → statement M
+reg-write-spec =
+    tie.close
+    (tie.spec
+    judge-requires
+    is-done-requires
+    error-of-requires
+    without-data-requires
+    same-length
+    returns
+    slice-write-table
+    cast-t14
+    padded-bytes-requires
+    without-data-requires-2
+    same-length-2
+    returns-2)

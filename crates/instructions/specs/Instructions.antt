@@ -1,0 +1,71 @@
+-- What each instruction does. Levels, broadcast and the reply are in `reactions` and `device`.
+use mathlib.Core.Bool.{cond}
+use mathlib.Core.List.{List, [], _++_}
+use mathlib.Core.Option.{Option, none, some}
+use Prim.Native.Nat.{ℕ, _+_}
+use lib.Dec.{eqb}
+use lib.ListN.{take, drop}
+use Rattle.lists.specs.Answer.{unlessRefused}
+use Rattle.control_table.specs.Registers.{modelNumber, firmwareVersion, registeredInstruction}
+use Rattle.control_table.specs.Items.{put}
+use Rattle.control_table.specs.Rules.{stored, readRule, writeRule}
+use Rattle.instructions.specs.Registered.{registering, dropped, bytesToWrite, keptBy}
+use Rattle.instructions.specs.declared.RegisteredWrite.{RegisteredWrite}
+use Rattle.resets.specs.Resets.{itemBytes, rebooted, resetRom, keepsNone, keepsId, keepsIdAndBaud}
+
+-- The table and the registered write that are left, the error number (0 for none) and the data of the status.
+pub record Effect : Type 0 where
+  pub table : List ℕ
+  pub registered : RegisteredWrite
+  pub error : ℕ
+  pub bytes : List ℕ
+
+abbrev pub leaving : List ℕ → RegisteredWrite → ℕ → List ℕ → Effect
+leaving table w error bytes = record { table = table; registered = w; error = error; bytes = bytes }
+
+-- a refusal changes nothing and has no data
+abbrev pub refusing : List ℕ → RegisteredWrite → ℕ → Effect
+refusing table w error = leaving table w error []
+
+-- ---- instructions with a fixed form
+
+abbrev pub ping : List ℕ → RegisteredWrite → Effect
+ping table w = leaving table w 0 (itemBytes modelNumber table ++ itemBytes firmwareVersion table)
+
+-- the error number of a refusal
+abbrev pub errorOf : Option ℕ → ℕ
+errorOf none = 0
+errorOf (some error) = error
+
+unfoldable pub read : List ℕ → RegisteredWrite → ℕ → ℕ → Effect
+read table w address n =
+    let refusal = readRule address n in leaving table w (errorOf refusal) (unlessRefused refusal [] (take n (drop address table)))
+
+unfoldable pub write : List ℕ → RegisteredWrite → ℕ → List ℕ → Effect
+write table w address bytes =
+    let refusal = writeRule table address bytes in
+    leaving (unlessRefused refusal table (stored table address bytes)) w (errorOf refusal) []
+
+-- the write is judged; a good one is kept for Action in the place of an older one, and the table says so
+unfoldable pub regWrite : List ℕ → RegisteredWrite → ℕ → List ℕ → Effect
+regWrite table w address bytes =
+    let refusal = writeRule table address bytes in
+    leaving (unlessRefused refusal table (put table registeredInstruction 1)) (keptBy refusal w (registering address bytes)) (errorOf refusal) []
+
+-- the registered write is dropped, and then judged afresh
+unfoldable pub action : List ℕ → RegisteredWrite → Effect
+action table w =
+    cond (eqb (w .count) 0) (refusing table w 0x02)
+    (write (put table registeredInstruction 0) dropped (w .address) (bytesToWrite w))
+
+-- ---- Reboot and Factory Reset
+
+abbrev pub reboot : List ℕ → RegisteredWrite → Effect
+reboot table w = leaving (rebooted table) dropped 0 []
+
+-- then as Reboot, torque on or off
+unfoldable pub factoryReset : List ℕ → RegisteredWrite → ℕ → Effect
+factoryReset table w option =
+    cond (eqb option 0xFF) (reboot (resetRom keepsNone table) w)
+    (cond (eqb option 0x01) (reboot (resetRom keepsId table) w)
+    (cond (eqb option 0x02) (reboot (resetRom keepsIdAndBaud table) w) (refusing table w 0x04)))

@@ -1,0 +1,3 @@
+pub mod Registered
+pub mod Instructions
+pub mod Steps

@@ -1,0 +1,26 @@
+-- The registered write (the paper's held turn), with the values that the rules give it.
+use mathlib.Core.List.{List}
+use mathlib.Core.Option.{Option, none, some}
+use Prim.Native.Nat.{ℕ}
+use lib.ListN.{length, take, replicate}
+use Rattle.lists.specs.Write.{overwritten}
+use Rattle.instructions.specs.declared.RegisteredWrite.{RegisteredWrite}
+
+-- bytes in room for 8, with 0 after them
+abbrev pub padded : List ℕ → List ℕ
+padded bytes = overwritten (replicate 8 0) bytes
+
+abbrev pub registering : ℕ → List ℕ → RegisteredWrite
+registering address bytes = record { address = address; count = length bytes; bytes = padded bytes }
+
+-- a dropped one is all 0
+abbrev pub dropped : RegisteredWrite
+dropped = record { address = 0; count = 0; bytes = replicate 8 0 }
+
+-- a refusal leaves the older one
+abbrev pub keptBy : Option ℕ → RegisteredWrite → RegisteredWrite → RegisteredWrite
+keptBy none old new = new
+keptBy (some number) old new = old
+
+abbrev pub bytesToWrite : RegisteredWrite → List ℕ
+bytesToWrite w = take (w .count) (w .bytes)

@@ -1,0 +1,14 @@
+-- What the functions answer: an effect without its table, as the code holds it.
+use mathlib.Core.List.{List}
+use Prim.Native.Nat.{ℕ}
+use lib.ListN.{length}
+use Rattle.instructions.specs.Registered.{padded}
+use Rattle.instructions.specs.Instructions.{Effect}
+use Rattle.instructions.specs.declared.RegisteredWrite.{RegisteredWrite}
+use Rattle.instructions.specs.declared.Done.{Done}
+
+abbrev pub doneWith : ℕ → List ℕ → RegisteredWrite → Done
+doneWith error bytes w = record { error = error; count = length bytes; bytes = padded bytes; registered = w }
+
+abbrev pub doneOf : Effect → Done
+doneOf e = doneWith (e .error) (e .bytes) (e .registered)

@@ -1,0 +1,187 @@
+// What each instruction does to the control table and the registered write. Inside the device: its callers are held to what the functions require.
+use control_table::Outcome;
+ghost use mathlib.Core.Path.{_≡_};
+ghost use mathlib.Core.List.{[]};
+ghost use Prim.Native.Nat.{_≤_};
+ghost use lib.ListN.{length};
+ghost use Rattle.control_table.specs.Registers.{tableSize};
+ghost use Rattle.control_table.specs.Answers.{refusalOf};
+ghost use Rattle.instructions.specs.Registered.{padded};
+ghost use Rattle.instructions.specs.Registered.{dropped as Registered·dropped};
+ghost use Rattle.instructions.specs.Instructions.{errorOf, regWrite, factoryReset};
+ghost use Rattle.resets.specs.Resets.{rebooted};
+ghost use Rattle.instructions.specs.Instructions.{ping as Instructions·ping};
+ghost use Rattle.instructions.specs.Instructions.{read as Instructions·read};
+ghost use Rattle.instructions.specs.Instructions.{write as Instructions·write};
+ghost use Rattle.instructions.specs.Instructions.{action as Instructions·action};
+ghost use Rattle.instructions.specs.Steps.{doneWith, doneOf};
+
+// A write that waits for Action (the paper's held turn): count 0 means none.
+#[repr(C)]
+pub struct RegisteredWrite {
+    pub address: u16,
+    pub count: u8,
+    pub bytes: [u8; 8],
+}
+
+// What an instruction did, but for the table: the error number of the status (0 for none), its data, the registered write.
+pub struct Done {
+    pub error: u8,
+    pub count: usize,
+    pub bytes: [u8; 8],
+    pub registered: RegisteredWrite,
+}
+
+fn dropped() -> RegisteredWrite
+    ensures { λ r. ⌜ r ≡ Registered·dropped ⌝ }
+{
+    RegisteredWrite {
+        address: 0,
+        count: 0,
+        bytes: [0u8; 8],
+    }
+}
+
+pub fn without_data(error: u8, registered: RegisteredWrite) -> Done
+    ensures { λ r. ⌜ r ≡ doneWith error [] registered ⌝ }
+{
+    Done {
+        error,
+        count: 0,
+        bytes: [0u8; 8],
+        registered,
+    }
+}
+
+// The error number of an outcome: 0 where it is done.
+fn error_of(outcome: Outcome) -> u8
+    ensures { λ r. ⌜ r ≡ errorOf (refusalOf outcome) ⌝ }
+{
+    match outcome {
+        Outcome::Done => 0,
+        Outcome::DataRange => 4,
+        Outcome::DataLength => 5,
+        Outcome::DataLimit => 6,
+        Outcome::NoAccess => 7,
+        Outcome::NotTable => 21,
+    }
+}
+
+// At most 8 bytes, with 0 after them.
+fn padded_bytes(bytes: &[u8]) -> [u8; 8]
+    requires { ⌜ length (now bytes) ≤ 8 ⌝ }
+    ensures { λ r. ⌜ r ≡ padded (now (bytes .entry)) ⌝ }
+{
+    let mut out = [0u8; 8];
+    let mut i = 0;
+    while i < bytes.len() {
+        out[i] = bytes[i];
+        i += 1;
+    }
+    out
+}
+
+pub fn read(table: &[u8], registered: RegisteredWrite, address: u16, count: u16) -> Done
+    requires { ⌜ length (now table) ≡ tableSize ⌝ }
+    ensures { λ r. ⌜ r ≡ doneOf (Instructions·read (now (table .entry)) registered address count) ⌝ }
+{
+    let reading = control_table::read(table, address, count);
+    let outcome = reading.outcome;
+    if !control_table::is_done(outcome) {
+        return without_data(error_of(outcome), registered);
+    }
+    let bytes = reading.bytes;
+    Done {
+        error: 0,
+        count: count as usize,
+        bytes,
+        registered,
+    }
+}
+
+pub fn write(table: &mut [u8], registered: RegisteredWrite, address: u16, bytes: &[u8]) -> Done
+    requires { ⌜ length (now table) ≡ tableSize ⌝ }
+    ensures { λ r. ⌜ r ≡ doneOf (Instructions·write (now (table .entry)) registered address (now (bytes .entry))) ⌝ }
+    ensures { λ _. ⌜ now (table .exit) ≡ Instructions·write (now (table .entry)) registered address (now (bytes .entry)) .table ⌝ }
+{
+    let outcome = control_table::write(table, address, bytes);
+    without_data(error_of(outcome), registered)
+}
+
+// A good write is kept for Action.
+pub fn reg_write(table: &mut [u8], registered: RegisteredWrite, address: u16, bytes: &[u8]) -> Done
+    requires { ⌜ length (now table) ≡ tableSize ⌝ }
+    ensures { λ r. ⌜ r ≡ doneOf (regWrite (now (table .entry)) registered address (now (bytes .entry))) ⌝ }
+    ensures { λ _. ⌜ now (table .exit) ≡ regWrite (now (table .entry)) registered address (now (bytes .entry)) .table ⌝ }
+{
+    let outcome = control_table::judge(&table[..], address, bytes);
+    if !control_table::is_done(outcome) {
+        return without_data(error_of(outcome), registered);
+    }
+    table[69] = 1;
+    let kept = RegisteredWrite {
+        address,
+        count: bytes.len() as u8,
+        bytes: padded_bytes(bytes),
+    };
+    without_data(0, kept)
+}
+
+// The registered write is dropped, and then judged on the table as it is now.
+pub fn action(table: &mut [u8], registered: RegisteredWrite) -> Done
+    requires { ⌜ (length (now table) ≡ tableSize) × (registered .count ≤ 8) ⌝ }
+    ensures { λ r. ⌜ r ≡ doneOf (Instructions·action (now (table .entry)) registered) ⌝ }
+    ensures { λ _. ⌜ now (table .exit) ≡ Instructions·action (now (table .entry)) registered .table ⌝ }
+{
+    let n = registered.count as usize;
+    if n == 0 {
+        return without_data(2, registered);
+    }
+    table[69] = 0;
+    let held = registered.bytes;
+    let address = registered.address;
+    write(table, dropped(), address, &held[..n])
+}
+
+// The registered write is dropped.
+pub fn reboot(table: &mut [u8]) -> Done
+    requires { ⌜ length (now table) ≡ tableSize ⌝ }
+    ensures { λ r. ⌜ r ≡ doneWith 0 [] Registered·dropped ⌝ }
+    ensures { λ _. ⌜ now (table .exit) ≡ rebooted (now (table .entry)) ⌝ }
+{
+    resets::reboot(table);
+    without_data(0, dropped())
+}
+
+pub fn factory_reset(table: &mut [u8], registered: RegisteredWrite, option: u8) -> Done
+    requires { ⌜ length (now table) ≡ tableSize ⌝ }
+    ensures { λ r. ⌜ r ≡ doneOf (factoryReset (now (table .entry)) registered option) ⌝ }
+    ensures { λ _. ⌜ now (table .exit) ≡ factoryReset (now (table .entry)) registered option .table ⌝ }
+{
+    if option == 0xFF {
+        resets::reset_all(table);
+        return reboot(table);
+    }
+    if option == 1 {
+        resets::reset_but_id(table);
+        return reboot(table);
+    }
+    if option == 2 {
+        resets::reset_but_id_and_baud(table);
+        return reboot(table);
+    }
+    without_data(4, registered)
+}
+
+pub fn ping(table: &[u8], registered: RegisteredWrite) -> Done
+    requires { ⌜ length (now table) ≡ tableSize ⌝ }
+    ensures { λ r. ⌜ r ≡ doneOf (Instructions·ping (now (table .entry)) registered) ⌝ }
+{
+    let bytes = [table[0], table[1], table[6], 0, 0, 0, 0, 0];
+    Done {
+        error: 0,
+        count: 3,
+        bytes,
+        registered,
+    }
+}

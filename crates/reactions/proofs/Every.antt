@@ -1,0 +1,69 @@
+-- What holds of each effect holds of the effect of whatever is heard.
+use mathlib.Core.Bool.{Bool, true, false, cond, _&&_}
+use mathlib.Core.List.{List, [], _∷_}
+use Prim.Native.Nat.{ℕ, _+_}
+use lib.Dec.{eqb, leb}
+use lib.ListN.{length, getD}
+use Rattle.instructions.specs.Instructions.{Effect, refusing, ping, read, write, regWrite, action, reboot, factoryReset}
+use Rattle.parameters.specs.Parameters.{wordAt, syncSearch}
+use Rattle.reactions.specs.Reactions.{Reaction, unchanged, ownId, heardUndefined, syncReadBy, syncWriteBy, heardSyncRead, heardSyncWrite, heardInstruction, reaction}
+use Rattle.instructions.specs.declared.RegisteredWrite.{RegisteredWrite}
+use Rattle.parameters.specs.declared.Found.{Found}
+use Rattle.parameters.specs.declared.Found.the-variants.{At, Nothing}
+use Rattle.reactions.specs.declared.Heard.{Heard}
+use Rattle.reactions.specs.declared.Heard.the-variants.{Packet, BadChecksum}
+
+module _ (P : Effect → Type 0) where
+  pub pick : (b : Bool) (x y : Effect) → P x → P y → P (cond b x y)
+  pick true x y f g = f
+  pick false x y f g = g
+
+  pick-reaction : (b : Bool) (x y : Reaction) → P (x .effect) → P (y .effect) → P (cond b x y .effect)
+  pick-reaction true x y f g = f
+  pick-reaction false x y f g = g
+
+  module _ (table : List ℕ) (w : RegisteredWrite) (refusals : (error : ℕ) → P (refusing table w error)) (idle : P (unchanged table w))
+      (pings : P (ping table w)) (reads : (address n : ℕ) → P (read table w address n))
+      (writes : (address : ℕ) (bytes : List ℕ) → P (write table w address bytes))
+      (reg-writes : (address : ℕ) (bytes : List ℕ) → P (regWrite table w address bytes)) (actions : P (action table w))
+      (reboots : (t : List ℕ) → P (reboot t w)) where
+    resets : (option : ℕ) → P (factoryReset table w option)
+    unfolding factoryReset
+    resets option =
+        pick (eqb option 0xFF) _ _ (reboots _) (pick (eqb option 0x01) _ _ (reboots _) (pick (eqb option 0x02) _ _ (reboots _) (refusals 0x04)))
+
+    sync-read : (found : Found) (params : List ℕ) → P (syncReadBy found table w params .effect)
+    sync-read (At slot at) params = reads (wordAt params 0) (wordAt params 2)
+    sync-read Nothing params = idle
+
+    sync-write : (found : Found) (params : List ℕ) → P (syncWriteBy found table w params .effect)
+    sync-write (At slot at) params = writes _ _
+    sync-write Nothing params = idle
+
+    heard-sync-read : (all : Bool) (params : List ℕ) → P (heardSyncRead all table w params .effect)
+    heard-sync-read true params = sync-read (syncSearch 1 (ownId table) params) params
+    heard-sync-read false params = refusals 0x02
+
+    heard-sync-write : (all : Bool) (params : List ℕ) → P (heardSyncWrite all table w params .effect)
+    heard-sync-write true params = sync-write (syncSearch (1 + wordAt params 2) (ownId table) params) params
+    heard-sync-write false params = refusals 0x02
+
+    instruction : (i : ℕ) (all : Bool) (params : List ℕ) → P (heardInstruction i all table w params .effect)
+    unfolding heardInstruction
+    instruction i all params =
+        pick-reaction (eqb i 0x01) _ _ (pick (eqb (length params) 0) _ _ pings (refusals 0x05))
+        (pick-reaction (eqb i 0x02) _ _ (pick (eqb (length params) 4) _ _ (reads _ _) (refusals 0x05))
+        (pick-reaction (eqb i 0x03) _ _ (pick (leb 2 (length params)) _ _ (writes _ _) (refusals 0x05))
+        (pick-reaction (eqb i 0x04) _ _ (pick (leb 2 (length params)) _ _ (reg-writes _ _) (refusals 0x05))
+        (pick-reaction (eqb i 0x05) _ _ (pick (eqb (length params) 0) _ _ actions (refusals 0x05))
+        (pick-reaction (eqb i 0x06) _ _
+        (pick (eqb (length params) 1) _ _ (pick (all && eqb (getD params 0 0) 0xFF) _ _ idle (resets (getD params 0 0))) (refusals 0x05))
+        (pick-reaction (eqb i 0x08) _ _ (pick (eqb (length params) 0) _ _ (reboots table) (refusals 0x05))
+        (pick-reaction (eqb i 0x55) _ _ idle
+        (pick-reaction (eqb i 0x82) (heardSyncRead all table w params) _ (heard-sync-read all params)
+        (pick-reaction (eqb i 0x83) (heardSyncWrite all table w params) (heardUndefined all table w) (heard-sync-write all params) (refusals 0x02))))))))))
+
+    pub every : (heard : Heard) (all : Bool) (body : List ℕ) → P (reaction heard all table w body .effect)
+    every BadChecksum all body = refusals 0x03
+    every Packet all [] = refusals 0x02
+    every Packet all (i ∷ params) = instruction i all params

@@ -1,0 +1,3 @@
+pub mod Reactions
+pub mod Every
+pub mod Theorems

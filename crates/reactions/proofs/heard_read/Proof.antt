@@ -1,0 +1,55 @@
+use lib.Dec.{eqb}
+use lib.ListN.{length}
+use borrow.Author.Tests.{eq-eqb, ne-eqb}
+use Rattle.parameters.specs.Parameters.{wordAt}
+use Rattle.instructions.specs.Instructions.{read}
+use Rattle.reactions.specs.Reactions.{ownOnly}
+use Rattle.reactions.proofs.Reactions.{wrong-count, right-count}
+use borrow.Author.Needs.{needs}
+use Rattle.reactions.proofs.heard_read.Statement.{statement}
+use Rattle.reactions.proofs.heard_read.Tie as tie
+
+without-data-requires : tie.Need-without-data-requires
+without-data-requires c κs = search needs
+
+own-only-requires : tie.Need-own-only-requires
+own-only-requires c κs = search needs
+
+returns : tie.Need-returns
+returns c =
+    let a = c .before .before .before .before .before .args in
+    wrong-count (ownOnly (a .all) 1) (a .table .now) (a .registered) (read (a .table .now) (a .registered) (wordAt (a .params .now) 0) (wordAt (a .params .now) 2)) (eqb (length (a .params .now)) 4) (ne-eqb _ _ (c .before .before .if1 .taken)) _ _ (c .own-only .ensures) (c .before .without-data .ensures)
+
+word-at-requires : tie.Need-word-at-requires
+word-at-requires c κs = search needs
+
+word-at-requires-2 : tie.Need-word-at-requires-2
+word-at-requires-2 c κs = search needs
+
+read-requires : tie.Need-read-requires
+read-requires c κs = search needs
+
+own-only-requires-2 : tie.Need-own-only-requires-2
+own-only-requires-2 c κs = search needs
+
+returns-2 : tie.Need-returns-2
+returns-2 c =
+    let r = c .before in
+    let w₂ = r .before in
+    let w₁ = w₂ .before in
+    let a = w₁ .before .before .before .before .args in
+    right-count (ownOnly (a .all) 1) (a .table .now) (a .registered) (read (a .table .now) (a .registered) (wordAt (a .params .now) 0) (wordAt (a .params .now) 2)) (eqb (length (a .params .now)) 4) (eq-eqb _ _ (w₁ .before .if1 .left)) _ _ (c .own-only2 .ensures)
+    (rw (w₁ .word-at .ensures, w₂ .word-at2 .ensures) at (r .read .ensures))
+
+pub heard-read-spec : {M : Type 1} → statement M
+heard-read-spec =
+    tie.close
+    (tie.spec
+    without-data-requires
+    own-only-requires
+    returns
+    word-at-requires
+    word-at-requires-2
+    read-requires
+    own-only-requires-2
+    returns-2)

@@ -1,0 +1,93 @@
+use mathlib.Core.Path.{sym, ap, _∙_}
+use Prim.Native.Nat.{_-_}
+use lib.ListN.{length}
+use borrow.Author.Tests.{lt-leb, not-true, not-false}
+use Rattle.reactions.specs.Reactions.{speaks}
+use Rattle.reactions.specs.Steps.{reactedBy}
+use borrow.Author.Needs.{needs}
+use Rattle.reactions.proofs.heard_sync_read.Statement.{statement}
+use Rattle.reactions.proofs.heard_sync_read.Tie as tie
+
+without-data-requires : tie.Need-without-data-requires
+without-data-requires c κs = search needs
+
+own-only-requires : tie.Need-own-only-requires
+own-only-requires c κs = search needs
+
+returns : tie.Need-returns
+returns c =
+    let k = c .before .before in
+    let a = k .before .before .before .args in
+    rw (not-true (a .all) (k .if1 .taken)) (c .own-only .ensures ∙ ap (reactedBy (speaks 1 0)) (c .before .without-data .ensures))
+
+quiet-requires : tie.Need-quiet-requires
+quiet-requires c κs = search needs
+
+returns-2 : tie.Need-returns-2
+returns-2 c =
+    let k = c .before .before in
+    let a = k .before .before .before .args in
+    rw (not-false (a .all) (k .if1 .left), lt-leb 4 (length (a .params .now)) (c .before .if2 .taken)) (c .quiet .ensures)
+
+shared-slice-read-sync-search : tie.Need-shared-slice-read-sync-search
+shared-slice-read-sync-search c = search needs
+
+sync-search-requires : tie.Need-sync-search-requires
+sync-search-requires c κs = search needs
+
+enum-known-slot : tie.Need-enum-known-slot
+enum-known-slot c = search needs
+
+enum-told : tie.Need-enum-told
+enum-told c = search needs
+
+quiet-requires-2 : tie.Need-quiet-requires-2
+quiet-requires-2 c κs = search needs
+
+returns-3 : tie.Need-returns-3
+returns-3 c =
+    let t = c .before in
+    let f = t .before .before in
+    let k = f .before .before .before in
+    let a = k .before .before .before .args in
+    rw (not-false (a .all) (k .if1 .left), sym (f .sync-search .ensures) ∙ t .enum-told .given .1) (c .quiet2 .ensures)
+
+word-at-requires : tie.Need-word-at-requires
+word-at-requires c κs = search needs
+
+word-at-requires-2 : tie.Need-word-at-requires-2
+word-at-requires-2 c κs = search needs
+
+read-requires : tie.Need-read-requires
+read-requires c κs = search needs
+
+returns-4 : tie.Need-returns-4
+returns-4 c =
+    let w₂ = c .before in
+    let w₁ = w₂ .before in
+    let t = w₁ .before .before in
+    let f = t .before .before in
+    let k = f .before .before .before in
+    let a = k .before .before .before .args in
+    rw (not-false (a .all) (k .if1 .left), sym (f .sync-search .ensures) ∙ t .slot .given .1)
+    (ap (reactedBy (speaks 1 (t .slot .given .0 .0))) (rw (w₁ .word-at .ensures, w₂ .word-at2 .ensures) at (c .read .ensures)))
+
+pub heard-sync-read-spec : {M : Type 1} → statement M
+heard-sync-read-spec =
+    tie.close
+    (tie.spec
+    without-data-requires
+    own-only-requires
+    returns
+    quiet-requires
+    returns-2
+    shared-slice-read-sync-search
+    sync-search-requires
+    enum-known-slot
+    enum-told
+    quiet-requires-2
+    returns-3
+    word-at-requires
+    word-at-requires-2
+    read-requires
+    returns-4)

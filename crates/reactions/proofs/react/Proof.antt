@@ -1,0 +1,193 @@
+use mathlib.Core.Path.{refl, ap, _∙_}
+use Rattle.reactions.specs.Reactions.{Reaction, heardInstruction, ownOnly}
+use Rattle.reactions.specs.Steps.{reactedBy, reactedOf}
+use Rattle.reactions.proofs.Reactions.{by-number, ping-keeps, read-keeps, sync-read-keeps, undefined-instruction}
+use borrow.Author.Needs.{needs}
+use Rattle.reactions.proofs.react.Statement.{statement}
+use Rattle.reactions.proofs.react.Tie as tie
+
+heard-ping-requires : tie.Need-heard-ping-requires
+heard-ping-requires c κs = search needs
+
+heard-read-requires : tie.Need-heard-read-requires
+heard-read-requires c κs = search needs
+
+heard-write-requires : tie.Need-heard-write-requires
+heard-write-requires c κs = search needs
+
+heard-reg-write-requires : tie.Need-heard-reg-write-requires
+heard-reg-write-requires c κs = search needs
+
+heard-action-requires : tie.Need-heard-action-requires
+heard-action-requires c κs = search needs
+
+heard-factory-reset-requires : tie.Need-heard-factory-reset-requires
+heard-factory-reset-requires c κs = search needs
+
+heard-reboot-requires : tie.Need-heard-reboot-requires
+heard-reboot-requires c κs = search needs
+
+quiet-requires : tie.Need-quiet-requires
+quiet-requires c κs = search needs
+
+heard-sync-read-requires : tie.Need-heard-sync-read-requires
+heard-sync-read-requires c κs = search needs
+
+heard-sync-write-requires : tie.Need-heard-sync-write-requires
+heard-sync-write-requires c κs = search needs
+
+without-data-requires : tie.Need-without-data-requires
+without-data-requires c κs = search needs
+
+own-only-requires : tie.Need-own-only-requires
+own-only-requires c κs = search needs
+
+same-length : tie.Need-same-length
+same-length c = search needs
+
+returns : tie.Need-returns
+unfolding heardInstruction
+returns c =
+    let k = c .before .before in
+    let a = k .before .before .before .args in
+    by-number (a .instruction) 0x01 (a .all) (a .table .now) (a .registered) (a .params .now) _ _ (k .match .keys1) (c .heard-ping .ensures) (ping-keeps (a .table .now) (a .registered) (a .all) (a .params .now))
+
+same-length-2 : tie.Need-same-length-2
+same-length-2 c = search needs
+
+returns-2 : tie.Need-returns-2
+unfolding heardInstruction
+returns-2 c =
+    let k = c .before .before in
+    let a = k .before .before .before .args in
+    by-number (a .instruction) 0x02 (a .all) (a .table .now) (a .registered) (a .params .now) _ _ (k .match .keys2) (c .heard-read .ensures) (read-keeps (a .table .now) (a .registered) (a .all) (a .params .now))
+
+same-length-3 : tie.Need-same-length-3
+same-length-3 c = search needs
+
+returns-3 : tie.Need-returns-3
+unfolding heardInstruction
+returns-3 c =
+    let r = c .before .before in
+    let k = r .before .before in
+    let a = k .before .before .before .args in
+    by-number (a .instruction) 0x03 (a .all) (a .table .now) (a .registered) (a .params .now) _ _ (k .match .keys3) (r .heard-write .ensures .0) (r .heard-write .ensures .1)
+
+same-length-4 : tie.Need-same-length-4
+same-length-4 c = search needs
+
+returns-4 : tie.Need-returns-4
+unfolding heardInstruction
+returns-4 c =
+    let r = c .before .before in
+    let k = r .before .before in
+    let a = k .before .before .before .args in
+    by-number (a .instruction) 0x04 (a .all) (a .table .now) (a .registered) (a .params .now) _ _ (k .match .keys4) (r .heard-reg-write .ensures .0) (r .heard-reg-write .ensures .1)
+
+same-length-5 : tie.Need-same-length-5
+same-length-5 c = search needs
+
+returns-5 : tie.Need-returns-5
+unfolding heardInstruction
+returns-5 c =
+    let r = c .before .before in
+    let k = r .before .before in
+    let a = k .before .before .before .args in
+    by-number (a .instruction) 0x05 (a .all) (a .table .now) (a .registered) (a .params .now) _ _ (k .match .keys5) (r .heard-action .ensures .0) (r .heard-action .ensures .1)
+
+same-length-6 : tie.Need-same-length-6
+same-length-6 c = search needs
+
+returns-6 : tie.Need-returns-6
+unfolding heardInstruction
+returns-6 c =
+    let r = c .before .before in
+    let k = r .before .before in
+    let a = k .before .before .before .args in
+    by-number (a .instruction) 0x06 (a .all) (a .table .now) (a .registered) (a .params .now) _ _ (k .match .keys6) (r .heard-factory-reset .ensures .0) (r .heard-factory-reset .ensures .1)
+
+same-length-7 : tie.Need-same-length-7
+same-length-7 c = search needs
+
+returns-7 : tie.Need-returns-7
+unfolding heardInstruction
+returns-7 c =
+    let r = c .before .before in
+    let k = r .before .before in
+    let a = k .before .before .before .args in
+    by-number (a .instruction) 0x08 (a .all) (a .table .now) (a .registered) (a .params .now) _ _ (k .match .keys7) (r .heard-reboot .ensures .0) (r .heard-reboot .ensures .1)
+
+returns-8 : tie.Need-returns-8
+unfolding heardInstruction
+returns-8 c =
+    let k = c .before in
+    let a = k .before .before .before .args in
+    by-number (a .instruction) 0x55 (a .all) (a .table .now) (a .registered) (a .params .now) _ _ (k .match .keys8) (c .quiet .ensures) refl
+
+same-length-8 : tie.Need-same-length-8
+same-length-8 c = search needs
+
+returns-9 : tie.Need-returns-9
+unfolding heardInstruction
+returns-9 c =
+    let k = c .before .before in
+    let a = k .before .before .before .args in
+    by-number (a .instruction) 0x82 (a .all) (a .table .now) (a .registered) (a .params .now) _ _ (k .match .keys9) (c .heard-sync-read .ensures) (sync-read-keeps (a .table .now) (a .registered) (a .all) (a .params .now))
+
+same-length-9 : tie.Need-same-length-9
+same-length-9 c = search needs
+
+returns-10 : tie.Need-returns-10
+unfolding heardInstruction
+returns-10 c =
+    let r = c .before .before in
+    let k = r .before .before in
+    let a = k .before .before .before .args in
+    by-number (a .instruction) 0x83 (a .all) (a .table .now) (a .registered) (a .params .now) _ _ (k .match .keys10) (r .heard-sync-write .ensures .0) (r .heard-sync-write .ensures .1)
+
+returns-11 : tie.Need-returns-11
+returns-11 c =
+    let k = c .before .before in
+    let a = k .before .before .before .args in
+    let n = k .match .rest in
+    let e = undefined-instruction (a .instruction) (a .all) (a .table .now) (a .registered) (a .params .now)
+    (n .0 .0 .0 .0 .0 .0 .0 .0 .0 .1) (n .0 .0 .0 .0 .0 .0 .0 .0 .1) (n .0 .0 .0 .0 .0 .0 .0 .1) (n .0 .0 .0 .0 .0 .0 .1) (n .0 .0 .0 .0 .0 .1)
+    (n .0 .0 .0 .0 .1) (n .0 .0 .0 .1) (n .0 .0 .1) (n .0 .1) (n .1) in
+    (c .own-only .ensures ∙ ap (reactedBy (ownOnly (a .all) 2)) (c .before .without-data .ensures) ∙ ap reactedOf e, ap (λ (q : Reaction). q .effect .table) e)
+
+pub react-spec : {M : Type 1} → statement M
+react-spec =
+    tie.close
+    (tie.spec
+    heard-ping-requires
+    heard-read-requires
+    heard-write-requires
+    heard-reg-write-requires
+    heard-action-requires
+    heard-factory-reset-requires
+    heard-reboot-requires
+    quiet-requires
+    heard-sync-read-requires
+    heard-sync-write-requires
+    without-data-requires
+    own-only-requires
+    same-length
+    returns
+    same-length-2
+    returns-2
+    same-length-3
+    returns-3
+    same-length-4
+    returns-4
+    same-length-5
+    returns-5
+    same-length-6
+    returns-6
+    same-length-7
+    returns-7
+    returns-8
+    same-length-8
+    returns-9
+    same-length-9
+    returns-10
+    returns-11)

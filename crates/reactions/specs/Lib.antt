@@ -1,0 +1,2 @@
+pub mod Reactions
+pub mod Steps

@@ -1,0 +1,292 @@
+// What the device makes of what it hears: what each instruction does, and how that is answered. Inside the device: its callers are held to what the functions require.
+use instructions::Done;
+use instructions::RegisteredWrite;
+use parameters::Found;
+ghost use mathlib.Core.Path.{_≡_};
+ghost use mathlib.Core.Bool.{_&&_};
+ghost use mathlib.Core.List.{[]};
+ghost use Prim.Native.Nat.{_≤_};
+ghost use lib.Dec.{eqb};
+ghost use lib.ListN.{length};
+ghost use Rattle.control_table.specs.Registers.{tableSize};
+ghost use Rattle.reactions.specs.Reactions.{silent, ownOnly, heardPing, heardRead, heardWrite, heardRegWrite, heardAction, heardReboot, heardFactoryReset, heardSyncRead, heardSyncWrite, heardInstruction};
+ghost use Rattle.reactions.specs.Reactions.{reaction as Reactions·reaction};
+ghost use Rattle.instructions.specs.Steps.{doneWith};
+ghost use Rattle.reactions.specs.Steps.{reactedBy, reactedOf};
+
+// What the device hears: a packet with its unstuffed body, or one whose checksum is wrong, which has no body.
+pub enum Heard {
+    Packet,
+    BadChecksum,
+}
+
+// What was done, and whether it is answered: from which status return level on, and in which reply slot.
+pub struct Reacted {
+    pub done: Done,
+    pub speaks: bool,
+    pub level: u8,
+    pub slot: usize,
+}
+
+// An answer to the own ID only.
+fn own_only(done: Done, all: bool, level: u8) -> Reacted
+    ensures { λ r. ⌜ r ≡ reactedBy (ownOnly all level) done ⌝ }
+{
+    if all {
+        return Reacted {
+            done,
+            speaks: false,
+            level: 0,
+            slot: 0,
+        };
+    }
+    Reacted {
+        done,
+        speaks: true,
+        level,
+        slot: 0,
+    }
+}
+
+// Nothing is done, and nothing is answered.
+fn quiet(registered: RegisteredWrite) -> Reacted
+    ensures { λ r. ⌜ r ≡ reactedBy silent (doneWith 0 [] registered) ⌝ }
+{
+    own_only(instructions::without_data(0, registered), true, 0)
+}
+
+// What each instruction does and how it is answered. A wrong count of parameters comes first.
+
+fn heard_ping(table: &[u8], registered: RegisteredWrite, all: bool, params: &[u8]) -> Reacted
+    requires { ⌜ length (now table) ≡ tableSize ⌝ }
+    ensures { λ r. ⌜ r ≡ reactedOf (heardPing all (now (table .entry)) registered (now (params .entry))) ⌝ }
+{
+    if params.len() != 0 {
+        return own_only(instructions::without_data(5, registered), all, 0);
+    }
+    let done = instructions::ping(table, registered);
+    if all {
+        return Reacted {
+            done,
+            speaks: true,
+            level: 0,
+            slot: table[7] as usize,
+        };
+    }
+    own_only(done, all, 0)
+}
+
+fn heard_read(table: &[u8], registered: RegisteredWrite, all: bool, params: &[u8]) -> Reacted
+    requires { ⌜ length (now table) ≡ tableSize ⌝ }
+    ensures { λ r. ⌜ r ≡ reactedOf (heardRead all (now (table .entry)) registered (now (params .entry))) ⌝ }
+{
+    if params.len() != 4 {
+        return own_only(instructions::without_data(5, registered), all, 1);
+    }
+    let done = instructions::read(
+        table,
+        registered,
+        parameters::word_at(params, 0),
+        parameters::word_at(params, 2),
+    );
+    own_only(done, all, 1)
+}
+
+fn heard_write(table: &mut [u8], registered: RegisteredWrite, all: bool, params: &[u8]) -> Reacted
+    requires { ⌜ length (now table) ≡ tableSize ⌝ }
+    ensures { λ r. ⌜ r ≡ reactedOf (heardWrite all (now (table .entry)) registered (now (params .entry))) ⌝ }
+    ensures { λ _. ⌜ now (table .exit) ≡ heardWrite all (now (table .entry)) registered (now (params .entry)) .effect .table ⌝ }
+{
+    if params.len() < 2 {
+        return own_only(instructions::without_data(5, registered), all, 2);
+    }
+    let done = instructions::write(
+        table,
+        registered,
+        parameters::word_at(params, 0),
+        &params[2..],
+    );
+    own_only(done, all, 2)
+}
+
+fn heard_reg_write(
+    table: &mut [u8],
+    registered: RegisteredWrite,
+    all: bool,
+    params: &[u8],
+) -> Reacted
+    requires { ⌜ length (now table) ≡ tableSize ⌝ }
+    ensures { λ r. ⌜ r ≡ reactedOf (heardRegWrite all (now (table .entry)) registered (now (params .entry))) ⌝ }
+    ensures { λ _. ⌜ now (table .exit) ≡ heardRegWrite all (now (table .entry)) registered (now (params .entry)) .effect .table ⌝ }
+{
+    if params.len() < 2 {
+        return own_only(instructions::without_data(5, registered), all, 2);
+    }
+    let done = instructions::reg_write(
+        table,
+        registered,
+        parameters::word_at(params, 0),
+        &params[2..],
+    );
+    own_only(done, all, 2)
+}
+
+fn heard_action(table: &mut [u8], registered: RegisteredWrite, all: bool, params: &[u8]) -> Reacted
+    requires { ⌜ (length (now table) ≡ tableSize) × (registered .count ≤ 8) ⌝ }
+    ensures { λ r. ⌜ r ≡ reactedOf (heardAction all (now (table .entry)) registered (now (params .entry))) ⌝ }
+    ensures { λ _. ⌜ now (table .exit) ≡ heardAction all (now (table .entry)) registered (now (params .entry)) .effect .table ⌝ }
+{
+    if params.len() != 0 {
+        return own_only(instructions::without_data(5, registered), all, 2);
+    }
+    let done = instructions::action(table, registered);
+    own_only(done, all, 2)
+}
+
+fn heard_reboot(table: &mut [u8], registered: RegisteredWrite, all: bool, params: &[u8]) -> Reacted
+    requires { ⌜ length (now table) ≡ tableSize ⌝ }
+    ensures { λ r. ⌜ r ≡ reactedOf (heardReboot all (now (table .entry)) registered (now (params .entry))) ⌝ }
+    ensures { λ _. ⌜ now (table .exit) ≡ heardReboot all (now (table .entry)) registered (now (params .entry)) .effect .table ⌝ }
+{
+    if params.len() != 0 {
+        return own_only(instructions::without_data(5, registered), all, 2);
+    }
+    let done = instructions::reboot(table);
+    own_only(done, all, 2)
+}
+
+// FF to all devices would give them all the same ID.
+fn resets_every_id(all: bool, option: u8) -> bool
+    ensures { λ r. ⌜ r ≡ (all && eqb option 0xFF) ⌝ }
+{
+    if !all {
+        return false;
+    }
+    option == 0xFF
+}
+
+fn heard_factory_reset(
+    table: &mut [u8],
+    registered: RegisteredWrite,
+    all: bool,
+    params: &[u8],
+) -> Reacted
+    requires { ⌜ length (now table) ≡ tableSize ⌝ }
+    ensures { λ r. ⌜ r ≡ reactedOf (heardFactoryReset all (now (table .entry)) registered (now (params .entry))) ⌝ }
+    ensures { λ _. ⌜ now (table .exit) ≡ heardFactoryReset all (now (table .entry)) registered (now (params .entry)) .effect .table ⌝ }
+{
+    if params.len() != 1 {
+        return own_only(instructions::without_data(5, registered), all, 2);
+    }
+    let option = params[0];
+    if resets_every_id(all, option) {
+        return own_only(instructions::without_data(0, registered), all, 2);
+    }
+    let done = instructions::factory_reset(table, registered, option);
+    own_only(done, all, 2)
+}
+
+fn heard_sync_read(table: &[u8], registered: RegisteredWrite, all: bool, params: &[u8]) -> Reacted
+    requires { ⌜ length (now table) ≡ tableSize ⌝ }
+    ensures { λ r. ⌜ r ≡ reactedOf (heardSyncRead all (now (table .entry)) registered (now (params .entry))) ⌝ }
+{
+    if !all {
+        return own_only(instructions::without_data(2, registered), false, 1);
+    }
+    if params.len() < 4 {
+        return quiet(registered);
+    }
+    let Found::At(slot, _) = parameters::sync_search(params, 1, table[7]) else {
+        return quiet(registered);
+    };
+    let done = instructions::read(
+        table,
+        registered,
+        parameters::word_at(params, 0),
+        parameters::word_at(params, 2),
+    );
+    Reacted {
+        done,
+        speaks: true,
+        level: 1,
+        slot,
+    }
+}
+
+fn heard_sync_write(
+    table: &mut [u8],
+    registered: RegisteredWrite,
+    all: bool,
+    params: &[u8],
+) -> Reacted
+    requires { ⌜ length (now table) ≡ tableSize ⌝ }
+    ensures { λ r. ⌜ r ≡ reactedOf (heardSyncWrite all (now (table .entry)) registered (now (params .entry))) ⌝ }
+    ensures { λ _. ⌜ now (table .exit) ≡ heardSyncWrite all (now (table .entry)) registered (now (params .entry)) .effect .table ⌝ }
+{
+    if !all {
+        return own_only(instructions::without_data(2, registered), false, 2);
+    }
+    if params.len() < 4 {
+        return quiet(registered);
+    }
+    let n = parameters::word_at(params, 2) as usize;
+    let Found::At(_, at) = parameters::sync_search(params, 1 + n, table[7]) else {
+        return quiet(registered);
+    };
+    let from = at + 1;
+    let to = from + n;
+    let done = instructions::write(
+        table,
+        registered,
+        parameters::word_at(params, 0),
+        &params[from..to],
+    );
+    own_only(done, true, 0)
+}
+
+fn react(
+    table: &mut [u8],
+    registered: RegisteredWrite,
+    all: bool,
+    instruction: u8,
+    params: &[u8],
+) -> Reacted
+    requires { ⌜ (length (now table) ≡ tableSize) × (registered .count ≤ 8) ⌝ }
+    ensures { λ r. ⌜ r ≡ reactedOf (heardInstruction instruction all (now (table .entry)) registered (now (params .entry))) ⌝ }
+    ensures { λ _. ⌜ now (table .exit) ≡ heardInstruction instruction all (now (table .entry)) registered (now (params .entry)) .effect .table ⌝ }
+{
+    match instruction {
+        0x01 => heard_ping(&table[..], registered, all, params),
+        0x02 => heard_read(&table[..], registered, all, params),
+        0x03 => heard_write(table, registered, all, params),
+        0x04 => heard_reg_write(table, registered, all, params),
+        0x05 => heard_action(table, registered, all, params),
+        0x06 => heard_factory_reset(table, registered, all, params),
+        0x08 => heard_reboot(table, registered, all, params),
+        0x55 => quiet(registered),
+        0x82 => heard_sync_read(&table[..], registered, all, params),
+        0x83 => heard_sync_write(table, registered, all, params),
+        _ => own_only(instructions::without_data(2, registered), all, 2),
+    }
+}
+
+// An empty body counts as an undefined instruction; a bad checksum has no body.
+pub fn reaction(
+    table: &mut [u8],
+    registered: RegisteredWrite,
+    heard: Heard,
+    all: bool,
+    body: &[u8],
+) -> Reacted
+    requires { ⌜ (length (now table) ≡ tableSize) × (registered .count ≤ 8) ⌝ }
+    ensures { λ r. ⌜ r ≡ reactedOf (Reactions·reaction heard all (now (table .entry)) registered (now (body .entry))) ⌝ }
+    ensures { λ _. ⌜ now (table .exit) ≡ Reactions·reaction heard all (now (table .entry)) registered (now (body .entry)) .effect .table ⌝ }
+{
+    let Heard::Packet = heard else {
+        return own_only(instructions::without_data(3, registered), all, 2);
+    };
+    if body.len() == 0 {
+        return own_only(instructions::without_data(2, registered), all, 2);
+    }
+    react(table, registered, all, body[0], &body[1..])
+}

@@ -1,0 +1,87 @@
+use native.Mathlib.Omega.{arith}
+use lib.ListN.{length-set}
+use Rattle.resets.proofs.Resets.{reboot-stores}
+use borrow.Author.Needs.{needs}
+use Rattle.resets.proofs.reboot.Statement.{statement}
+use Rattle.resets.proofs.reboot.Tie as tie
+
+slice-read-a : tie.Need-slice-read-a
+slice-read-a c = search needs
+
+slice-read-b : tie.Need-slice-read-b
+slice-read-b c = search needs
+
+slice-read-c : tie.Need-slice-read-c
+slice-read-c c = search needs
+
+slice-read-d : tie.Need-slice-read-d
+slice-read-d c = search needs
+
+slice-write-table : tie.Need-slice-write-table
+slice-write-table c = search needs
+
+slice-write-table-2 : tie.Need-slice-write-table-2
+slice-write-table-2 c = search needs
+
+slice-write-table-3 : tie.Need-slice-write-table-3
+slice-write-table-3 c = search needs
+
+slice-write-table-4 : tie.Need-slice-write-table-4
+slice-write-table-4 c = search needs
+
+slice-write-table-5 : tie.Need-slice-write-table-5
+slice-write-table-5 c = simp length-set (omega arith)
+
+slice-write-table-6 : tie.Need-slice-write-table-6
+slice-write-table-6 c = simp length-set (omega arith)
+
+slice-write-table-7 : tie.Need-slice-write-table-7
+slice-write-table-7 c = simp length-set (omega arith)
+
+slice-write-table-8 : tie.Need-slice-write-table-8
+slice-write-table-8 c = simp length-set (omega arith)
+
+slice-write-table-9 : tie.Need-slice-write-table-9
+slice-write-table-9 c = simp length-set (omega arith)
+
+slice-write-table-10 : tie.Need-slice-write-table-10
+slice-write-table-10 c = simp length-set (omega arith)
+
+slice-write-table-11 : tie.Need-slice-write-table-11
+slice-write-table-11 c = simp length-set (omega arith)
+
+slice-write-table-12 : tie.Need-slice-write-table-12
+slice-write-table-12 c = simp length-set (omega arith)
+
+slice-write-table-13 : tie.Need-slice-write-table-13
+slice-write-table-13 c = simp length-set (omega arith)
+
+same-length : tie.Need-same-length
+same-length c = simp length-set
+
+returns : tie.Need-returns
+returns c = reboot-stores _ (c .before .before .before .before .pre)
+
+pub reboot-spec : {M : Type 1} → statement M
+reboot-spec =
+    tie.close
+    (tie.spec
+    slice-read-a
+    slice-read-b
+    slice-read-c
+    slice-read-d
+    slice-write-table
+    slice-write-table-2
+    slice-write-table-3
+    slice-write-table-4
+    slice-write-table-5
+    slice-write-table-6
+    slice-write-table-7
+    slice-write-table-8
+    slice-write-table-9
+    slice-write-table-10
+    slice-write-table-11
+    slice-write-table-12
+    slice-write-table-13
+    same-length
+    returns)

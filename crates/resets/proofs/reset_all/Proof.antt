@@ -1,0 +1,25 @@
+use mathlib.Core.Path.{ap, _∙_}
+use mathlib.Core.List.{List}
+use Prim.Native.Nat.{ℕ}
+use lib.ListN.{set}
+use Rattle.resets.proofs.Resets.{id-stores}
+use borrow.Author.Needs.{needs}
+use Rattle.resets.proofs.reset_all.Statement.{statement}
+use Rattle.resets.proofs.reset_all.Tie as tie
+
+reset-but-id-requires : tie.Need-reset-but-id-requires
+reset-but-id-requires c κs = search needs
+
+slice-write-table : tie.Need-slice-write-table
+slice-write-table c = search needs
+
+same-length : tie.Need-same-length
+same-length c = search needs
+
+returns : tie.Need-returns
+returns c =
+    let r = c .before .before in
+    ap (λ (t : List ℕ). set t 7 1) (r .reset-but-id .ensures) ∙ id-stores _ (r .before .before .before .pre)
+
+pub reset-all-spec : {M : Type 1} → statement M
+reset-all-spec = tie.close (tie.spec reset-but-id-requires slice-write-table same-length returns)

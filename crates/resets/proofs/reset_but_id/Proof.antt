@@ -1,0 +1,25 @@
+use mathlib.Core.Path.{ap, _∙_}
+use mathlib.Core.List.{List}
+use Prim.Native.Nat.{ℕ}
+use lib.ListN.{set}
+use Rattle.resets.proofs.Resets.{baud-stores}
+use borrow.Author.Needs.{needs}
+use Rattle.resets.proofs.reset_but_id.Statement.{statement}
+use Rattle.resets.proofs.reset_but_id.Tie as tie
+
+reset-but-id-and-baud-requires : tie.Need-reset-but-id-and-baud-requires
+reset-but-id-and-baud-requires c κs = search needs
+
+slice-write-table : tie.Need-slice-write-table
+slice-write-table c = search needs
+
+same-length : tie.Need-same-length
+same-length c = search needs
+
+returns : tie.Need-returns
+returns c =
+    let r = c .before .before in
+    ap (λ (t : List ℕ). set t 8 1) (r .reset-but-id-and-baud .ensures) ∙ baud-stores _ (r .before .before .before .pre)
+
+pub reset-but-id-spec : {M : Type 1} → statement M
+reset-but-id-spec = tie.close (tie.spec reset-but-id-and-baud-requires slice-write-table same-length returns)

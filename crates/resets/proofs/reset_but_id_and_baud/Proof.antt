@@ -1,0 +1,67 @@
+use native.Mathlib.Omega.{arith}
+use lib.ListN.{length-set}
+use Rattle.resets.proofs.Resets.{positions-stores}
+use borrow.Author.Needs.{needs}
+use Rattle.resets.proofs.reset_but_id_and_baud.Statement.{statement}
+use Rattle.resets.proofs.reset_but_id_and_baud.Tie as tie
+
+slice-write-table : tie.Need-slice-write-table
+slice-write-table c = search needs
+
+slice-write-table-2 : tie.Need-slice-write-table-2
+slice-write-table-2 c = search needs
+
+slice-write-table-3 : tie.Need-slice-write-table-3
+slice-write-table-3 c = search needs
+
+slice-write-table-4 : tie.Need-slice-write-table-4
+slice-write-table-4 c = search needs
+
+slice-write-table-5 : tie.Need-slice-write-table-5
+slice-write-table-5 c = simp length-set (omega arith)
+
+slice-write-table-6 : tie.Need-slice-write-table-6
+slice-write-table-6 c = simp length-set (omega arith)
+
+slice-write-table-7 : tie.Need-slice-write-table-7
+slice-write-table-7 c = simp length-set (omega arith)
+
+slice-write-table-8 : tie.Need-slice-write-table-8
+slice-write-table-8 c = simp length-set (omega arith)
+
+slice-write-table-9 : tie.Need-slice-write-table-9
+slice-write-table-9 c = simp length-set (omega arith)
+
+slice-write-table-10 : tie.Need-slice-write-table-10
+slice-write-table-10 c = simp length-set (omega arith)
+
+slice-write-table-11 : tie.Need-slice-write-table-11
+slice-write-table-11 c = simp length-set (omega arith)
+
+slice-write-table-12 : tie.Need-slice-write-table-12
+slice-write-table-12 c = simp length-set (omega arith)
+
+same-length : tie.Need-same-length
+same-length c = search needs
+
+returns : tie.Need-returns
+returns c = positions-stores _ (c .pre)
+
+pub reset-but-id-and-baud-spec : {M : Type 1} → statement M
+reset-but-id-and-baud-spec =
+    tie.close
+    (tie.spec
+    slice-write-table
+    slice-write-table-2
+    slice-write-table-3
+    slice-write-table-4
+    slice-write-table-5
+    slice-write-table-6
+    slice-write-table-7
+    slice-write-table-8
+    slice-write-table-9
+    slice-write-table-10
+    slice-write-table-11
+    slice-write-table-12
+    same-length
+    returns)

@@ -1,0 +1,43 @@
+-- What Reboot and Factory Reset make of a table.
+use mathlib.Core.Bool.{Bool, true, false, not, cond, _&&_, _||_}
+use mathlib.Core.List.{List, [], _∷_}
+use Prim.Native.Nat.{ℕ}
+use lib.Dec.{eqb}
+use lib.ListN.{take, drop}
+use Rattle.lists.specs.Write.{placed}
+use Rattle.control_table.specs.Registers.{Register, Area, rom, ram, registers, deviceId, baudCode, minPosition, goalPosition, presentPosition, writable}
+use Rattle.control_table.specs.Fresh.{freshened}
+
+abbrev pub itemBytes : Register → List ℕ → List ℕ
+itemBytes r table = take (r .bytes) (drop (r .address) table)
+
+abbrev pub only : (Register → Bool) → List Register → List Register
+only test [] = []
+only test (r ∷ rs) = cond (test r) (r ∷ only test rs) (only test rs)
+
+abbrev pub isRom : Area → Bool
+isRom rom = true
+isRom ram = false
+
+abbrev pub isAt : ℕ → Register → Bool
+isAt address r = eqb (r .address) address
+
+abbrev pub resetAtReboot : Register → Bool
+resetAtReboot r = not (isRom (r .area)) && (not (isAt (presentPosition .address) r) && not (isAt (goalPosition .address) r))
+
+-- RAM items fresh, except that present position stays and goal position gets the bytes of min position
+unfoldable pub rebooted : List ℕ → List ℕ
+rebooted table = placed (freshened (only resetAtReboot registers) table) (goalPosition .address) (itemBytes minPosition table)
+
+-- the writable ROM items but for those that the option keeps
+unfoldable pub resetRom : (Register → Bool) → List ℕ → List ℕ
+resetRom keeps table = freshened (only (λ r. isRom (r .area) && (writable (r .access) && not (keeps r))) registers) table
+
+abbrev pub keepsNone : Register → Bool
+keepsNone r = false
+
+abbrev pub keepsId : Register → Bool
+keepsId r = isAt (deviceId .address) r
+
+abbrev pub keepsIdAndBaud : Register → Bool
+keepsIdAndBaud r = isAt (deviceId .address) r || isAt (baudCode .address) r

@@ -1,0 +1,29 @@
+-- The status: what a reply holds, and its packet.
+use mathlib.Core.Bool.{true, false, cond}
+use mathlib.Core.List.{List, [], _∷_}
+use Prim.Native.Nat.{ℕ, _+_, _%_}
+use lib.ListN.{length, take, replicate, getD}
+use Rattle.status.specs.declared.Reply.{Reply}
+use lib.Dec.{eqb}
+use Rattle.control_table.specs.Registers.{hardwareError}
+use Rattle.instructions.specs.Registered.{padded}
+use Rattle.packet.specs.Packet.{packetOf}
+
+abbrev pub status : ℕ → ℕ → List ℕ → ℕ → Reply
+status id error bytes slot =
+    record { speaks = true; id = id; error = error; count = length bytes; bytes = padded bytes; slot = slot }
+
+abbrev pub silence : Reply
+silence = record { speaks = false; id = 0; error = 0; count = 0; bytes = replicate 8 0; slot = 0 }
+
+-- bit 7, the alert, is set where the hardware error is not 0
+abbrev pub errorByte : ℕ → List ℕ → ℕ
+errorByte error table = cond (eqb (getD table (hardwareError .address) 0) 0) error (error % 128 + 128)
+
+-- instruction 55, error byte, data
+abbrev pub statusPacket : Reply → List ℕ
+statusPacket r = packetOf (r .id) (0x55 ∷ r .error ∷ take (r .count) (r .bytes))
+
+-- silence is no bytes
+abbrev pub replyBytes : Reply → List ℕ
+replyBytes r = cond (r .speaks) (statusPacket r) []

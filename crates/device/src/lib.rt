@@ -1,6 +1,6 @@
 // The device on the bus: what each instruction does to the control table and the registered write, and the reply.
 use control_table::Outcome;
-use packet::Encoded;
+use encoder::Encoded;
 ghost use mathlib.Core.Path.{_≡_};
 ghost use mathlib.Core.Bool.{_&&_};
 ghost use mathlib.Core.List.{[]};
@@ -681,7 +681,7 @@ fn send(reply: Reply, out: &mut [u8]) -> usize
     let params = [reply.error, b[0], b[1], b[2], b[3], b[4], b[5], b[6], b[7]];
     let n = reply.count + 1;
     let id = reply.id;
-    match packet::encode(id, 0x55, &params[..n], out, 0) {
+    match encoder::encode(id, 0x55, &params[..n], out, 0) {
         Encoded::Count(k) => k,
         Encoded::BadId => 0,
         Encoded::TooLong => 0,

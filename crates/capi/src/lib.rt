@@ -3,10 +3,10 @@
 use control_table::Outcome;
 use device::Replied;
 use device::Response;
+use encoder::Encoded;
 use exchange::Answered;
 use exchange::Exchanged;
 use instructions::RegisteredWrite;
-use packet::Encoded;
 use reader::Heard;
 use reader::Told;
 use stuffing::Unstuffed;
@@ -17,7 +17,7 @@ ghost use mathlib.Core.Option.{none};
 ghost use Rattle.lists.specs.Answer.{count};
 ghost use Rattle.crc16.specs.Crc.{crcFrom};
 ghost use Rattle.stuffing.specs.Answers.{removalAnswer, removalOut};
-ghost use Rattle.packet.specs.Encoding.{encodeAnswer, encodeOut};
+ghost use Rattle.encoder.specs.Encoding.{encodeAnswer, encodeOut};
 ghost use Rattle.control_table.specs.Answers.{refusalOf, inTable, freshOut, measureOut};
 ghost use Rattle.reading.specs.Reading.{closed};
 ghost use Rattle.reading.specs.Calls.{first, fed, gapped};
@@ -76,7 +76,7 @@ pub extern "C" fn dxl_encode(
     ensures { λ r. ⌜ r ≡ exported (encodeAnswer id (instruction ∷ now (params .entry)) (now (out .entry)) at) ⌝ }
     ensures { λ _. ⌜ now (out .exit) ≡ encodeOut id (instruction ∷ now (params .entry)) (now (out .entry)) at ⌝ }
 {
-    match packet::encode(id, instruction, params, out, at) {
+    match encoder::encode(id, instruction, params, out, at) {
         Encoded::Count(n) => count_number(n),
         Encoded::BadId => -11,
         Encoded::TooLong => -12,

@@ -13,8 +13,9 @@ use Rattle.lists.proofs.Bools.{and-left, and-right}
 use Rattle.reading.specs.Rules.{Verdict, isPacket, isBadChecksum, isWaiting, isNothing}
 use Rattle.crc16.specs.Crc.{reduceIf, shift, shifts, crcByte, crcFrom}
 use Rattle.stuffing.specs.Stuffing.{stuffAfter, stuff, wellAfter, wellStuffed, unstuffAfter, unstuff}
-use Rattle.packet.specs.Packet.{lengthOf, bodyOf, checksumRight, withChecksum, packetOf}
+use Rattle.packet.specs.Packet.{lengthOf, bodyOf, checksumRight}
 use Rattle.packet.specs.Verdict.{frontAgrees, lengthAgrees, verdict}
+use Rattle.encoder.specs.Writing.{withChecksum, packetOf}
 use Rattle.control_table.specs.Registers.{registers, permitsBy}
 use Rattle.control_table.specs.Items.{numberAt, valueAt, bytesOf, put}
 use Rattle.control_table.specs.Fresh.{freshened}

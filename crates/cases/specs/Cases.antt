@@ -7,8 +7,8 @@ use lib.IntN.{pos}
 use lib.ListN.{length}
 use Rattle.reading.specs.Rules.{isPacket}
 use Rattle.stuffing.specs.Stuffing.{stuff, wellStuffed, unstuff}
-use Rattle.packet.specs.Packet.{packetOf}
 use Rattle.packet.specs.Verdict.{verdict}
+use Rattle.encoder.specs.Writing.{packetOf}
 use Rattle.control_table.specs.Registers.{goalPosition}
 use Rattle.control_table.specs.Items.{put}
 use Rattle.control_table.specs.Fresh.{freshTable, measured}

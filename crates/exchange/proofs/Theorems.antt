@@ -9,9 +9,10 @@ use lib.ListN.{length, getD}
 use borrow.Author.Tests.{le-leb}
 use Rattle.stuffing.specs.Stuffing.{stuff, unstuff}
 use Rattle.stuffing.specs.Answers.{removalRefusal}
-use Rattle.packet.specs.Packet.{goodId, idOf, bodyOf, WellFormed, withChecksum, packetOf}
-use Rattle.packet.specs.RoundTrip.{RoundTrip}
-use Rattle.packet.proofs.RoundTrip.{round-trip}
+use Rattle.packet.specs.Packet.{goodId, idOf, bodyOf, WellFormed}
+use Rattle.encoder.specs.Writing.{withChecksum, packetOf}
+use Rattle.encoder.specs.RoundTrip.{RoundTrip}
+use Rattle.encoder.proofs.RoundTrip.{round-trip}
 use Rattle.device.specs.Answers.{callAnswer}
 use Rattle.instructions.specs.declared.RegisteredWrite.{RegisteredWrite}
 use Rattle.reactions.specs.declared.Heard.the-variants.{Packet}

@@ -1,7 +1,6 @@
 mod Lists
+pub mod Header
 mod Rulings
-pub mod Writing
 mod Agreement
 mod Looks
 pub mod Laws
-pub mod RoundTrip

@@ -1,4 +1,2 @@
 pub mod Packet
 pub mod Verdict
-pub mod Encoding
-pub mod RoundTrip

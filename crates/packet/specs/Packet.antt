@@ -1,20 +1,14 @@
 -- One packet of Protocol 2.0, rule by rule: FF FF FD 00, ID, length low and high, body, checksum low and high.
 use mathlib.Core.Path.{_≡_}
 use mathlib.Core.Bool.{Bool, true, _||_}
-use mathlib.Core.List.{List, [], _∷_, _++_}
-use Prim.Native.Nat.{ℕ, _+_, _-_, _*_, _/_, _%_, _≤_}
+use mathlib.Core.List.{List, [], _∷_}
+use Prim.Native.Nat.{ℕ, _+_, _-_, _*_, _≤_}
 use lib.Dec.{leb, eqb}
 use lib.ListN.{length, take, drop, getD}
 use Rattle.crc16.specs.Crc.{crcFrom}
-use Rattle.stuffing.specs.Stuffing.{stuff, wellStuffed, unstuff}
+use Rattle.stuffing.specs.Stuffing.{wellStuffed}
 
 -- 16-bit numbers go low byte first
-abbrev pub low : ℕ → ℕ
-low n = n % 256
-
-abbrev pub high : ℕ → ℕ
-high n = n / 256 % 256
-
 abbrev pub word : ℕ → ℕ → ℕ
 word lo hi = lo + hi * 256
 
@@ -24,8 +18,6 @@ header = 0xFF ∷ 0xFF ∷ 0xFD ∷ 0x00 ∷ []
 -- 0 to 252, or 254 for all devices
 abbrev pub goodId : ℕ → Bool
 goodId id = leb id 252 || eqb id 254
-
--- ---- reading a packet
 
 abbrev pub idOf : List ℕ → ℕ
 idOf w = getD w 4 0
@@ -50,16 +42,3 @@ pub record WellFormed (w : List ℕ) : Type 0 where
   pub counted : length w ≡ 7 + lengthOf w
   pub summed : checksumRight w ≡ true
   pub stuffed : wellStuffed (bodyOf w) ≡ true
-
--- ---- writing a packet
-
--- header, ID and length field before a stuffed body of n bytes
-abbrev pub front : ℕ → ℕ → List ℕ
-front id n = header ++ id ∷ low (n + 2) ∷ high (n + 2) ∷ []
-
-unfoldable pub withChecksum : List ℕ → List ℕ
-withChecksum s = s ++ low (crcFrom 0 s) ∷ high (crcFrom 0 s) ∷ []
-
--- the packet with this ID and this body, which is given without stuffing
-unfoldable pub packetOf : ℕ → List ℕ → List ℕ
-packetOf id body = withChecksum (front id (length (stuff body)) ++ stuff body)

@@ -1,21 +1,17 @@
-// One packet of Protocol 2.0: the verdict on the bytes from an offset on, the body as a part of the packet, the encoder.
+// One packet of Protocol 2.0, as it is read: the verdict on the bytes from an offset on, and the body as a part of the packet.
 use stuffing::Checked;
-use stuffing::Length;
 use stuffing::Unstuffed;
 ghost use mathlib.Core.Path.{_≡_};
 ghost use mathlib.Core.Bool.{Bool};
-ghost use mathlib.Core.List.{_∷_};
+ghost use mathlib.Core.List.{_++_};
 ghost use Prim.Native.Nat.{_+_, _*_, _≤_, _<_};
 ghost use lib.Dec.{eqb};
 ghost use lib.ListN.{length, take, drop};
-ghost use Rattle.lists.specs.Write.{overwritten};
 ghost use Rattle.crc16.specs.Crc.{crcFrom};
-ghost use Rattle.stuffing.specs.Stuffing.{stuff};
 ghost use Rattle.stuffing.specs.Answers.{unstuffedAnswer, removalAnswer, removalOut};
-ghost use Rattle.packet.specs.Packet.{header, goodId, bodyOf, front, withChecksum, packetOf};
+ghost use Rattle.packet.specs.Packet.{header, goodId, bodyOf};
 ghost use Rattle.packet.specs.Packet.{word as Packet·word};
 ghost use Rattle.packet.specs.Verdict.{soFar, frontAgrees, verdict, lacks, begunBy, settledBy, answerFor, wholeAnswer};
-ghost use Rattle.packet.specs.Encoding.{encodedAnswer, encodeAnswer, encodeOut};
 
 // What the bytes from an offset on are, while the segment is open.
 pub enum Verdict {
@@ -36,21 +32,13 @@ pub enum Begun {
     Whole(usize),
 }
 
-// The packet's byte count, or a refusal.
-pub enum Encoded {
-    Count(usize),
-    BadId,
-    TooLong,
-    NoRoom,
-}
-
 fn word(low: u8, high: u8) -> usize
     ensures { λ n. ⌜ n ≡ Packet·word low high ⌝ }
 {
     (low as usize) + (high as usize) * 256
 }
 
-fn good_id(id: u8) -> bool
+pub fn good_id(id: u8) -> bool
     ensures { λ r. ⌜ r ≡ goodId id ⌝ }
 {
     if id <= 252 {
@@ -119,12 +107,11 @@ pub fn unstuff(packet: &[u8], out: &mut [u8]) -> Unstuffed
 // The checksum of FF FF FD 00.
 const HEADER_SUM: u16 = 0x0e28;
 
-// The checksum of bytes that begin with the header. It goes on from the header's, which is always the same.
-fn checksum(bytes: &[u8]) -> u16
-    requires { ⌜ take 4 (now bytes) ≡ header ⌝ }
-    ensures { λ r. ⌜ r ≡ crcFrom 0 (now (bytes .entry)) ⌝ }
+// The checksum of the header and the bytes after it. It goes on from the header's, which is always the same.
+pub fn checksum(rest: &[u8]) -> u16
+    ensures { λ r. ⌜ r ≡ crcFrom 0 (header ++ now (rest .entry)) ⌝ }
 {
-    crc16::update(HEADER_SUM, &bytes[4..])
+    crc16::update(HEADER_SUM, rest)
 }
 
 // All bytes of a packet are there, and header, ID and length are right: the checksum first, then the stuffing.
@@ -134,7 +121,7 @@ fn judge_whole(packet: &[u8]) -> Verdict
 {
     let n = packet.len();
     let end = n - 2;
-    let crc = checksum(&packet[..end]);
+    let crc = checksum(&packet[4..end]);
     if (crc as usize) != word(packet[end], packet[end + 1]) {
         return Verdict::BadChecksum(packet[4]);
     }
@@ -204,60 +191,4 @@ pub fn settled(segment: &[u8], offset: usize) -> usize
         Begun::Waiting(_) => 0,
         Begun::Whole(size) => size,
     }
-}
-
-// Header, ID and length field at the start of out, for a stuffed body of n bytes.
-fn write_front(id: u8, n: usize, out: &mut [u8])
-    requires { ⌜ (n ≤ 1022) × (7 ≤ length (now out)) ⌝ }
-    ensures { λ _. ⌜ now (out .exit) ≡ overwritten (now (out .entry)) (front id n) ⌝ }
-{
-    out[0] = 0xFF;
-    out[1] = 0xFF;
-    out[2] = 0xFD;
-    out[3] = 0x00;
-    out[4] = id;
-    out[5] = ((n + 2) % 256) as u8;
-    out[6] = ((n + 2) / 256 % 256) as u8;
-}
-
-// The checksum of the first `end` bytes, which begin with the header, right after them.
-fn write_checksum(out: &mut [u8], end: usize)
-    requires { ⌜ (4 ≤ end) × (end + 2 ≤ length (now out)) × (take 4 (now out) ≡ header) ⌝ }
-    ensures { λ _. ⌜ now (out .exit) ≡ overwritten (now (out .entry)) (withChecksum (take end (now (out .entry)))) ⌝ }
-{
-    let crc = checksum(&out[..end]);
-    out[end] = (crc % 256) as u8;
-    out[end + 1] = (crc / 256 % 256) as u8;
-}
-
-// The packet at the start of out, which has room for it; n is the stuffed body's byte count.
-fn write_packet(id: u8, instruction: u8, params: &[u8], n: usize, out: &mut [u8])
-    requires { ⌜ (n ≡ length (stuff (instruction ∷ now params))) × (n ≤ 1022) × (n + 9 ≤ length (now out)) ⌝ }
-    ensures { λ _. ⌜ now (out .exit) ≡ overwritten (now (out .entry)) (packetOf id (instruction ∷ now (params .entry))) ⌝ }
-{
-    write_front(id, n, out);
-    stuffing::write_stuffed(instruction, params, &mut out[7..]);
-    write_checksum(out, n + 7);
-}
-
-// The encoder: the packet with this ID, instruction and parameters goes to out from `at` on. Refused, in this order: an ID
-// that is not allowed, a length field past 1,024, no room from `at` on (`at` may lie past the end). A refusal writes nothing.
-pub fn encode(id: u8, instruction: u8, params: &[u8], out: &mut [u8], at: usize) -> Encoded
-    ensures { λ r. ⌜ encodedAnswer r ≡ encodeAnswer id (instruction ∷ now (params .entry)) (now (out .entry)) at ⌝ }
-    ensures { λ _. ⌜ now (out .exit) ≡ encodeOut id (instruction ∷ now (params .entry)) (now (out .entry)) at ⌝ }
-{
-    if !good_id(id) {
-        return Encoded::BadId;
-    }
-    let Length::Within(n) = stuffing::stuffed_len(instruction, params, 1022) else {
-        return Encoded::TooLong;
-    };
-    if out.len() < at {
-        return Encoded::NoRoom;
-    }
-    if out.len() - at < n + 9 {
-        return Encoded::NoRoom;
-    }
-    write_packet(id, instruction, params, n, &mut out[at..]);
-    Encoded::Count(n + 9)
 }

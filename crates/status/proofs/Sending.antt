@@ -14,11 +14,11 @@ use Rattle.lists.specs.Answer.{count, answered, unlessRefused}
 use Rattle.lists.specs.Write.{overwritten, placed}
 use Rattle.stuffing.specs.Stuffing.{mark, stuff, marksAfter}
 use Rattle.stuffing.proofs.Laws.{length-stuff}
-use Rattle.packet.specs.Packet.{packetOf}
-use Rattle.packet.proofs.Writing.{packet-length}
-use Rattle.packet.specs.Encoding.{encodedAnswer, encodeRefusal, encodeAnswer, encodeOut}
-use Rattle.packet.specs.declared.Encoded.{Encoded}
-use Rattle.packet.specs.declared.Encoded.the-variants.{Count, BadId, TooLong, NoRoom}
+use Rattle.encoder.specs.Writing.{packetOf}
+use Rattle.encoder.proofs.Writing.{packet-length}
+use Rattle.encoder.specs.Encoding.{encodedAnswer, encodeRefusal, encodeAnswer, encodeOut}
+use Rattle.encoder.specs.declared.Encoded.{Encoded}
+use Rattle.encoder.specs.declared.Encoded.the-variants.{Count, BadId, TooLong, NoRoom}
 
 marks-le : (a b : ℕ) (s : List ℕ) → marksAfter a b s ≤ length s
 unfolding marksAfter

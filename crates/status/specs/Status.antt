@@ -7,7 +7,7 @@ use Rattle.status.specs.declared.Reply.{Reply}
 use lib.Dec.{eqb}
 use Rattle.control_table.specs.Registers.{hardwareError}
 use Rattle.instructions.specs.Registered.{padded}
-use Rattle.packet.specs.Packet.{packetOf}
+use Rattle.encoder.specs.Writing.{packetOf}
 
 abbrev pub status : ℕ → ℕ → List ℕ → ℕ → Reply
 status id error bytes slot =

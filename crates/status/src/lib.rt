@@ -1,5 +1,5 @@
 // The status: what a reply holds, and its packet. Inside the device: its callers are held to what the functions require.
-use packet::Encoded;
+use encoder::Encoded;
 ghost use mathlib.Core.Path.{_≡_};
 ghost use Prim.Native.Nat.{_≤_};
 ghost use lib.ListN.{length};
@@ -57,7 +57,7 @@ pub fn send(reply: Reply, out: &mut [u8]) -> usize
     let params = [reply.error, b[0], b[1], b[2], b[3], b[4], b[5], b[6], b[7]];
     let n = reply.count + 1;
     let id = reply.id;
-    match packet::encode(id, 0x55, &params[..n], out, 0) {
+    match encoder::encode(id, 0x55, &params[..n], out, 0) {
         Encoded::Count(k) => k,
         Encoded::BadId => 0,
         Encoded::TooLong => 0,

@@ -1,7 +1,7 @@
 use mathlib.Core.Path.{_∙_}
 use mir.Facts.{toZ-ofZ}
 use mir.Syntax.{w64}
-use Rattle.packet.specs.Encoding.{encodedAnswer}
+use Rattle.encoder.specs.Encoding.{encodedAnswer}
 use Rattle.capi.proofs.Told.{told}
 use borrow.Author.Needs.{needs}
 use Rattle.capi.proofs.dxl_encode.Statement.{statement}

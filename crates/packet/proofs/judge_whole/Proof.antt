@@ -1,15 +1,16 @@
-use lib.Seq.{take-take}
 use mathlib.Core.Path.{_≡_, refl, sym, ap, ap₂, _∙_}
 use mathlib.Core.Bool.{Bool, true, false, cond}
 use Prim.Native.Nat.{ℕ, _+_, _-_}
 use native.Mathlib.Omega.{arith}
 use lib.Dec.{eqb}
-use lib.ListN.{length, take, getD, length-take}
+use lib.ListN.{length, getD}
 use borrow.Author.Tests.{eq-eqb, ne-eqb}
+use Rattle.crc16.specs.Crc.{crcFrom}
 use Rattle.stuffing.specs.Stuffing.{wellStuffed}
 use Rattle.stuffing.specs.Answers.{checked}
 use Rattle.stuffing.proofs.Answers.{checked-bad, checked-good}
 use Rattle.packet.specs.Packet.{word, bodyOf, checksumRight}
+use Rattle.packet.proofs.Header.{after-header}
 use borrow.Author.Needs.{needs}
 use Rattle.packet.proofs.judge_whole.Statement.{statement}
 use Rattle.packet.proofs.judge_whole.Tie as tie
@@ -17,13 +18,17 @@ use Rattle.packet.proofs.judge_whole.Tie as tie
 sub-end : tie.Need-sub-end
 sub-end c = search needs
 
-slice-aggregate-checksum : tie.Need-slice-aggregate-checksum
-slice-aggregate-checksum c = simp length-take (omega arith)
+sub-checksum : tie.Need-sub-checksum
+sub-checksum c = search needs
+
+part-checksum-start : tie.Need-part-checksum-start
+part-checksum-start c = search needs
+
+part-checksum-end : tie.Need-part-checksum-end
+part-checksum-end c = search needs
 
 checksum-requires : tie.Need-checksum-requires
-checksum-requires c κs =
-    let w = c .before .before .args .packet .now in
-    take-take 4 (length w - 2) w (omega arith) ∙ c .before .before .pre .1
+checksum-requires c κs = search needs
 
 cast-if1 : tie.Need-cast-if1
 cast-if1 c = search needs
@@ -40,8 +45,8 @@ shared-slice-read-word-2 c = search needs
 word-requires : tie.Need-word-requires
 word-requires c κs = search needs
 
-shared-slice-read-t16 : tie.Need-shared-slice-read-t16
-shared-slice-read-t16 c = search needs
+shared-slice-read-t17 : tie.Need-shared-slice-read-t17
+shared-slice-read-t17 c = search needs
 
 -- the code's test is that of the definition
 sum-test : (c : tie.After-word)
@@ -50,7 +55,8 @@ unfolding checksumRight
 sum-test c =
     let w = c .before .before .before .before .before .before .args .packet .now in
     let last : length w - 1 ≡ length w - 2 + 1 = omega arith in
-    ap₂ eqb (sym (c .before .before .before .checksum .ensures))
+    ap₂ eqb
+    (ap (crcFrom 0) (sym (after-header w (length w - 2) (c .before .before .before .before .before .before .pre .1) (omega arith))) ∙ sym (c .before .before .before .checksum .ensures))
     (ap (λ (i : ℕ). word (getD w (length w - 2) 0) (getD w i 0)) last ∙ sym (c .word .ensures))
 
 returns : tie.Need-returns
@@ -89,14 +95,16 @@ judge-whole-spec =
     tie.close
     (tie.spec
     sub-end
-    slice-aggregate-checksum
+    sub-checksum
+    part-checksum-start
+    part-checksum-end
     checksum-requires
     cast-if1
     shared-slice-read-word
     add-word
     shared-slice-read-word-2
     word-requires
-    shared-slice-read-t16
+    shared-slice-read-t17
     returns
     body-requires
     check-requires

@@ -1,14 +1,14 @@
 use mathlib.Core.Bool.{true}
 use lib.ListN.{take}
 use Rattle.lists.specs.Write.{overwritten}
-use Rattle.packet.specs.Packet.{packetOf}
+use Rattle.encoder.specs.Writing.{packetOf}
 use mathlib.Core.Path.{_≡_, _∙_}
 use mathlib.Core.List.{List, _∷_}
 use Prim.Native.Nat.{ℕ}
 use native.Mathlib.Omega.{arith}
 use lib.ListN.{length, length-take}
 use borrow.Author.Tests.{not-true, not-false}
-use Rattle.packet.specs.declared.Encoded.the-variants.{Count}
+use Rattle.encoder.specs.declared.Encoded.the-variants.{Count}
 use Rattle.status.proofs.Sending.{params-are, sure, written}
 use borrow.Author.Needs.{needs}
 use Rattle.status.proofs.send.Statement.{statement}

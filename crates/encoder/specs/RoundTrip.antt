@@ -6,8 +6,9 @@ use Prim.Native.Nat.{ℕ, _+_, _≤_, _<_}
 use lib.ListN.{length, getD}
 use Rattle.stuffing.specs.Stuffing.{stuff, unstuff}
 use Rattle.reading.specs.Rules.{isPacket}
-use Rattle.packet.specs.Packet.{goodId, idOf, bodyOf, WellFormed, packetOf}
+use Rattle.packet.specs.Packet.{goodId, idOf, bodyOf, WellFormed}
 use Rattle.packet.specs.Verdict.{verdict}
+use Rattle.encoder.specs.Writing.{packetOf}
 
 -- every number of the list is a byte, as in every slice
 abbrev pub Bytes : List ℕ → Type 0

@@ -7,9 +7,10 @@ use lib.ListN.{length}
 use Rattle.lists.specs.Answer.{Answer, count, refused, firstFailing, answered, unlessRefused}
 use Rattle.lists.specs.Write.{placed}
 use Rattle.stuffing.specs.Stuffing.{stuff}
-use Rattle.packet.specs.Packet.{goodId, packetOf}
-use Rattle.packet.specs.declared.Encoded.{Encoded}
-use Rattle.packet.specs.declared.Encoded.the-variants.{Count, BadId, TooLong, NoRoom}
+use Rattle.packet.specs.Packet.{goodId}
+use Rattle.encoder.specs.Writing.{packetOf}
+use Rattle.encoder.specs.declared.Encoded.{Encoded}
+use Rattle.encoder.specs.declared.Encoded.the-variants.{Count, BadId, TooLong, NoRoom}
 
 -- the refusal numbers of the encoder
 abbrev pub encodedAnswer : Encoded → Answer

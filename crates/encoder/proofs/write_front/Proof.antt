@@ -1,9 +1,9 @@
 use native.Mathlib.Omega.{arith}
 use lib.ListN.{length-set}
-use Rattle.packet.proofs.Lists.{set-seven}
+use Rattle.encoder.proofs.Lists.{set-seven}
 use borrow.Author.Needs.{needs}
-use Rattle.packet.proofs.write_front.Statement.{statement}
-use Rattle.packet.proofs.write_front.Tie as tie
+use Rattle.encoder.proofs.write_front.Statement.{statement}
+use Rattle.encoder.proofs.write_front.Tie as tie
 
 slice-write-out : tie.Need-slice-write-out
 slice-write-out c = search needs

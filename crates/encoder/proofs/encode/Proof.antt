@@ -9,12 +9,13 @@ use Rattle.lists.specs.Answer.{count}
 use Rattle.lists.proofs.Write.{tail-placed}
 use Rattle.stuffing.specs.Stuffing.{stuff}
 use Rattle.stuffing.proofs.Answers.{is-within, is-past}
-use Rattle.packet.specs.Packet.{goodId, packetOf}
-use Rattle.packet.specs.Encoding.{encodeRefusal}
-use Rattle.packet.proofs.Writing.{packet-length}
+use Rattle.packet.specs.Packet.{goodId}
+use Rattle.encoder.specs.Writing.{packetOf}
+use Rattle.encoder.specs.Encoding.{encodeRefusal}
+use Rattle.encoder.proofs.Writing.{packet-length}
 use borrow.Author.Needs.{needs}
-use Rattle.packet.proofs.encode.Statement.{statement}
-use Rattle.packet.proofs.encode.Tie as tie
+use Rattle.encoder.proofs.encode.Statement.{statement}
+use Rattle.encoder.proofs.encode.Tie as tie
 
 -- what is known once the length is measured
 module _ (p : tie.After-known-told) where

@@ -4,11 +4,11 @@ use native.Mathlib.Omega.{arith}
 use lib.ListN.{length}
 use Rattle.lists.proofs.Write.{tail-filled}
 use Rattle.stuffing.specs.Stuffing.{stuff}
-use Rattle.packet.specs.Packet.{packetOf}
-use Rattle.packet.proofs.Writing.{packet-headed, packet-written}
+use Rattle.encoder.specs.Writing.{packetOf}
+use Rattle.encoder.proofs.Writing.{packet-headed, packet-written}
 use borrow.Author.Needs.{needs}
-use Rattle.packet.proofs.write_packet.Statement.{statement}
-use Rattle.packet.proofs.write_packet.Tie as tie
+use Rattle.encoder.proofs.write_packet.Statement.{statement}
+use Rattle.encoder.proofs.write_packet.Tie as tie
 
 write-front-requires : tie.Need-write-front-requires
 write-front-requires c κs = search needs

@@ -13,13 +13,14 @@ use Rattle.crc16.specs.Crc.{crcFrom}
 use Rattle.crc16.proofs.Laws.{crc-lt}
 use Rattle.stuffing.specs.Stuffing.{stuffAfter, stuff, unstuff, wellStuffed}
 use Rattle.reading.specs.Rules.{isPacket}
 use Rattle.packet.specs.Verdict.{verdict}
 use Rattle.packet.proofs.Laws.{laws}
 use Rattle.stuffing.proofs.Laws.{unstuff-stuff, stuff-unstuff, stuff-well, length-stuff}
-use Rattle.packet.specs.Packet.{low, high, word, goodId, idOf, lengthOf, bodyOf, checksumRight, WellFormed, front, withChecksum, packetOf}
-use Rattle.packet.specs.RoundTrip.{Bytes, RoundTrip}
-use Rattle.packet.proofs.Lists.{four-taken, seven-apart, last-two}
-use Rattle.packet.proofs.Writing.{packet-length}
+use Rattle.packet.specs.Packet.{word, goodId, idOf, lengthOf, bodyOf, checksumRight, WellFormed}
+use Rattle.encoder.specs.Writing.{low, high, front, withChecksum, packetOf}
+use Rattle.encoder.specs.RoundTrip.{Bytes, RoundTrip}
+use Rattle.encoder.proofs.Lists.{seven-apart, last-two}
+use Rattle.encoder.proofs.Writing.{packet-length}
 
 -- a 16-bit number and its two bytes
 halves : (n : ℕ) → n < 65536 → word (low n) (high n) ≡ n
@@ -101,10 +102,7 @@ module _ (w : List ℕ) (bytes : Bytes w) (f : WellFormed w) where
       let l = long in
       cc (
         seven-apart w (omega arith),
-        four-taken w 0 _ (f .headed) (omega arith),
-        four-taken w 1 _ (f .headed) (omega arith),
-        four-taken w 2 _ (f .headed) (omega arith),
-        four-taken w 3 _ (f .headed) (omega arith),
+        f .headed,
         ap low field ∙ low-word (getD w 5 0) (getD w 6 0) (bytes 5),
         ap high field ∙ high-word (getD w 5 0) (getD w 6 0) (bytes 5) (bytes 6),
       )

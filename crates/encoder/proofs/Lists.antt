@@ -1,0 +1,46 @@
+-- Laws on lists that only this crate needs.
+use mathlib.Core.Path.{_≡_, refl, ap}
+use mathlib.Core.List.{List, [], _∷_, _++_}
+use Prim.Native.Nat.{ℕ, zero, suc, _+_, _≤_}
+use native.Mathlib.Omega.{arith}
+use lib.ListN.{length, take, drop, set, getD}
+use Rattle.lists.specs.Write.{overwritten}
+
+-- the first seven bytes stored one by one
+pub set-seven : (o : List ℕ) (a b c d e f g : ℕ) → 7 ≤ length o
+    → set (set (set (set (set (set (set o 0 a) 1 b) 2 c) 3 d) 4 e) 5 f) 6 g ≡ a ∷ b ∷ c ∷ d ∷ e ∷ f ∷ g ∷ drop 7 o
+set-seven [] a b c d e f g h = absurd (omega arith)
+set-seven (x0 ∷ []) a b c d e f g h = absurd (omega arith)
+set-seven (x0 ∷ x1 ∷ []) a b c d e f g h = absurd (omega arith)
+set-seven (x0 ∷ x1 ∷ x2 ∷ []) a b c d e f g h = absurd (omega arith)
+set-seven (x0 ∷ x1 ∷ x2 ∷ x3 ∷ []) a b c d e f g h = absurd (omega arith)
+set-seven (x0 ∷ x1 ∷ x2 ∷ x3 ∷ x4 ∷ []) a b c d e f g h = absurd (omega arith)
+set-seven (x0 ∷ x1 ∷ x2 ∷ x3 ∷ x4 ∷ x5 ∷ []) a b c d e f g h = absurd (omega arith)
+set-seven (x0 ∷ x1 ∷ x2 ∷ x3 ∷ x4 ∷ x5 ∷ x6 ∷ o) a b c d e f g h = refl
+
+-- two bytes stored after the first i
+pub set-two : (o : List ℕ) (i a b : ℕ) → i + 2 ≤ length o → set (set o i a) (suc i) b ≡ overwritten o (take i o ++ a ∷ b ∷ [])
+set-two [] i a b h = absurd (omega arith)
+set-two (x ∷ []) i a b h = absurd (omega arith)
+set-two (x ∷ y ∷ o) zero a b h = refl
+set-two (x ∷ y ∷ o) (suc i) a b h = ap (λ (l : List ℕ). x ∷ l) (set-two (y ∷ o) i a b (omega arith))
+
+-- the first four bytes, the three after them and the rest
+pub seven-apart : (w : List ℕ) → 7 ≤ length w
+    → take 4 w ++ getD w 4 0 ∷ getD w 5 0 ∷ getD w 6 0 ∷ drop 7 w ≡ w
+seven-apart [] h = absurd (omega arith)
+seven-apart (x0 ∷ []) h = absurd (omega arith)
+seven-apart (x0 ∷ x1 ∷ []) h = absurd (omega arith)
+seven-apart (x0 ∷ x1 ∷ x2 ∷ []) h = absurd (omega arith)
+seven-apart (x0 ∷ x1 ∷ x2 ∷ x3 ∷ []) h = absurd (omega arith)
+seven-apart (x0 ∷ x1 ∷ x2 ∷ x3 ∷ x4 ∷ []) h = absurd (omega arith)
+seven-apart (x0 ∷ x1 ∷ x2 ∷ x3 ∷ x4 ∷ x5 ∷ []) h = absurd (omega arith)
+seven-apart (x0 ∷ x1 ∷ x2 ∷ x3 ∷ x4 ∷ x5 ∷ x6 ∷ w) h = refl
+
+-- all but the last two, and those
+pub last-two : (s : List ℕ) (n : ℕ) → length s ≡ n + 2 → take n s ++ getD s n 0 ∷ getD s (suc n) 0 ∷ [] ≡ s
+last-two [] n e = absurd (omega arith)
+last-two (x ∷ []) n e = absurd (omega arith)
+last-two (x ∷ y ∷ []) zero e = refl
+last-two (x ∷ y ∷ z ∷ s) zero e = absurd (omega arith)
+last-two (x ∷ y ∷ s) (suc n) e = ap (λ (l : List ℕ). x ∷ l) (last-two (y ∷ s) n (omega arith))

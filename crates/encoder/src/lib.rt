@@ -1,0 +1,75 @@
+// The encoder of Protocol 2.0: the packet of an ID, an instruction and parameters, written into the caller's buffer.
+use stuffing::Length;
+ghost use mathlib.Core.Path.{_≡_};
+ghost use mathlib.Core.List.{_∷_};
+ghost use Prim.Native.Nat.{_+_, _≤_};
+ghost use lib.ListN.{length, take};
+ghost use Rattle.lists.specs.Write.{overwritten};
+ghost use Rattle.stuffing.specs.Stuffing.{stuff};
+ghost use Rattle.packet.specs.Packet.{header};
+ghost use Rattle.encoder.specs.Writing.{front, withChecksum, packetOf};
+ghost use Rattle.encoder.specs.Encoding.{encodedAnswer, encodeAnswer, encodeOut};
+
+// The packet's byte count, or a refusal.
+pub enum Encoded {
+    Count(usize),
+    BadId,
+    TooLong,
+    NoRoom,
+}
+
+// Header, ID and length field at the start of out, for a stuffed body of n bytes.
+fn write_front(id: u8, n: usize, out: &mut [u8])
+    requires { ⌜ (n ≤ 1022) × (7 ≤ length (now out)) ⌝ }
+    ensures { λ _. ⌜ now (out .exit) ≡ overwritten (now (out .entry)) (front id n) ⌝ }
+{
+    out[0] = 0xFF;
+    out[1] = 0xFF;
+    out[2] = 0xFD;
+    out[3] = 0x00;
+    out[4] = id;
+    out[5] = ((n + 2) % 256) as u8;
+    out[6] = ((n + 2) / 256 % 256) as u8;
+}
+
+// The checksum of the first `end` bytes, which begin with the header, right after them.
+fn write_checksum(out: &mut [u8], end: usize)
+    requires { ⌜ (4 ≤ end) × (end + 2 ≤ length (now out)) × (take 4 (now out) ≡ header) ⌝ }
+    ensures { λ _. ⌜ now (out .exit) ≡ overwritten (now (out .entry)) (withChecksum (take end (now (out .entry)))) ⌝ }
+{
+    let crc = packet::checksum(&out[4..end]);
+    out[end] = (crc % 256) as u8;
+    out[end + 1] = (crc / 256 % 256) as u8;
+}
+
+// The packet at the start of out, which has room for it; n is the stuffed body's byte count.
+fn write_packet(id: u8, instruction: u8, params: &[u8], n: usize, out: &mut [u8])
+    requires { ⌜ (n ≡ length (stuff (instruction ∷ now params))) × (n ≤ 1022) × (n + 9 ≤ length (now out)) ⌝ }
+    ensures { λ _. ⌜ now (out .exit) ≡ overwritten (now (out .entry)) (packetOf id (instruction ∷ now (params .entry))) ⌝ }
+{
+    write_front(id, n, out);
+    stuffing::write_stuffed(instruction, params, &mut out[7..]);
+    write_checksum(out, n + 7);
+}
+
+// The encoder: the packet with this ID, instruction and parameters goes to out from `at` on. Refused, in this order: an ID
+// that is not allowed, a length field past 1,024, no room from `at` on (`at` may lie past the end). A refusal writes nothing.
+pub fn encode(id: u8, instruction: u8, params: &[u8], out: &mut [u8], at: usize) -> Encoded
+    ensures { λ r. ⌜ encodedAnswer r ≡ encodeAnswer id (instruction ∷ now (params .entry)) (now (out .entry)) at ⌝ }
+    ensures { λ _. ⌜ now (out .exit) ≡ encodeOut id (instruction ∷ now (params .entry)) (now (out .entry)) at ⌝ }
+{
+    if !packet::good_id(id) {
+        return Encoded::BadId;
+    }
+    let Length::Within(n) = stuffing::stuffed_len(instruction, params, 1022) else {
+        return Encoded::TooLong;
+    };
+    if out.len() < at {
+        return Encoded::NoRoom;
+    }
+    if out.len() - at < n + 9 {
+        return Encoded::NoRoom;
+    }
+    write_packet(id, instruction, params, n, &mut out[at..]);
+    Encoded::Count(n + 9)
+}

@@ -1,6 +1,8 @@
 """Holds docs/PROMISES.md to the tree: usage check_promises.py, in the repository's root
 
 Every must-fail edit that the page cites is there, and every edit that is there is cited; every file that it cites is there too.
+Only public functions of the crates that its row K1 calls inner require anything, and each says what it leaves of all that it is
+lent to write.
 """
 import re
 import sys
@@ -9,6 +11,23 @@ from pathlib import Path
 from faults import report
 
 PAGE = Path("docs/PROMISES.md")
+
+
+def public_functions():
+    """Crate, name and what stands before the body, of each public function."""
+    for path in sorted(Path("crates").glob("*/src/**/*.rt")):
+        source = path.read_text(encoding="utf-8")
+        for head in re.finditer(r'^pub (?:extern "C" )?fn (\w+).*?^\{', source, flags=re.M | re.S):
+            yield path.parts[1], head.group(1), head.group()
+
+
+def weak_contracts(inner):
+    for crate, name, head in public_functions():
+        if "requires {" in head and crate not in inner:
+            yield f"{crate}::{name} is public and requires something"
+        for lent in re.findall(r"(\w+): &mut ", head):
+            if f"({lent} .exit)" not in head and f"(«{lent}» .exit)" not in head:
+                yield f"{crate}::{name} does not say what it leaves of {lent}"
 
 
 def main():
@@ -24,6 +43,8 @@ def main():
     faults = [f"the edit {edit} is cited and not there" for edit in sorted(cited - edits)]
     faults += [f"the edit {edit} is cited nowhere" for edit in sorted(edits - cited)]
     faults += [f"the file {file} is cited and not there" for file in sorted(files) if not any((p / file).exists() for p in places)]
+    row = re.search(r"^\| K1 \|.*$", text, flags=re.M).group()
+    faults += weak_contracts(re.findall(r"`(\w+)`", row.split("inner crates", 1)[1].split(":", 1)[0]))
     return report("promises", faults, f"{len(edits)} must-fail edits, each cited and there; {len(files)} files cited and there")
 
 

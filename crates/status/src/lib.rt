@@ -57,10 +57,8 @@ pub fn send(reply: Reply, out: &mut [u8]) -> usize
     let params = [reply.error, b[0], b[1], b[2], b[3], b[4], b[5], b[6], b[7]];
     let n = reply.count + 1;
     let id = reply.id;
-    match encoder::encode(id, 0x55, &params[..n], out, 0) {
-        Encoded::Count(k) => k,
-        Encoded::BadId => 0,
-        Encoded::TooLong => 0,
-        Encoded::NoRoom => 0,
-    }
+    let Encoded::Count(k) = encoder::encode(id, 0x55, &params[..n], out, 0) else {
+        return 0;
+    };
+    k
 }

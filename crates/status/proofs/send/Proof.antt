@@ -3,7 +3,8 @@ use lib.ListN.{take}
 use Rattle.lists.specs.Write.{overwritten}
 use Rattle.encoder.specs.Writing.{packetOf}
 use mathlib.Core.Path.{_≡_, _∙_}
-use mathlib.Core.List.{List, _∷_}
+use mathlib.Core.List.{List, [], _∷_}
+use types.Run.{miss}
 use Prim.Native.Nat.{ℕ}
 use native.Mathlib.Omega.{arith}
 use lib.ListN.{length, length-take}
@@ -61,15 +62,6 @@ encode-requires c κs = search needs
 enum-known-k : tie.Need-enum-known-k
 enum-known-k c = search needs
 
-enum-told : tie.Need-enum-told
-enum-told c = search needs
-
-enum-told-2 : tie.Need-enum-told-2
-enum-told-2 c = search needs
-
-enum-told-3 : tie.Need-enum-told-3
-enum-told-3 c = search needs
-
 -- the packet goes out
 module _ (c : tie.After-encode) where
   full : length (c .before .before .before .before .before .before .before .before .args .reply .bytes) ≡ 8
@@ -97,43 +89,22 @@ module _ (c : tie.After-encode) where
 same-length : tie.Need-same-length
 same-length c = search needs
 
+-- no other answer comes
 returns-2 : tie.Need-returns-2
-unfolding packet
 returns-2 c =
-    let d = c .before .before .before .before .before in
-    let g = goes d in
-    let e = c .before .k .given .1 in
-    (rw (speaks d) (cc (g .0)), rw (speaks d) (g .1))
+    let g = goes (c .before .before .before) in
+    absurd (miss (1 ∷ 2 ∷ 3 ∷ []) 0 tt (rw (g .0) at (c .match .keys2)))
 
 same-length-2 : tie.Need-same-length-2
 same-length-2 c = search needs
 
 returns-3 : tie.Need-returns-3
+unfolding packet
 returns-3 c =
-    let g = goes (c .before .before .before .before) in
-    let e = c .enum-told .given .1 in
-    let z : _≡_ {A = ℕ} 0 1 = cc (g .0) in
-    absurd (omega arith)
-
-same-length-3 : tie.Need-same-length-3
-same-length-3 c = search needs
-
-returns-4 : tie.Need-returns-4
-returns-4 c =
-    let g = goes (c .before .before .before .before) in
-    let e = c .enum-told2 .given .1 in
-    let z : _≡_ {A = ℕ} 0 1 = cc (g .0) in
-    absurd (omega arith)
-
-same-length-4 : tie.Need-same-length-4
-same-length-4 c = search needs
-
-returns-5 : tie.Need-returns-5
-returns-5 c =
-    let g = goes (c .before .before .before .before) in
-    let e = c .enum-told3 .given .1 in
-    let z : _≡_ {A = ℕ} 0 1 = cc (g .0) in
-    absurd (omega arith)
+    let d = c .before .before .before .before .before in
+    let g = goes d in
+    let e = c .before .k .given .1 in
+    (rw (speaks d) (cc (g .0)), rw (speaks d) (g .1))
 
 pub send-spec : {M : Type 1} → statement M
 send-spec =
@@ -153,14 +124,7 @@ send-spec =
     slice-aggregate-encode
     encode-requires
     enum-known-k
-    enum-told
-    enum-told-2
-    enum-told-3
     same-length
     returns-2
     same-length-2
-    returns-3
-    same-length-3
-    returns-4
-    same-length-4
-    returns-5)
+    returns-3)

@@ -36,7 +36,7 @@ help:
 	@echo 'make replay FILE=FILE  run a case again in which make fuzz has found a difference'
 	@echo 'make bench  measure the exports beside plain C, as ratios (RUNS=N repeats it and gives the medians)'
 	@echo 'make memory  print the size of records and answers, the stack depth of each export and the size of the archive'
-	@echo 'make mutants CRATE=NAME  change the source of a crate in one place at a time and sort what the checker says'
+	@echo 'make mutants CRATE=NAME  change the source of a crate in one place at a time and sort what the checker says (DEFINITIONS=1: its definitions)'
 	@echo 'make fmt    format every Rattle file'
 	@echo 'make clean  remove build/ and target/'
 
@@ -185,8 +185,8 @@ build/c/memory build/c/stack: build/c/%: tests/bench/%.c include/mednukals.h bui
 mutants:
 	@$(call need,rt)
 	@$(call need,python3)
-	@[ -n '$(CRATE)' ] || { echo 'mednukals: make mutants CRATE=NAME [MOST=N] [SEED=S]' >&2; exit 1; }
-	@python3 tools/mutants.py $(CRATE) $(if $(MOST),--most $(MOST)) $(if $(SEED),--seed $(SEED))
+	@[ -n '$(CRATE)' ] || { echo 'mednukals: make mutants CRATE=NAME [DEFINITIONS=1] [MOST=N] [SEED=S]' >&2; exit 1; }
+	@python3 tools/mutants.py $(CRATE) $(if $(DEFINITIONS),--definitions) $(if $(MOST),--most $(MOST)) $(if $(SEED),--seed $(SEED))
 
 fmt:
 	@$(call need,rt)

@@ -1,12 +1,15 @@
 #!/usr/bin/env python3
 """Changes the source of a crate in one place at a time and sorts what the checker says of each change.
 
-  mutants.py CRATE [--most N] [--seed S] [--list]
+  mutants.py CRATE [--definitions] [--most N] [--seed S] [--list]
 
 accepted    the crate is still proved: the change is equal in meaning, or a promise is too weak
 fact        a statement no longer holds: what one hopes for
 shape       the proof file no longer fits the code, which shows nothing of the promise
-no program  the compiler refuses the change
+no program  the compiler refuses the change, or the changed definition is none
+
+With --definitions the files of specs/ are changed and the code is not: an accepted change is one that no code and no law of the
+crate notices. It tells of changes that in the code are refused for shape only, such as a sum made a difference.
 
 Each change is checked in a copy under target/mutants/, by the quick check; an accepted one is checked again from nothing.
 """
@@ -28,6 +31,12 @@ SWAPS = [(" < ", " <= "), (" <= ", " < "), (" == ", " != "), (" != ", " == "), (
          (" -= ", " += ")]
 WORDS = [("true", "false"), ("false", "true")]
 NUMBER = re.compile(r"(?<![\w.])(0x[0-9A-Fa-f]+|\d+)(?![\w.])")
+# the same in a definition, where tests are functions
+DEFINITION_SWAPS = [(" + ", " - "), (" - ", " + "), (" * ", " + "), (" / ", " % "), (" % ", " / "), (" && ", " || "), (" || ", " && "),
+                    ("leb ", "ltb "), ("ltb ", "leb "), ("take ", "drop "), ("drop ", "take ")]
+HOMES = {"leb": "lib.Dec", "ltb": "lib.Dec", "take": "lib.ListN", "drop": "lib.ListN", "+": "Prim.Native.Nat", "-": "Prim.Native.Nat",
+         "%": "Prim.Native.Nat", "/": "Prim.Native.Nat", "&&": "mathlib.Core.Bool", "||": "mathlib.Core.Bool"}
+SIGNATURE = re.compile(r"^\s*(--|use |pub mod |(abbrev |unfoldable |pub |record |data |module )|\S+ : |$)")
 PASSED_OVER = re.compile(r"^\s*(//|ghost |use |mod |pub use |requires|ensures|#\[|pub struct|pub enum|\}|\{|$)")
 STATEMENT = re.compile(r"^\s*(?!let |return|pub |fn |while |if |\} else)\S.*;$")
 
@@ -77,6 +86,34 @@ def mutants(text):
     yield from reordered(text)
 
 
+def brought(text, word):
+    """The text with the word in its `use` lines, or nothing where its module is not used at all."""
+    name = word if word.isalpha() else f"_{word}_"
+    uses = re.search(rf"^use {re.escape(HOMES[word])}\.\{{(.*)\}}$", text, flags=re.M)
+    if not uses:
+        return None
+    if name in uses.group(1).split(", "):
+        return text
+    return text[:uses.end() - 1] + f", {name}" + text[uses.end() - 1:]
+
+
+def changed_definitions(text):
+    lines = text.split("\n")
+    for number, line in enumerate(lines):
+        if SIGNATURE.match(line) and " = " not in line:
+            continue
+        for old, new in DEFINITION_SWAPS:
+            for found in re.finditer(r"(?<!\w)" + re.escape(old) if old[0] != " " else re.escape(old), line):
+                other = brought(changed(text, number, line[:found.start()] + new + line[found.end():]), new.strip())
+                if other:
+                    yield number, other
+        for old, new in WORDS:
+            for found in re.finditer(rf"(?<![\w-]){old}(?![\w-])", line):
+                yield number, changed(text, number, line[:found.start()] + new + line[found.end():])
+        for found in NUMBER.finditer(line):
+            yield number, changed(text, number, line[:found.start()] + str(int(found.group(), 0) + 1) + line[found.end():])
+
+
 def reordered(text):
     """Two tests of three lines, one right after the other, each with a return: the other way round."""
     lines = text.split("\n")
@@ -91,7 +128,7 @@ def check(command, crate):
     return run.returncode, run.stdout + run.stderr
 
 
-def verdict(crate):
+def verdict(crate, definitions):
     code, said = check("dev", crate)
     if code == 0 and "logic=proved" in said:
         return "accepted" if check("check", crate)[0] == 0 else "fact", ""
@@ -99,6 +136,8 @@ def verdict(crate):
     if "logic=not-proved" not in said:
         return "no program", errors[0] if errors else ""
     first = errors[0] if errors else ""
+    if definitions:
+        return "no program" if f"crates/{crate}/specs/" in first else "fact", first
     by_shape = "`Need-" in first or "tie.Need-" in first or ("no proof: expected" in first and "does not close" not in first)
     return "shape" if by_shape else "fact", first
 
@@ -113,14 +152,16 @@ def copy():
 def main():
     parser = argparse.ArgumentParser(description=__doc__, formatter_class=argparse.RawDescriptionHelpFormatter)
     parser.add_argument("crate")
+    parser.add_argument("--definitions", action="store_true", help="change specs/ and not src/")
     parser.add_argument("--most", type=int, default=0, help="as many at the most, picked at random (0: all)")
     parser.add_argument("--seed", type=int, default=1)
     parser.add_argument("--list", action="store_true", help="only list the changes")
     asked = parser.parse_args()
-    sources = sorted((ROOT / "crates" / asked.crate / "src").glob("*.rt"))
+    folder, kind_of_file, changes = ("specs", "*.antt", changed_definitions) if asked.definitions else ("src", "*.rt", mutants)
+    sources = sorted((ROOT / "crates" / asked.crate / folder).glob(kind_of_file))
     if not sources:
-        sys.exit(f"mutants: there is no crate {asked.crate} with sources")
-    found = [(path, number, new) for path in sources for number, new in mutants(path.read_text())]
+        sys.exit(f"mutants: there is no crate {asked.crate} with {folder}/")
+    found = [(path, number, new) for path in sources for number, new in changes(path.read_text())]
     if asked.most and asked.most < len(found):
         picked = sorted(random.Random(asked.seed).sample(range(len(found)), asked.most))
         found = [found[k] for k in picked]
@@ -138,7 +179,7 @@ def main():
             continue
         target = PLACE / path.relative_to(ROOT)
         target.write_text(new)
-        kind, why = verdict(asked.crate)
+        kind, why = verdict(asked.crate, asked.definitions)
         target.write_text(path.read_text())
         counts[kind] = counts.get(kind, 0) + 1
         print(f"[{k}/{len(found)}, {time.time() - began:.0f} s] {kind}: {place}: {old}  =>  {after}", flush=True)

@@ -15,10 +15,10 @@ use Rattle.crc16.specs.Crc.{reduceIf, shift, shifts, crcByte, crcFrom}
 use Rattle.stuffing.specs.Stuffing.{stuffAfter, stuff, wellAfter, wellStuffed, unstuffAfter, unstuff}
 use Rattle.packet.specs.Packet.{lengthOf, bodyOf, checksumRight, withChecksum, packetOf}
 use Rattle.packet.specs.Verdict.{frontAgrees, lengthAgrees, verdict}
-use Rattle.control_table.specs.Registers.{registers, permitsBy}
-use Rattle.control_table.specs.Items.{numberAt, valueAt, bytesOf, put}
+use Rattle.registers.specs.Registers.{registers, permitsBy, everyByte}
+use Rattle.items.specs.Items.{numberAt, valueAt, bytesOf, put}
 use Rattle.control_table.specs.Fresh.{freshened}
-use Rattle.control_table.specs.Rules.{everyByte, everyTouched, limitsOrdered, goalWithin, writeRule, readRule}
+use Rattle.table_rules.specs.Rules.{everyTouched, limitsOrdered, goalWithin, writeRule, readRule}
 use Rattle.device.specs.Registered.{dropped}
 use Rattle.device.specs.Instructions.{read, write}
 use Rattle.device.specs.Device.{heardInstruction, carryOut}

@@ -8,7 +8,7 @@ use lib.ListN.{length, take}
 use Rattle.lists.specs.Answer.{firstFailing, unlessRefused}
 use Rattle.lists.specs.Write.{overwritten}
 use Rattle.packet.specs.Packet.{packetOf}
-use Rattle.control_table.specs.Registers.{tableSize}
+use Rattle.registers.specs.Registers.{tableSize}
 use Rattle.device.specs.Registered.{keptBy}
 use Rattle.device.specs.Device.{ownId, carryOut}
 use Rattle.device.specs.declared.RegisteredWrite.{RegisteredWrite}

@@ -5,7 +5,7 @@ use mathlib.Core.List.{List, [], _∷_}
 use Prim.Native.Nat.{ℕ, _+_, _%_}
 use lib.Dec.{leb, eqb}
 use lib.ListN.{length, take, drop, getD}
-use Rattle.control_table.specs.Registers.{deviceId, statusReturnLevel, hardwareError}
+use Rattle.registers.specs.Registers.{deviceId, statusReturnLevel, hardwareError}
 use Rattle.device.specs.Registered.{status, silence}
 use Rattle.device.specs.Entries.{search}
 use Rattle.device.specs.Instructions.{Effect, leaving, refusing, wordAt, ping, read, write, regWrite, action, reboot, factoryReset}

@@ -7,10 +7,10 @@ use lib.Dec.{eqb}
 use lib.ListN.{take, drop, getD}
 use Rattle.lists.specs.Answer.{unlessRefused}
 use Rattle.lists.specs.Write.{placed}
-use Rattle.control_table.specs.Registers.{Register, Area, rom, ram, registers, modelNumber, firmwareVersion, deviceId, baudCode, minPosition, registeredInstruction, goalPosition, presentPosition, writable}
-use Rattle.control_table.specs.Items.{put}
+use Rattle.registers.specs.Registers.{Register, Area, rom, ram, registers, modelNumber, firmwareVersion, deviceId, baudCode, minPosition, registeredInstruction, goalPosition, presentPosition, writable}
+use Rattle.items.specs.Items.{put}
 use Rattle.control_table.specs.Fresh.{freshened}
-use Rattle.control_table.specs.Rules.{stored, readRule, writeRule}
+use Rattle.table_rules.specs.Rules.{stored, readRule, writeRule}
 use Rattle.device.specs.Registered.{registering, dropped, bytesToWrite, keptBy}
 use Rattle.device.specs.declared.RegisteredWrite.{RegisteredWrite}
 

@@ -1,6 +1,6 @@
 // The device on the bus: what each instruction does to the control table and the registered write, and the reply.
-use control_table::Outcome;
 use packet::Encoded;
+use table_rules::Outcome;
 ghost use mathlib.Core.Path.{_≡_};
 ghost use mathlib.Core.Bool.{_&&_};
 ghost use mathlib.Core.List.{[]};
@@ -8,8 +8,8 @@ ghost use Prim.Native.Nat.{_+_, _*_, _≤_, _<_};
 ghost use lib.Dec.{eqb};
 ghost use lib.ListN.{length};
 ghost use Rattle.lists.specs.Write.{overwritten};
-ghost use Rattle.control_table.specs.Registers.{tableSize};
-ghost use Rattle.control_table.specs.Answers.{refusalOf};
+ghost use Rattle.registers.specs.Registers.{tableSize};
+ghost use Rattle.table_rules.specs.Outcomes.{refusalOf};
 ghost use Rattle.device.specs.Registered.{padded};
 ghost use Rattle.device.specs.Registered.{dropped as Registered·dropped};
 ghost use Rattle.device.specs.Registered.{silence as Registered·silence};
@@ -136,7 +136,7 @@ fn read(table: &[u8], registered: RegisteredWrite, address: u16, count: u16) -> 
 {
     let reading = control_table::read(table, address, count);
     let outcome = reading.outcome;
-    if !control_table::is_done(outcome) {
+    if !table_rules::is_done(outcome) {
         return without_data(error_of(outcome), registered);
     }
     let bytes = reading.bytes;
@@ -163,8 +163,8 @@ fn reg_write(table: &mut [u8], registered: RegisteredWrite, address: u16, bytes:
     ensures { λ r. ⌜ r ≡ doneOf (regWrite (now (table .entry)) registered address (now (bytes .entry))) ⌝ }
     ensures { λ _. ⌜ now (table .exit) ≡ regWrite (now (table .entry)) registered address (now (bytes .entry)) .table ⌝ }
 {
-    let outcome = control_table::judge(&table[..], address, bytes);
-    if !control_table::is_done(outcome) {
+    let outcome = table_rules::judge(&table[..], address, bytes);
+    if !table_rules::is_done(outcome) {
         return without_data(error_of(outcome), registered);
     }
     table[69] = 1;

@@ -1,6 +1,5 @@
 // What C calls. Each function hands on to a crate of the project and keeps that crate's promise, as numbers and byte slices;
 // include/mednukals.h declares and documents them. A `&[u8]` is a pointer and a length in C.
-use control_table::Outcome;
 use device::Replied;
 use device::Response;
 use encoder::Encoded;
@@ -10,6 +9,7 @@ use instructions::RegisteredWrite;
 use reader::Heard;
 use reader::Told;
 use stuffing::Unstuffed;
+use table_rules::Outcome;
 ghost use mathlib.Core.Path.{_≡_};
 ghost use mathlib.Core.List.{[], _∷_};
 ghost use lib.ListN.{take};
@@ -18,7 +18,8 @@ ghost use Rattle.lists.specs.Answer.{count};
 ghost use Rattle.crc16.specs.Crc.{crcFrom};
 ghost use Rattle.stuffing.specs.Answers.{removalAnswer, removalOut};
 ghost use Rattle.encoder.specs.Encoding.{encodeAnswer, encodeOut};
-ghost use Rattle.control_table.specs.Answers.{refusalOf, inTable, freshOut, measureOut};
+ghost use Rattle.table_rules.specs.Outcomes.{refusalOf, inTable};
+ghost use Rattle.control_table.specs.Answers.{freshOut, measureOut};
 ghost use Rattle.reading.specs.Reading.{closed};
 ghost use Rattle.reading.specs.Calls.{first, fed, gapped};
 ghost use Rattle.packet.specs.Verdict.{protocol2};

@@ -16,10 +16,11 @@ use Rattle.stuffing.specs.Stuffing.{stuffAfter, stuff, wellAfter, wellStuffed, 
 use Rattle.packet.specs.Packet.{lengthOf, bodyOf, checksumRight}
 use Rattle.packet.specs.Verdict.{frontAgrees, lengthAgrees, verdict}
 use Rattle.encoder.specs.Writing.{withChecksum, packetOf}
-use Rattle.control_table.specs.Registers.{registers, permitsBy}
-use Rattle.control_table.specs.Items.{numberAt, valueAt, bytesOf, put}
+use Rattle.registers.specs.Registers.{registers, permitsBy}
+use Rattle.items.specs.Items.{numberAt, valueAt, bytesOf, put}
 use Rattle.control_table.specs.Fresh.{freshened}
-use Rattle.control_table.specs.Rules.{everyByte, everyTouched, limitsOrdered, goalWithin, writeRule, readRule}
+use Rattle.registers.specs.Registers.{everyByte}
+use Rattle.table_rules.specs.Rules.{everyTouched, limitsOrdered, goalWithin, writeRule, readRule}
 use Rattle.instructions.specs.Registered.{dropped}
 use Rattle.instructions.specs.Instructions.{read, write}
 use Rattle.reactions.specs.Reactions.{heardInstruction}

@@ -9,8 +9,8 @@ use Rattle.reading.specs.Rules.{isPacket}
 use Rattle.stuffing.specs.Stuffing.{stuff, wellStuffed, unstuff}
 use Rattle.packet.specs.Verdict.{verdict}
 use Rattle.encoder.specs.Writing.{packetOf}
-use Rattle.control_table.specs.Registers.{goalPosition}
-use Rattle.control_table.specs.Items.{put}
+use Rattle.registers.specs.Registers.{goalPosition}
+use Rattle.items.specs.Items.{put}
 use Rattle.control_table.specs.Fresh.{freshTable, measured}
 use Rattle.instructions.specs.Registered.{dropped}
 use Rattle.device.specs.Device.{Carried, carryOut}

@@ -1,8 +1,3 @@
-pub mod Rows
-pub mod Walks
-pub mod Permits
-pub mod Stored
-pub mod Signed
-pub mod Judged
-pub mod Theorems
 pub mod Put
+pub mod Copied
+pub mod Theorems

@@ -7,10 +7,10 @@ use native.Mathlib.Omega.{arith}
 use lib.IntN.{ℤ}
 use lib.ListN.{length, set}
 use lib.Seq.{sets}
-use Rattle.control_table.specs.Registers.{Register, tableSize, endOf, presentPosition, hardwareError}
-use Rattle.control_table.specs.Items.{bytesOf, put, unsigned}
+use Rattle.registers.specs.Registers.{Register, tableSize, endOf, presentPosition, hardwareError}
+use Rattle.items.specs.Items.{bytesOf, put, unsigned}
+use Rattle.table_rules.proofs.Stored.{stored-sets, stored-length}
 use Rattle.control_table.specs.Fresh.{measured}
-use Rattle.control_table.proofs.Stored.{stored-sets, stored-length}
 
 bytes-length : (n u : ℕ) → length (bytesOf n u) ≡ n
 unfolding bytesOf

@@ -6,14 +6,15 @@ use Prim.Native.Nat.{ℕ, _+_, _≤_, _<_}
 use native.Mathlib.Omega.{arith}
 use lib.ListN.{length, getD}
 use Rattle.lists.specs.Answer.{unlessRefused}
-use Rattle.control_table.specs.Registers.{tableSize, maxPosition, registers, permitsBy}
-use Rattle.control_table.specs.Items.{numberAt, valueAt, bytesOf, put}
+use Rattle.registers.specs.Registers.{tableSize, maxPosition, registers, permitsBy, everyByte}
+use Rattle.registers.proofs.Permits.{every-inside, every-short}
+use Rattle.items.specs.Items.{numberAt, valueAt, bytesOf, put}
+use Rattle.table_rules.specs.Rules.{everyTouched, leastToWrite, limitsOrdered, goalWithin, stored, readRule, writeRule}
+use Rattle.table_rules.specs.Outcomes.{inTable}
+use Rattle.table_rules.proofs.Stored.{stored-before, stored-at, stored-after, stored-length}
+use Rattle.table_rules.proofs.Judged.{least-some, GoodWrite, good-write, GoodRead, good-read}
 use Rattle.control_table.specs.Fresh.{freshened, freshTable}
-use Rattle.control_table.specs.Rules.{everyByte, everyTouched, leastToWrite, limitsOrdered, goalWithin, stored, readRule, writeRule}
-use Rattle.control_table.specs.Answers.{inTable, writeOut}
-use Rattle.control_table.proofs.Permits.{every-inside, every-short}
-use Rattle.control_table.proofs.Stored.{stored-before, stored-at, stored-after, stored-length}
-use Rattle.control_table.proofs.Judged.{least-some, GoodWrite, good-write, GoodRead, good-read}
+use Rattle.control_table.specs.Answers.{writeOut}
 
 -- a refused write leaves every byte
 pub refused-stays : (table : List ℕ) (address : ℕ) (bytes : List ℕ) (number : ℕ)

@@ -3,8 +3,8 @@ use mathlib.Core.List.{List, [], _∷_}
 use Prim.Native.Nat.{ℕ}
 use lib.IntN.{ℤ}
 use lib.ListN.{replicate}
-use Rattle.control_table.specs.Registers.{Register, registers, tableSize, presentPosition, hardwareError}
-use Rattle.control_table.specs.Items.{unsigned, put}
+use Rattle.registers.specs.Registers.{Register, registers, tableSize, presentPosition, hardwareError}
+use Rattle.items.specs.Items.{unsigned, put}
 
 -- the table with the fresh value of each register of a list
 unfoldable pub freshened : List Register → List ℕ → List ℕ

@@ -9,8 +9,8 @@ use lib.Dec.{eqb, leb}
 use lib.ListN.{length, take, drop, getD, length-append, length-take}
 use borrow.Author.Tests.{eq-eqb}
 use Rattle.lists.specs.Answer.{unlessRefused}
-use Rattle.control_table.specs.Registers.{tableSize}
-use Rattle.control_table.specs.Rules.{readRule}
+use Rattle.registers.specs.Registers.{tableSize}
+use Rattle.table_rules.specs.Rules.{readRule}
 use Rattle.control_table.proofs.Theorems.{read-short}
 use Rattle.reactions.proofs.Every.{pick, every}
 use Rattle.instructions.specs.Instructions.{Effect, ping, read, write, regWrite, action}

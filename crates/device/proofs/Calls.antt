@@ -8,7 +8,7 @@ use native.Mathlib.Omega.{arith}
 use lib.Dec.{eqb, leb}
 use lib.ListN.{length}
 use borrow.Author.Tests.{eq-eqb, ne-eqb, le-leb, lt-leb, eqb-true, leb-true}
-use Rattle.control_table.specs.Registers.{tableSize}
+use Rattle.registers.specs.Registers.{tableSize}
 use Rattle.reactions.specs.Reactions.{ownId}
 use Rattle.device.specs.Answers.{sent, callRefusal, repliedAnswer, answeredBy}
 use Rattle.status.specs.Status.{silence}

@@ -6,7 +6,7 @@ use lib.Dec.{leb, eqb}
 use lib.ListN.{length}
 use Rattle.lists.specs.Answer.{firstFailing, unlessRefused}
 use Rattle.lists.specs.Write.{overwritten}
-use Rattle.control_table.specs.Registers.{tableSize}
+use Rattle.registers.specs.Registers.{tableSize}
 use Rattle.instructions.specs.Registered.{keptBy}
 use Rattle.reactions.specs.Reactions.{ownId}
 use Rattle.device.specs.Device.{carryOut}

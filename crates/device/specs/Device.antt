@@ -5,7 +5,7 @@ use mathlib.Core.List.{List}
 use Prim.Native.Nat.{ℕ}
 use lib.Dec.{leb, eqb}
 use lib.ListN.{getD}
-use Rattle.control_table.specs.Registers.{statusReturnLevel}
+use Rattle.registers.specs.Registers.{statusReturnLevel}
 use Rattle.status.specs.Status.{status, silence, errorByte}
 use Rattle.instructions.specs.Instructions.{Effect}
 use Rattle.instructions.specs.declared.RegisteredWrite.{RegisteredWrite}

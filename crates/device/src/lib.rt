@@ -6,7 +6,7 @@ use status::Reply;
 ghost use mathlib.Core.Path.{_≡_};
 ghost use Prim.Native.Nat.{_≤_};
 ghost use lib.ListN.{length};
-ghost use Rattle.control_table.specs.Registers.{tableSize};
+ghost use Rattle.registers.specs.Registers.{tableSize};
 ghost use Rattle.status.specs.Status.{silence as Status·silence};
 ghost use Rattle.device.specs.Device.{carried, carryOut};
 ghost use Rattle.reactions.specs.Reactions.{reaction as Reactions·reaction};

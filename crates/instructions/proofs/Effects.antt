@@ -8,12 +8,13 @@ use native.Mathlib.Omega.{arith}
 use lib.ListN.{length, take, drop, set, length-take, length-drop}
 use borrow.Author.Tests.{eq-eqb}
 use Rattle.lists.specs.Answer.{unlessRefused}
-use Rattle.control_table.specs.Registers.{tableSize, registeredInstruction}
-use Rattle.control_table.specs.Rules.{stored, readRule, writeRule}
-use Rattle.control_table.specs.Answers.{isDone, refusalOf, inTable, readBytes, writeOut}
-use Rattle.control_table.specs.declared.Outcome.{Outcome}
-use Rattle.control_table.specs.declared.Outcome.the-variants.{Done, DataRange, DataLength, DataLimit, NoAccess, NotTable}
-use Rattle.control_table.proofs.Judged.{done-none}
+use Rattle.registers.specs.Registers.{tableSize, registeredInstruction}
+use Rattle.table_rules.specs.Rules.{stored, readRule, writeRule}
+use Rattle.table_rules.specs.Outcomes.{isDone, refusalOf, inTable}
+use Rattle.table_rules.specs.declared.Outcome.{Outcome}
+use Rattle.table_rules.specs.declared.Outcome.the-variants.{Done, DataRange, DataLength, DataLimit, NoAccess, NotTable}
+use Rattle.table_rules.proofs.Judged.{done-none}
+use Rattle.control_table.specs.Answers.{readBytes, writeOut}
 use Rattle.control_table.proofs.Theorems.{read-inside}
 use Rattle.control_table.proofs.Put.{put-byte}
 use Rattle.instructions.specs.Registered.{padded, registering}

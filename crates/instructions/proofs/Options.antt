@@ -6,7 +6,7 @@ use native.Mathlib.Omega.{arith}
 use borrow.Author.Tests.{ne-eqb}
 use lib.ListN.{length, take, getD}
 use lib.Seq.{drop-cons}
-use Rattle.control_table.specs.Registers.{tableSize, modelNumber, firmwareVersion}
+use Rattle.registers.specs.Registers.{tableSize, modelNumber, firmwareVersion}
 use Rattle.instructions.specs.declared.RegisteredWrite.{RegisteredWrite}
 use Rattle.instructions.specs.Instructions.{refusing, reboot, factoryReset}
 use Rattle.resets.specs.Resets.{itemBytes, resetRom, keepsNone, keepsId, keepsIdAndBaud}

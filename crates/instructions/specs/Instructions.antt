@@ -6,9 +6,9 @@ use Prim.Native.Nat.{ℕ, _+_}
 use lib.Dec.{eqb}
 use lib.ListN.{take, drop}
 use Rattle.lists.specs.Answer.{unlessRefused}
-use Rattle.control_table.specs.Registers.{modelNumber, firmwareVersion, registeredInstruction}
-use Rattle.control_table.specs.Items.{put}
-use Rattle.control_table.specs.Rules.{stored, readRule, writeRule}
+use Rattle.registers.specs.Registers.{modelNumber, firmwareVersion, registeredInstruction}
+use Rattle.items.specs.Items.{put}
+use Rattle.table_rules.specs.Rules.{stored, readRule, writeRule}
 use Rattle.instructions.specs.Registered.{registering, dropped, bytesToWrite, keptBy}
 use Rattle.instructions.specs.declared.RegisteredWrite.{RegisteredWrite}
 use Rattle.resets.specs.Resets.{itemBytes, rebooted, resetRom, keepsNone, keepsId, keepsIdAndBaud}

@@ -1,11 +1,11 @@
 // What each instruction does to the control table and the registered write. Inside the device: its callers are held to what the functions require.
-use control_table::Outcome;
+use table_rules::Outcome;
 ghost use mathlib.Core.Path.{_≡_};
 ghost use mathlib.Core.List.{[]};
 ghost use Prim.Native.Nat.{_≤_};
 ghost use lib.ListN.{length};
-ghost use Rattle.control_table.specs.Registers.{tableSize};
-ghost use Rattle.control_table.specs.Answers.{refusalOf};
+ghost use Rattle.registers.specs.Registers.{tableSize};
+ghost use Rattle.table_rules.specs.Outcomes.{refusalOf};
 ghost use Rattle.instructions.specs.Registered.{padded};
 ghost use Rattle.instructions.specs.Registered.{dropped as Registered·dropped};
 ghost use Rattle.instructions.specs.Instructions.{errorOf, regWrite, factoryReset};
@@ -87,7 +87,7 @@ pub fn read(table: &[u8], registered: RegisteredWrite, address: u16, count: u16)
 {
     let reading = control_table::read(table, address, count);
     let outcome = reading.outcome;
-    if !control_table::is_done(outcome) {
+    if !table_rules::is_done(outcome) {
         return without_data(error_of(outcome), registered);
     }
     let bytes = reading.bytes;
@@ -114,8 +114,8 @@ pub fn reg_write(table: &mut [u8], registered: RegisteredWrite, address: u16, by
     ensures { λ r. ⌜ r ≡ doneOf (regWrite (now (table .entry)) registered address (now (bytes .entry))) ⌝ }
     ensures { λ _. ⌜ now (table .exit) ≡ regWrite (now (table .entry)) registered address (now (bytes .entry)) .table ⌝ }
 {
-    let outcome = control_table::judge(&table[..], address, bytes);
-    if !control_table::is_done(outcome) {
+    let outcome = table_rules::judge(&table[..], address, bytes);
+    if !table_rules::is_done(outcome) {
         return without_data(error_of(outcome), registered);
     }
     table[69] = 1;

@@ -8,9 +8,9 @@ use Prim.Native.Nat.{ℕ}
 use lib.Dec.{eqb}
 use borrow.Author.Tests.{eqb-false}
 use Rattle.lists.specs.Answer.{unlessRefused}
-use Rattle.control_table.specs.Registers.{registeredInstruction}
-use Rattle.control_table.specs.Items.{put}
-use Rattle.control_table.specs.Rules.{stored, writeRule}
+use Rattle.registers.specs.Registers.{registeredInstruction}
+use Rattle.items.specs.Items.{put}
+use Rattle.table_rules.specs.Rules.{stored, writeRule}
 use Rattle.instructions.specs.Registered.{registering, dropped, bytesToWrite, keptBy}
 use Rattle.instructions.specs.Instructions.{Effect, leaving, errorOf, read, write, regWrite, action}
 use Rattle.reactions.specs.Reactions.{reaction}

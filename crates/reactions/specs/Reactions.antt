@@ -4,7 +4,7 @@ use mathlib.Core.List.{List, [], _∷_}
 use Prim.Native.Nat.{ℕ, _+_}
 use lib.Dec.{leb, eqb}
 use lib.ListN.{length, take, drop, getD}
-use Rattle.control_table.specs.Registers.{deviceId}
+use Rattle.registers.specs.Registers.{deviceId}
 use Rattle.instructions.specs.Instructions.{Effect, leaving, refusing, ping, read, write, regWrite, action, reboot, factoryReset}
 use Rattle.parameters.specs.Parameters.{wordAt, syncSearch}
 use Rattle.instructions.specs.declared.RegisteredWrite.{RegisteredWrite}

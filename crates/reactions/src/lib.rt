@@ -8,7 +8,7 @@ ghost use mathlib.Core.List.{[]};
 ghost use Prim.Native.Nat.{_≤_};
 ghost use lib.Dec.{eqb};
 ghost use lib.ListN.{length};
-ghost use Rattle.control_table.specs.Registers.{tableSize};
+ghost use Rattle.registers.specs.Registers.{tableSize};
 ghost use Rattle.reactions.specs.Reactions.{silent, ownOnly, heardPing, heardRead, heardWrite, heardRegWrite, heardAction, heardReboot, heardFactoryReset, heardSyncRead, heardSyncWrite, heardInstruction};
 ghost use Rattle.reactions.specs.Reactions.{reaction as Reactions·reaction};
 ghost use Rattle.instructions.specs.Steps.{doneWith};

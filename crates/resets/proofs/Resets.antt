@@ -8,12 +8,12 @@ use lib.Dec.{T, leb}
 use borrow.Author.Tests.{leb-true}
 use lib.ListN.{length, take, drop, getD, set, length-set}
 use lib.Seq.{drop-cons, sets}
-use Rattle.control_table.specs.Registers.{Register, registers, tableSize, endOf, deviceId, baudCode, writable}
-use Rattle.control_table.specs.Items.{bytesOf, put}
+use Rattle.registers.specs.Registers.{Register, registers, tableSize, endOf, deviceId, baudCode, writable}
+use Rattle.items.specs.Items.{bytesOf, put}
 use Rattle.control_table.specs.Fresh.{freshened}
-use Rattle.control_table.specs.Rules.{stored}
+use Rattle.table_rules.specs.Rules.{stored}
 use Rattle.control_table.proofs.Put.{put-sets, put-length, put-byte}
-use Rattle.control_table.proofs.Stored.{stored-sets}
+use Rattle.table_rules.proofs.Stored.{stored-sets}
 use Rattle.resets.specs.Resets.{only, isRom, resetAtReboot, rebooted, resetRom, keepsNone, keepsId, keepsIdAndBaud}
 
 -- on a list that is written out this computes to the stores themselves, those of the last register first

@@ -5,7 +5,7 @@ use Prim.Native.Nat.{ℕ}
 use lib.Dec.{eqb}
 use lib.ListN.{take, drop}
 use Rattle.lists.specs.Write.{placed}
-use Rattle.control_table.specs.Registers.{Register, Area, rom, ram, registers, deviceId, baudCode, minPosition, goalPosition, presentPosition, writable}
+use Rattle.registers.specs.Registers.{Register, Area, rom, ram, registers, deviceId, baudCode, minPosition, goalPosition, presentPosition, writable}
 use Rattle.control_table.specs.Fresh.{freshened}
 
 abbrev pub itemBytes : Register → List ℕ → List ℕ

@@ -1,7 +1,7 @@
 // Reboot and Factory Reset, on the table. Inside the device: its callers are held to what the functions require.
 ghost use mathlib.Core.Path.{_≡_};
 ghost use lib.ListN.{length};
-ghost use Rattle.control_table.specs.Registers.{tableSize};
+ghost use Rattle.registers.specs.Registers.{tableSize};
 ghost use Rattle.resets.specs.Resets.{rebooted, resetRom, keepsIdAndBaud, keepsId, keepsNone};
 
 // RAM items fresh, present position as it was, min position as the goal.

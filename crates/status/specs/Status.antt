@@ -5,7 +5,7 @@ use Prim.Native.Nat.{ℕ, _+_, _%_}
 use lib.ListN.{length, take, replicate, getD}
 use Rattle.status.specs.declared.Reply.{Reply}
 use lib.Dec.{eqb}
-use Rattle.control_table.specs.Registers.{hardwareError}
+use Rattle.registers.specs.Registers.{hardwareError}
 use Rattle.instructions.specs.Registered.{padded}
 use Rattle.encoder.specs.Writing.{packetOf}
 

@@ -4,7 +4,7 @@ ghost use mathlib.Core.Path.{_≡_};
 ghost use Prim.Native.Nat.{_≤_};
 ghost use lib.ListN.{length};
 ghost use Rattle.lists.specs.Write.{overwritten};
-ghost use Rattle.control_table.specs.Registers.{tableSize};
+ghost use Rattle.registers.specs.Registers.{tableSize};
 ghost use Rattle.status.specs.Status.{silence as Status·silence};
 ghost use Rattle.status.specs.Status.{errorByte, replyBytes};
 

@@ -1,6 +1,6 @@
 use mathlib.Core.Path.{_≡_, sym, ap}
-use Rattle.control_table.specs.declared.Outcome.{Outcome}
-use Rattle.control_table.specs.Answers.{refusalOf}
+use Rattle.table_rules.specs.declared.Outcome.{Outcome}
+use Rattle.table_rules.specs.Outcomes.{refusalOf}
 use Rattle.capi.specs.Exported.{exportedRefusal}
 use borrow.Author.Needs.{needs}
 use Rattle.capi.proofs.outcome_number.Statement.{statement}

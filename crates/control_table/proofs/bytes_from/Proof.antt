@@ -4,7 +4,7 @@ use Prim.Native.Nat.{_+_, _-_, _≤_}
 use native.Mathlib.Omega.{arith}
 use lib.ListN.{take, drop, replicate}
 use borrow.Author.Needs.{needs}
-use Rattle.control_table.proofs.Stored.{part-next, part-done}
+use Rattle.control_table.proofs.Copied.{part-next, part-done}
 use Rattle.control_table.proofs.bytes_from.Statement.{statement}
 use Rattle.control_table.proofs.bytes_from.Tie as tie
 

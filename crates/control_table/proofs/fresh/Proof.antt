@@ -1,5 +1,5 @@
-use Rattle.control_table.specs.Registers.{registers, tableSize}
-use Rattle.control_table.specs.Items.{bytesOf, put}
+use Rattle.registers.specs.Registers.{registers, tableSize}
+use Rattle.items.specs.Items.{bytesOf, put}
 use Rattle.control_table.specs.Fresh.{freshened, freshTable}
 use mathlib.Core.Path.{_≡_, ap, _∙_}
 use mathlib.Core.List.{List}

@@ -1,5 +1,5 @@
 use mir.Facts.{toZ-ofZ}
-use Rattle.control_table.specs.Items.{unsigned}
+use Rattle.items.specs.Items.{unsigned}
 use Rattle.control_table.proofs.Put.{measured-sets}
 use mathlib.Core.Path.{ap, _∙_}
 use native.Mathlib.Omega.{arith}

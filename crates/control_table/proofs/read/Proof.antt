@@ -1,5 +1,5 @@
-use Rattle.control_table.specs.Rules.{readRule}
-use Rattle.control_table.proofs.Permits.{every-inside, every-short}
+use Rattle.registers.proofs.Permits.{every-inside, every-short}
+use Rattle.table_rules.specs.Rules.{readRule}
 use mathlib.Core.Path.{sym, _∙_}
 use native.Mathlib.Omega.{arith}
 use borrow.Author.Tests.{eq-eqb, ne-eqb, lt-ltb, le-ltb, not-true, not-false}

@@ -5,7 +5,7 @@ use native.Mathlib.Omega.{arith}
 use lib.ListN.{length, length-set}
 use lib.Seq.{paste, paste-zero, paste-suc}
 use borrow.Author.Needs.{needs}
-use Rattle.control_table.proofs.Stored.{stored-pasted}
+use Rattle.table_rules.proofs.Stored.{stored-pasted}
 use Rattle.control_table.proofs.store.Statement.{statement}
 use Rattle.control_table.proofs.store.Tie as tie
 

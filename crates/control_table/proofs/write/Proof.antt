@@ -3,9 +3,9 @@ use mathlib.Core.Option.{Option, none}
 use Prim.Native.Nat.{ℕ}
 use borrow.Author.Tests.{not-true, not-false}
 use Rattle.lists.specs.Answer.{unlessRefused}
-use Rattle.control_table.specs.Rules.{stored, writeRule}
-use Rattle.control_table.specs.Answers.{inTable}
-use Rattle.control_table.proofs.Judged.{done-none, refused-out}
+use Rattle.table_rules.specs.Rules.{stored, writeRule}
+use Rattle.table_rules.specs.Outcomes.{inTable}
+use Rattle.table_rules.proofs.Judged.{done-none, refused-out}
 use Rattle.control_table.proofs.Theorems.{write-inside}
 use borrow.Author.Needs.{needs}
 use Rattle.control_table.proofs.write.Statement.{statement}

@@ -4,7 +4,7 @@ use Prim.Native.Nat.{ℕ}
 use native.Mathlib.Omega.{arith}
 use lib.ListN.{length, length-set, length-take}
 use borrow.Author.Tests.{eq-eqb, ne-eqb}
-use Rattle.control_table.specs.Registers.{registeredInstruction}
+use Rattle.registers.specs.Registers.{registeredInstruction}
 use Rattle.control_table.proofs.Put.{put-byte}
 use Rattle.instructions.specs.Registered.{dropped, bytesToWrite}
 use Rattle.instructions.specs.Instructions.{write, action}

@@ -4,7 +4,7 @@ use Prim.Native.Nat.{ℕ, _≤_}
 use native.Mathlib.Omega.{arith}
 use lib.ListN.{length}
 use borrow.Author.Tests.{not-true, not-false}
-use Rattle.control_table.proofs.Judged.{done-none}
+use Rattle.table_rules.proofs.Judged.{done-none}
 use Rattle.control_table.proofs.Theorems.{write-short}
 use Rattle.instructions.specs.Steps.{doneWith}
 use Rattle.instructions.proofs.Effects.{reg-write-refused, reg-write-stays, reg-write-done, reg-write-table}

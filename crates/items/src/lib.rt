@@ -1,0 +1,38 @@
+// The numbers in a control table: four bytes as a signed number, the way back, and the test of a range.
+ghost use mathlib.Core.Path.{_≡_};
+ghost use mathlib.Core.Bool.{_&&_};
+ghost use mathlib.Core.List.{[], _∷_};
+ghost use lib.Signed.{leZ};
+ghost use Rattle.items.specs.Items.{numberAt, signed, unsigned};
+
+// Four bytes, lowest first, as a signed number in two's complement.
+pub fn signed_of(a: u8, b: u8, c: u8, d: u8) -> i32
+    ensures { λ r. ⌜ r ≡ signed (numberAt (a ∷ b ∷ c ∷ d ∷ []) 0 4) ⌝ }
+{
+    let u = (a as u32) + (b as u32) * 256 + (c as u32) * 65536 + (d as u32) * 16777216;
+    if u < 2147483648 {
+        return u as i32;
+    }
+    let m = (4294967295 - u) as i32;
+    -1 - m
+}
+
+// The word of 32 bits that stands for a signed number.
+pub fn unsigned_of(value: i32) -> u32
+    ensures { λ r. ⌜ r ≡ unsigned value ⌝ }
+{
+    if value < 0 {
+        let m = (-1 - value) as u32;
+        return 4294967295 - m;
+    }
+    value as u32
+}
+
+pub fn within(value: i32, low: i32, high: i32) -> bool
+    ensures { λ r. ⌜ r ≡ (leZ low value && leZ value high) ⌝ }
+{
+    if value < low {
+        return false;
+    }
+    value <= high
+}

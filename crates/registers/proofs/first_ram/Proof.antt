@@ -1,0 +1,75 @@
+use mathlib.Core.Path.{_∙_}
+use native.Mathlib.Omega.{arith}
+use borrow.Author.Needs.{needs}
+use Rattle.registers.specs.Registers.{registers}
+use Rattle.registers.proofs.Rows.{placeIn, row-from, none-from}
+use Rattle.registers.proofs.first_ram.Statement.{statement}
+use Rattle.registers.proofs.first_ram.Tie as tie
+
+in-ram-requires : tie.Need-in-ram-requires
+in-ram-requires c κs = search needs
+
+returns : tie.Need-returns
+unfolding registers placeIn
+returns c = c .in-ram .ensures ∙ row-from 7 64 1 (omega arith) tt _ (omega arith) (omega arith)
+
+in-ram-requires-2 : tie.Need-in-ram-requires-2
+in-ram-requires-2 c κs = search needs
+
+returns-2 : tie.Need-returns-2
+unfolding registers placeIn
+returns-2 c = c .in-ram2 .ensures ∙ row-from 8 65 1 (omega arith) tt _ (omega arith) (omega arith)
+
+undefined-requires : tie.Need-undefined-requires
+undefined-requires c κs = search needs
+
+returns-3 : tie.Need-returns-3
+unfolding registers placeIn
+returns-3 c = c .undefined .ensures ∙ none-from 66 2 tt _ (omega arith) (omega arith)
+
+in-ram-requires-3 : tie.Need-in-ram-requires-3
+in-ram-requires-3 c κs = search needs
+
+returns-4 : tie.Need-returns-4
+unfolding registers placeIn
+returns-4 c = c .in-ram3 .ensures ∙ row-from 9 68 1 (omega arith) tt _ (omega arith) (omega arith)
+
+read-only-requires : tie.Need-read-only-requires
+read-only-requires c κs = search needs
+
+returns-5 : tie.Need-returns-5
+unfolding registers placeIn
+returns-5 c = c .read-only .ensures ∙ row-from 10 69 1 (omega arith) tt _ (omega arith) (omega arith)
+
+read-only-requires-2 : tie.Need-read-only-requires-2
+read-only-requires-2 c κs = search needs
+
+returns-6 : tie.Need-returns-6
+unfolding registers placeIn
+returns-6 c = c .read-only2 .ensures ∙ row-from 11 70 1 (omega arith) tt _ (omega arith) (omega arith)
+
+undefined-requires-2 : tie.Need-undefined-requires-2
+undefined-requires-2 c κs = search needs
+
+returns-7 : tie.Need-returns-7
+unfolding registers placeIn
+returns-7 c = c .undefined2 .ensures ∙ none-from 71 33 tt _ (omega arith) (omega arith)
+
+pub first-ram-spec : {M : Type 1} → statement M
+first-ram-spec =
+    tie.close
+    (tie.spec
+    in-ram-requires
+    returns
+    in-ram-requires-2
+    returns-2
+    undefined-requires
+    returns-3
+    in-ram-requires-3
+    returns-4
+    read-only-requires
+    returns-5
+    read-only-requires-2
+    returns-6
+    undefined-requires-2
+    returns-7)

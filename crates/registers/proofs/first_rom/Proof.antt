@@ -1,0 +1,66 @@
+use mathlib.Core.Path.{_∙_}
+use native.Mathlib.Omega.{arith}
+use borrow.Author.Needs.{needs}
+use Rattle.registers.specs.Registers.{registers}
+use Rattle.registers.proofs.Rows.{placeIn, row-from, none-from}
+use Rattle.registers.proofs.first_rom.Statement.{statement}
+use Rattle.registers.proofs.first_rom.Tie as tie
+
+read-only-requires : tie.Need-read-only-requires
+read-only-requires c κs = search needs
+
+returns : tie.Need-returns
+unfolding registers placeIn
+returns c = c .read-only .ensures ∙ row-from 0 0 2 (omega arith) tt _ (omega arith) (omega arith)
+
+undefined-requires : tie.Need-undefined-requires
+undefined-requires c κs = search needs
+
+returns-2 : tie.Need-returns-2
+unfolding registers placeIn
+returns-2 c = c .undefined .ensures ∙ none-from 2 4 tt _ (omega arith) (omega arith)
+
+read-only-requires-2 : tie.Need-read-only-requires-2
+read-only-requires-2 c κs = search needs
+
+returns-3 : tie.Need-returns-3
+unfolding registers placeIn
+returns-3 c = c .read-only2 .ensures ∙ row-from 1 6 1 (omega arith) tt _ (omega arith) (omega arith)
+
+in-rom-requires : tie.Need-in-rom-requires
+in-rom-requires c κs = search needs
+
+returns-4 : tie.Need-returns-4
+unfolding registers placeIn
+returns-4 c = c .in-rom .ensures ∙ row-from 2 7 1 (omega arith) tt _ (omega arith) (omega arith)
+
+in-rom-requires-2 : tie.Need-in-rom-requires-2
+in-rom-requires-2 c κs = search needs
+
+returns-5 : tie.Need-returns-5
+unfolding registers placeIn
+returns-5 c = c .in-rom2 .ensures ∙ row-from 3 8 1 (omega arith) tt _ (omega arith) (omega arith)
+
+undefined-requires-2 : tie.Need-undefined-requires-2
+undefined-requires-2 c κs = search needs
+
+returns-6 : tie.Need-returns-6
+unfolding registers placeIn
+returns-6 c = c .undefined2 .ensures ∙ none-from 9 11 tt _ (omega arith) (omega arith)
+
+pub first-rom-spec : {M : Type 1} → statement M
+first-rom-spec =
+    tie.close
+    (tie.spec
+    read-only-requires
+    returns
+    undefined-requires
+    returns-2
+    read-only-requires-2
+    returns-3
+    in-rom-requires
+    returns-4
+    in-rom-requires-2
+    returns-5
+    undefined-requires-2
+    returns-6)

@@ -1,0 +1,3 @@
+pub mod Rules
+pub mod Outcomes
+pub mod Stages

@@ -1,0 +1,31 @@
+-- What becomes of a read or a write, as a number of RULES.
+use mathlib.Core.Bool.{Bool, true, false, cond}
+use mathlib.Core.List.{List}
+use mathlib.Core.Option.{Option, none, some}
+use Prim.Native.Nat.{ℕ}
+use lib.Dec.{eqb}
+use lib.ListN.{length}
+use Rattle.registers.specs.Registers.{tableSize}
+use Rattle.table_rules.specs.declared.Outcome.{Outcome}
+use Rattle.table_rules.specs.declared.Outcome.the-variants.{Done, DataRange, DataLength, DataLimit, NoAccess, NotTable}
+
+-- the numbers of the outcomes: error numbers of a status packet, and 21, which is the caller's fault
+abbrev pub refusalOf : Outcome → Option ℕ
+refusalOf Done = none
+refusalOf DataRange = some 0x04
+refusalOf DataLength = some 0x05
+refusalOf DataLimit = some 0x06
+refusalOf NoAccess = some 0x07
+refusalOf NotTable = some 21
+
+abbrev pub isDone : Outcome → Bool
+isDone Done = true
+isDone DataRange = false
+isDone DataLength = false
+isDone DataLimit = false
+isDone NoAccess = false
+isDone NotTable = false
+
+-- 21 comes first
+abbrev pub inTable : List ℕ → Option ℕ → Option ℕ
+inTable table next = cond (eqb (length table) tableSize) next (some 21)

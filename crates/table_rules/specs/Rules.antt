@@ -1,0 +1,62 @@
+-- The read rule and the write rule, by stages. A stage looks at all touched bytes or items before the next one comes, and the
+-- first that applies refuses. Error numbers: 04 data range, 05 data length, 06 data limit, 07 access.
+use mathlib.Core.Bool.{Bool, true, not, cond, _&&_, _||_}
+use mathlib.Core.List.{List, [], _∷_}
+use mathlib.Core.Option.{Option}
+use Prim.Native.Nat.{ℕ, _+_}
+use lib.Dec.{leb, ltb, eqb}
+use lib.ListN.{length, getD}
+use lib.Signed.{leZ}
+use Rattle.lists.specs.Answer.{firstFailing}
+use Rattle.lists.specs.Write.{placed}
+use Rattle.registers.specs.Registers.{Register, registers, endOf, everyByte, torqueEnable, minPosition, maxPosition, goalPosition}
+use Rattle.items.specs.Items.{valueOf, valueInRange}
+
+-- the n bytes from `a` on have a byte of the register
+abbrev pub touches : ℕ → ℕ → Register → Bool
+touches a n r = ltb (r .address) (a + n) && ltb a (endOf r)
+
+-- they have all its bytes
+abbrev pub covers : ℕ → ℕ → Register → Bool
+covers a n r = leb a (r .address) && leb (endOf r) (a + n)
+
+-- each register that is touched passes the test
+unfoldable pub everyTouched : ℕ → ℕ → (Register → Bool) → List Register → Bool
+everyTouched a n test [] = true
+everyTouched a n test (r ∷ rs) = (not (touches a n r) || test r) && everyTouched a n test rs
+
+-- what a touched byte has to permit: while torque is not 0 no byte of ROM is written
+abbrev pub leastToWrite : List ℕ → ℕ
+leastToWrite table = cond (eqb (getD table (torqueEnable .address) 0) 0) 2 3
+
+-- the limits of the position, as the new table stands: in order where either was written
+unfoldable pub limitsOrdered : ℕ → ℕ → List ℕ → Bool
+limitsOrdered a n new =
+    not (touches a n minPosition || touches a n maxPosition) || leZ (valueOf minPosition new) (valueOf maxPosition new)
+
+-- and a goal position that was written between them
+unfoldable pub goalWithin : ℕ → ℕ → List ℕ → Bool
+goalWithin a n new =
+    not (touches a n goalPosition)
+    || (leZ (valueOf minPosition new) (valueOf goalPosition new) && leZ (valueOf goalPosition new) (valueOf maxPosition new))
+
+-- the table that a write leaves if it is good
+abbrev pub stored : List ℕ → ℕ → List ℕ → List ℕ
+stored table address bytes = placed table address bytes
+
+-- the stages of the write rule in their order, each with the error number where its test fails
+unfoldable pub writeRule : List ℕ → ℕ → List ℕ → Option ℕ
+writeRule table address bytes =
+    let n = length bytes in
+    let new = stored table address bytes in
+    firstFailing
+    ((ltb 0 n, 0x05)
+    ∷ (everyByte (leastToWrite table) address n, 0x07)
+    ∷ (everyTouched address n (covers address n) registers, 0x05)
+    ∷ (everyTouched address n (valueInRange new) registers, 0x04)
+    ∷ (limitsOrdered address n new && goalWithin address n new, 0x06)
+    ∷ [])
+
+-- a byte has to permit reading
+unfoldable pub readRule : ℕ → ℕ → Option ℕ
+readRule address n = firstFailing ((ltb 0 n, 0x05) ∷ (everyByte 1 address n, 0x07) ∷ [])

@@ -1,0 +1,196 @@
+// The write rule: a write is judged whole, on the table as it would then stand. And what becomes of a read or a write.
+use registers::Row;
+ghost use mathlib.Core.Path.{_≡_};
+ghost use mathlib.Core.Bool.{_&&_, true};
+ghost use Prim.Native.Nat.{_+_, _≤_, _<_};
+ghost use lib.Dec.{leb, ltb};
+ghost use lib.ListN.{length};
+ghost use lib.Signed.{leZ};
+ghost use Rattle.registers.specs.Registers.{registers, tableSize, minPosition, maxPosition, everyByte};
+ghost use Rattle.registers.specs.Rows.{oneOrFour};
+ghost use Rattle.items.specs.Items.{numberAt, signed, valueAt, valueOf};
+ghost use Rattle.table_rules.specs.Rules.{covers, everyTouched, leastToWrite, limitsOrdered, goalWithin, stored, writeRule};
+ghost use Rattle.table_rules.specs.Outcomes.{isDone, refusalOf, inTable};
+ghost use Rattle.table_rules.specs.Stages.{whole, itemsRule};
+
+// What became of a read or a write: an error of the status packet where it is not done, or a table of another size.
+pub enum Outcome {
+    Done,
+    DataRange,
+    DataLength,
+    DataLimit,
+    NoAccess,
+    NotTable,
+}
+
+pub fn is_done(outcome: Outcome) -> bool
+    ensures { λ r. ⌜ r ≡ isDone outcome ⌝ }
+{
+    match outcome {
+        Outcome::Done => true,
+        Outcome::DataRange => false,
+        Outcome::DataLength => false,
+        Outcome::DataLimit => false,
+        Outcome::NoAccess => false,
+        Outcome::NotTable => false,
+    }
+}
+
+// The four bytes at k, likewise.
+fn word_at(bytes: &[u8], k: usize) -> i32
+    requires { ⌜ k + 4 ≤ length (now bytes) ⌝ }
+    ensures { λ r. ⌜ r ≡ signed (numberAt (now (bytes .entry)) k 4) ⌝ }
+{
+    items::signed_of(bytes[k], bytes[k + 1], bytes[k + 2], bytes[k + 3])
+}
+
+// The item of four bytes at `a` as the write would leave it. The write has all its bytes or none.
+fn word_after(table: &[u8], address: usize, bytes: &[u8], a: usize) -> i32
+    requires { ⌜ (address + length (now bytes) ≤ length (now table)) × (a + 4 ≤ length (now table)) × (whole address (length (now bytes)) a ≡ true) ⌝ }
+    ensures { λ r. ⌜ r ≡ signed (numberAt (stored (now (table .entry)) address (now (bytes .entry))) a 4) ⌝ }
+{
+    if a < address {
+        return word_at(table, a);
+    }
+    if a - address < bytes.len() {
+        return word_at(bytes, a - address);
+    }
+    word_at(table, a)
+}
+
+// The bytes from `address` up to `end` have a byte of the register of `size` bytes at `start`.
+fn touched(start: usize, size: usize, address: usize, end: usize) -> bool
+    requires { ⌜ start + size ≤ tableSize ⌝ }
+    ensures { λ r. ⌜ r ≡ (ltb start end && ltb address (start + size)) ⌝ }
+{
+    if end <= start {
+        return false;
+    }
+    address < start + size
+}
+
+// They have all its bytes.
+fn covered(start: usize, size: usize, address: usize, end: usize) -> bool
+    requires { ⌜ start + size ≤ tableSize ⌝ }
+    ensures { λ r. ⌜ r ≡ (leb address start && leb (start + size) end) ⌝ }
+{
+    if start < address {
+        return false;
+    }
+    start + size <= end
+}
+
+// The value that is written to the register, at k in the data, is in its range.
+fn in_range(bytes: &[u8], k: usize, row: Row) -> bool
+    requires { ⌜ (k + row .bytes ≤ length (now bytes)) × (oneOrFour (row .bytes) ≡ true) ⌝ }
+    ensures { λ r. ⌜ r ≡ (leZ (row .low) (valueAt (now (bytes .entry)) k (row .bytes)) && leZ (valueAt (now (bytes .entry)) k (row .bytes)) (row .high)) ⌝ }
+{
+    let low = row.low;
+    let high = row.high;
+    if row.bytes == 4 {
+        return items::within(word_at(bytes, k), low, high);
+    }
+    items::within(bytes[k] as i32, low, high)
+}
+
+// The stages that go by items, in one walk over the touched registers: an item that is covered in part comes before any value
+// out of range. Each touched byte can be written, so that each has a register; and the value of an item that is covered is in the
+// data, so that the table is not read.
+fn judge_items(table: &[u8], address: usize, bytes: &[u8]) -> Outcome
+    requires { ⌜ (0 < length (now bytes)) × (address + length (now bytes) ≤ length (now table)) × (everyByte 2 address (length (now bytes)) ≡ true) ⌝ }
+    ensures { λ r. ⌜ refusalOf r ≡ itemsRule address (length (now (bytes .entry))) (stored (now (table .entry)) address (now (bytes .entry))) ⌝ }
+{
+    let end = address + bytes.len();
+    let mut good = true;
+    let mut a = address;
+    while a < end {
+        let row = registers::register_at(a);
+        if !covered(row.start, row.bytes, address, end) {
+            return Outcome::DataLength;
+        }
+        if !in_range(bytes, row.start - address, row) {
+            good = false;
+        }
+        a = row.start + row.bytes;
+    }
+    if good {
+        Outcome::Done
+    } else {
+        Outcome::DataRange
+    }
+}
+
+// Min position is not above max position.
+fn in_order(table: &[u8], address: usize, bytes: &[u8]) -> bool
+    requires { ⌜ (address + length (now bytes) ≤ length (now table)) × (length (now table) ≡ tableSize) × (everyTouched address (length (now bytes)) (covers address (length (now bytes))) registers ≡ true) ⌝ }
+    ensures { λ r. ⌜ r ≡ leZ (valueOf minPosition (stored (now (table .entry)) address (now (bytes .entry)))) (valueOf maxPosition (stored (now (table .entry)) address (now (bytes .entry)))) ⌝ }
+{
+    let min = word_after(table, address, bytes, 52);
+    let max = word_after(table, address, bytes, 48);
+    min <= max
+}
+
+// Where the write touches a limit, the limits are in order.
+fn limits_ordered(table: &[u8], address: usize, bytes: &[u8]) -> bool
+    requires { ⌜ (address + length (now bytes) ≤ length (now table)) × (length (now table) ≡ tableSize) × (everyTouched address (length (now bytes)) (covers address (length (now bytes))) registers ≡ true) ⌝ }
+    ensures { λ r. ⌜ r ≡ limitsOrdered address (length (now (bytes .entry))) (stored (now (table .entry)) address (now (bytes .entry))) ⌝ }
+{
+    let end = address + bytes.len();
+    if touched(52, 4, address, end) {
+        return in_order(table, address, bytes);
+    }
+    if touched(48, 4, address, end) {
+        return in_order(table, address, bytes);
+    }
+    true
+}
+
+// Where the write touches the goal position, that lies between the limits.
+fn goal_within(table: &[u8], address: usize, bytes: &[u8]) -> bool
+    requires { ⌜ (address + length (now bytes) ≤ length (now table)) × (length (now table) ≡ tableSize) × (everyTouched address (length (now bytes)) (covers address (length (now bytes))) registers ≡ true) ⌝ }
+    ensures { λ r. ⌜ r ≡ goalWithin address (length (now (bytes .entry))) (stored (now (table .entry)) address (now (bytes .entry))) ⌝ }
+{
+    if !touched(116, 4, address, address + bytes.len()) {
+        return true;
+    }
+    items::within(
+        word_after(table, address, bytes, 116),
+        word_after(table, address, bytes, 52),
+        word_after(table, address, bytes, 48),
+    )
+}
+
+// What each touched byte has to permit: while torque is on, no byte of ROM is written.
+fn least_to_write(table: &[u8]) -> u8
+    requires { ⌜ length (now table) ≡ tableSize ⌝ }
+    ensures { λ r. ⌜ r ≡ leastToWrite (now (table .entry)) ⌝ }
+{
+    if table[64] == 0 { 2 } else { 3 }
+}
+
+// The write rule, on a table that stays as it is.
+pub fn judge(table: &[u8], address: u16, bytes: &[u8]) -> Outcome
+    ensures { λ r. ⌜ refusalOf r ≡ inTable (now (table .entry)) (writeRule (now (table .entry)) address (now (bytes .entry))) ⌝ }
+{
+    if table.len() != 136 {
+        return Outcome::NotTable;
+    }
+    if bytes.len() == 0 {
+        return Outcome::DataLength;
+    }
+    let at = address as usize;
+    if !registers::every_byte(least_to_write(table), at, bytes.len()) {
+        return Outcome::NoAccess;
+    }
+    let items = judge_items(table, at, bytes);
+    if !is_done(items) {
+        return items;
+    }
+    if !limits_ordered(table, at, bytes) {
+        return Outcome::DataLimit;
+    }
+    if !goal_within(table, at, bytes) {
+        return Outcome::DataLimit;
+    }
+    Outcome::Done
+}

@@ -1,9 +1,8 @@
 // The numbers in a control table: four bytes as a signed number, the way back, and the test of a range.
 ghost use mathlib.Core.Path.{_≡_};
-ghost use mathlib.Core.Bool.{_&&_};
 ghost use mathlib.Core.List.{[], _∷_};
-ghost use lib.Signed.{leZ};
-ghost use Rattle.items.specs.Items.{numberAt, signed, unsigned};
+ghost use Rattle.registers.specs.Registers.{readWrite};
+ghost use Rattle.items.specs.Items.{numberAt, signed, unsigned, inRange};
 
 // Four bytes, lowest first, as a signed number in two's complement.
 pub fn signed_of(a: u8, b: u8, c: u8, d: u8) -> i32
@@ -28,8 +27,9 @@ pub fn unsigned_of(value: i32) -> u32
     value as u32
 }
 
+// The value is in the range, its ends included.
 pub fn within(value: i32, low: i32, high: i32) -> bool
-    ensures { λ r. ⌜ r ≡ (leZ low value && leZ value high) ⌝ }
+    ensures { λ r. ⌜ r ≡ inRange (readWrite low high) value ⌝ }
 {
     if value < low {
         return false;

@@ -7,9 +7,10 @@ use borrow.Author.Tests.{ne-eqb}
 use lib.ListN.{length, take, getD}
 use lib.Seq.{drop-cons}
 use Rattle.registers.specs.Registers.{tableSize, modelNumber, firmwareVersion}
+use Rattle.items.specs.Items.{itemBytes}
 use Rattle.instructions.specs.declared.RegisteredWrite.{RegisteredWrite}
 use Rattle.instructions.specs.Instructions.{refusing, reboot, factoryReset}
-use Rattle.resets.specs.Resets.{itemBytes, resetRom, keepsNone, keepsId, keepsIdAndBaud}
+use Rattle.resets.specs.Resets.{resetRom, keepsNone, keepsId, keepsIdAndBaud}
 
 pub identity-bytes : (table : List ℕ) → length table ≡ tableSize
     → getD table 0 0 ∷ getD table 1 0 ∷ getD table 6 0 ∷ [] ≡ itemBytes modelNumber table ++ itemBytes firmwareVersion table

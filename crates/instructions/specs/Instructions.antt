@@ -7,11 +7,11 @@ use lib.Dec.{eqb}
 use lib.ListN.{take, drop}
 use Rattle.lists.specs.Answer.{unlessRefused}
 use Rattle.registers.specs.Registers.{modelNumber, firmwareVersion, registeredInstruction}
-use Rattle.items.specs.Items.{put}
+use Rattle.items.specs.Items.{itemBytes, put}
 use Rattle.table_rules.specs.Rules.{stored, readRule, writeRule}
 use Rattle.instructions.specs.Registered.{registering, dropped, bytesToWrite, keptBy}
 use Rattle.instructions.specs.declared.RegisteredWrite.{RegisteredWrite}
-use Rattle.resets.specs.Resets.{itemBytes, rebooted, resetRom, keepsNone, keepsId, keepsIdAndBaud}
+use Rattle.resets.specs.Resets.{rebooted, resetRom, keepsNone, keepsId, keepsIdAndBaud}
 
 -- The table and the registered write that are left, the error number (0 for none) and the data of the status.
 pub record Effect : Type 0 where

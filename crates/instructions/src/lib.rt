@@ -1,4 +1,5 @@
-// What each instruction does to the control table and the registered write. Inside the device: its callers are held to what the functions require.
+// What each instruction does to the control table and the registered write. Inside the device: its callers are held to what the
+// functions require.
 use table_rules::Outcome;
 ghost use mathlib.Core.Path.{_≡_};
 ghost use mathlib.Core.List.{[]};

@@ -4,7 +4,7 @@ use mathlib.Core.List.{List, [], _∷_}
 use Prim.Native.Nat.{ℕ, zero, suc, _+_, _-_, _*_, _/_, _%_, _^_}
 use lib.Dec.{ltb, eqb}
 use lib.IntN.{ℤ, pos, negsuc}
-use lib.ListN.{getD}
+use lib.ListN.{take, drop, getD}
 use lib.Signed.{leZ}
 use Rattle.lists.specs.Write.{placed}
 use Rattle.registers.specs.Registers.{Register, Access, readOnly, readWrite}
@@ -22,6 +22,10 @@ signed u = cond (ltb u (2 ^ 31)) (pos u) (negsuc (2 ^ 32 - 1 - u))
 abbrev pub unsigned : ℤ → ℕ
 unsigned (pos n) = n
 unsigned (negsuc n) = 2 ^ 32 - 1 - n
+
+-- the bytes of an item
+abbrev pub itemBytes : Register → List ℕ → List ℕ
+itemBytes r table = take (r .bytes) (drop (r .address) table)
 
 -- the value of the item of n bytes at `a`
 unfoldable pub valueAt : List ℕ → ℕ → ℕ → ℤ

@@ -1,4 +1,5 @@
-// The parameters of an instruction: words, and the own entry in the list of a Sync instruction. Inside the device: its callers are held to what the functions require.
+// The parameters of an instruction: words, and the own entry in the list of a Sync instruction. Inside the device: its callers
+// are held to what the functions require.
 ghost use mathlib.Core.Path.{_≡_};
 ghost use Prim.Native.Nat.{_+_, _≤_, _<_};
 ghost use lib.ListN.{length};

@@ -3,13 +3,10 @@ use mathlib.Core.Bool.{Bool, true, false, not, cond, _&&_, _||_}
 use mathlib.Core.List.{List, [], _∷_}
 use Prim.Native.Nat.{ℕ}
 use lib.Dec.{eqb}
-use lib.ListN.{take, drop}
 use Rattle.lists.specs.Write.{placed}
 use Rattle.registers.specs.Registers.{Register, Area, rom, ram, registers, deviceId, baudCode, minPosition, goalPosition, presentPosition, writable}
+use Rattle.items.specs.Items.{itemBytes}
 use Rattle.control_table.specs.Fresh.{freshened}
-
-abbrev pub itemBytes : Register → List ℕ → List ℕ
-itemBytes r table = take (r .bytes) (drop (r .address) table)
 
 abbrev pub only : (Register → Bool) → List Register → List Register
 only test [] = []

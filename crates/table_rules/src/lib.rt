@@ -36,7 +36,7 @@ pub fn is_done(outcome: Outcome) -> bool
     }
 }
 
-// The four bytes at k, likewise.
+// The four bytes at k as a signed number.
 fn word_at(bytes: &[u8], k: usize) -> i32
     requires { ⌜ k + 4 ≤ length (now bytes) ⌝ }
     ensures { λ r. ⌜ r ≡ signed (numberAt (now (bytes .entry)) k 4) ⌝ }

@@ -170,7 +170,8 @@ pub fn register_at(a: usize) -> Row
     last_ram(a)
 }
 
-// Each of the n bytes from `address` on permits at least so much: register by register, since the bytes of one permit the same.
+// Each of the n bytes from `address` on permits at least so much: register by register, since the bytes of one permit the same. Where
+// nothing is asked, bytes that no register has pass too.
 pub fn every_byte(least: u8, address: usize, n: usize) -> bool
     ensures { λ r. ⌜ r ≡ everyByte least address n ⌝ }
 {

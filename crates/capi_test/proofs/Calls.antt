@@ -1,6 +1,6 @@
 -- The core's step is the one that the rules' reply gives; the numbers of an answer are those of what it says.
 use mathlib.Core.Path.{_≡_, refl, sym, subst}
-use mathlib.Core.List.{List}
+use mathlib.Core.List.{List, []}
 use Prim.Native.Nat.{ℕ, _≤_}
 use native.Mathlib.Decide.{decLe}
 use native.Mathlib.Omega.{arith}
@@ -13,8 +13,10 @@ use Rattle.reader.specs.declared.Heard.{Heard}
 use Rattle.reader.specs.declared.Heard.the-variants.{Packet, BadChecksum, Silent, Refused}
 use Rattle.reader.specs.declared.Answer.{Answer}
 use Rattle.reader.specs.Answer.{saidBy, said}
+use Rattle.numbers.specs.declared.StepNumbers.{StepNumbers}
+use Rattle.numbers.specs.Exported.{stepNumbers}
 use Rattle.capi_test.specs.declared.EventNumbers.{EventNumbers}
-use Rattle.capi_test.specs.Calls.{stepFor, coreEvent, coreNumbers, heardEvent, valueNumbers}
+use Rattle.capi_test.specs.Calls.{stepFor, coreEvent, coreNumbers, valueNumbers}
 
 of-fields : (step : Step) (taken count : ℕ) (event : Outcome) → step .taken ≡ taken → step .count ≡ count → step .event ≡ event
     → step ≡ record { taken = taken; count = count; event = event }
@@ -39,21 +41,15 @@ module _ (r : Reply) (count : ℕ) (held bytes held′ bytes′ : List ℕ) (ste
   call-is = subst (λ (s : Step). CoreCall r count held bytes s held′ bytes′) step-is w
 
 numbers-of : (heard : Heard) (taken held : ℕ) (bytes : List ℕ)
-    → record {
-      taken = taken;
-      held = held;
-      count = heardEvent heard .count;
-      kind = heardEvent heard .kind;
-      id = heardEvent heard .id;
-      bytes = bytes;
-    }
+    → let n = stepNumbers (saidBy heard taken [] held) in
+    record { taken = taken; held = held; count = n .count; kind = n .kind; id = n .id; bytes = bytes }
     ≡ valueNumbers (saidBy heard taken bytes held)
 numbers-of (Packet id n) taken held bytes = refl
 numbers-of (BadChecksum id) taken held bytes = refl
 numbers-of Silent taken held bytes = refl
 numbers-of Refused taken held bytes = refl
 
-pub value-is : (a : Answer) (n : EventNumbers) → n ≡ heardEvent (a .heard)
+pub value-is : (a : Answer) (n : StepNumbers) → n ≡ stepNumbers (saidBy (a .heard) (a .taken) [] (a .held))
     → record { taken = a .taken; held = a .held; count = n .count; kind = n .kind; id = n .id; bytes = a .bytes }
     ≡ valueNumbers (said a)
 value-is a n i = rw i (numbers-of (a .heard) (a .taken) (a .held) (a .bytes))

@@ -1,6 +1,5 @@
 -- A reader's feeding call as numbers, for the tests: in its core, and by value.
 use mathlib.Core.Bool.{cond}
-use mathlib.Core.Option.{Option, none, some}
 use Prim.Native.Nat.{ℕ}
 use lib.Dec.{leb}
 use lib.ListN.{length}
@@ -9,10 +8,8 @@ use Rattle.framer.specs.declared.Event.{Event as Outcome}
 use Rattle.framer.specs.declared.Event.the-variants.{Packet, BadChecksum, Silent, Refused}
 use Rattle.framer.specs.declared.Step.{Step}
 use Rattle.framer.specs.Step.{eventOf, refusal}
-use Rattle.reader.specs.declared.Heard.{Heard}
-use Rattle.reader.specs.declared.Heard.the-variants.{Packet as Heard·Packet, BadChecksum as Heard·BadChecksum}
-use Rattle.reader.specs.declared.Heard.the-variants.{Silent as Heard·Silent, Refused as Heard·Refused}
-use Rattle.reader.specs.Answer.{Kind, aPacket, aBadChecksum, noEvent, Said}
+use Rattle.reader.specs.Answer.{Said}
+use Rattle.numbers.specs.Exported.{kindNumber}
 use Rattle.capi_test.specs.declared.EventNumbers.{EventNumbers}
 use Rattle.capi_test.specs.declared.CoreNumbers.{CoreNumbers}
 use Rattle.capi_test.specs.declared.ValueNumbers.{ValueNumbers}
@@ -37,19 +34,6 @@ coreNumbers step =
     record { taken = step .taken; held = step .count; count = told .count; kind = told .kind; id = told .id }
 
 -- ---- by value
-
-abbrev pub heardEvent : Heard → EventNumbers
-heardEvent (Heard·Packet id n) = record { count = n; kind = 1; id = id }
-heardEvent (Heard·BadChecksum id) = record { count = 0; kind = 2; id = id }
-heardEvent Heard·Silent = record { count = 0; kind = 0; id = 0 }
-heardEvent Heard·Refused = record { count = 0; kind = 25; id = 0 }
-
--- a refusal by its number, a packet, a bad checksum, or no event
-abbrev pub kindNumber : Option ℕ → Kind → ℕ
-kindNumber (some number) kind = number
-kindNumber none aPacket = 1
-kindNumber none aBadChecksum = 2
-kindNumber none noEvent = 0
 
 abbrev pub valueNumbers : Said → ValueNumbers
 valueNumbers s =

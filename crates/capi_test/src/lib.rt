@@ -1,7 +1,7 @@
 // Exports that only the comparison tests and the benchmark call: parts that firmware has no use for by themselves.
 use framer::Event;
 use packet::Verdict;
-use reader::Heard;
+use reader::Told;
 use stuffing::Checked;
 ghost use mathlib.Core.Path.{_≡_};
 ghost use mathlib.Core.List.{_∷_};
@@ -15,7 +15,7 @@ ghost use Rattle.packet.specs.Verdict.{verdict, lacks, answerFor, protocol2};
 ghost use Rattle.framer.specs.Step.{CoreCall};
 ghost use Rattle.reader.specs.Answer.{saidFor, leftFor};
 ghost use Rattle.capi_test.specs.Numbers.{testNumber, verdictNumbers};
-ghost use Rattle.capi_test.specs.Calls.{stepFor, coreEvent, coreNumbers, heardEvent, valueNumbers};
+ghost use Rattle.capi_test.specs.Calls.{stepFor, coreEvent, coreNumbers, valueNumbers};
 
 // A verdict as numbers. kind 0: nothing; 1: a packet of `count` bytes; 2: a bad checksum of `id`; 3: waiting for `count` bytes.
 #[repr(C)]
@@ -72,15 +72,15 @@ pub extern "C" fn dxl_test_verdict(segment: &[u8], offset: usize) -> VerdictNumb
     }
 }
 
-// An event as numbers. kind 0: no event; 1: a packet of `count` bytes; 2: a bad checksum; 25: the count of held bytes is above
-// 1,030. `id` is that of a bad checksum, and that of a packet where the call tells it.
+// The core's event as numbers. kind 0: no event; 1: a packet of `count` bytes; 2: a bad checksum; 25: the count of held bytes is
+// above 1,030. `id` is that of a bad checksum; of a packet the core tells none.
 pub struct EventNumbers {
     pub count: usize,
     pub kind: u8,
     pub id: u8,
 }
 
-fn numbers(count: usize, kind: u8, id: u8) -> EventNumbers
+fn event_numbers(count: usize, kind: u8, id: u8) -> EventNumbers
     ensures { λ r. ⌜ r ≡ record { count = count; kind = kind; id = id } ⌝ }
 {
     EventNumbers { count, kind, id }
@@ -90,21 +90,10 @@ fn core_event(event: Event) -> EventNumbers
     ensures { λ r. ⌜ r ≡ coreEvent event ⌝ }
 {
     match event {
-        Event::Packet(count) => numbers(count, 1, 0),
-        Event::BadChecksum(id) => numbers(0, 2, id),
-        Event::Silent => numbers(0, 0, 0),
-        Event::Refused => numbers(0, 25, 0),
-    }
-}
-
-fn heard_event(heard: Heard) -> EventNumbers
-    ensures { λ r. ⌜ r ≡ heardEvent heard ⌝ }
-{
-    match heard {
-        Heard::Packet { id, size } => numbers(size, 1, id),
-        Heard::BadChecksum { id } => numbers(0, 2, id),
-        Heard::Silent => numbers(0, 0, 0),
-        Heard::Refused => numbers(0, 25, 0),
+        Event::Packet(count) => event_numbers(count, 1, 0),
+        Event::BadChecksum(id) => event_numbers(0, 2, id),
+        Event::Silent => event_numbers(0, 0, 0),
+        Event::Refused => event_numbers(0, 25, 0),
     }
 }
 
@@ -164,12 +153,18 @@ pub extern "C" fn dxl_test_feed_value(
     ensures { λ _. ⌜ now (held .exit) ≡ leftFor count (now (held .entry)) (fed protocol2 (take count (now (held .entry))) (now (chunk .entry))) ⌝ }
 {
     let answer = reader::feed_value(held, count, chunk);
+    let taken = answer.taken;
+    let left = answer.held;
     let heard = answer.heard;
-    let told = heard_event(heard);
+    let told = numbers::told(Told {
+        taken,
+        held: left,
+        heard,
+    });
     let bytes = answer.bytes;
     ValueNumbers {
-        taken: answer.taken,
-        held: answer.held,
+        taken,
+        held: left,
         count: told.count,
         kind: told.kind,
         id: told.id,

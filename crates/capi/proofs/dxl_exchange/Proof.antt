@@ -1,5 +1,5 @@
 use mathlib.Core.Path.{ap₂, _∙_}
-use Rattle.capi.specs.Exported.{deviceNumbers}
+use Rattle.numbers.specs.Exported.{deviceNumbers}
 use borrow.Author.Needs.{needs}
 use Rattle.capi.proofs.dxl_exchange.Statement.{statement}
 use Rattle.capi.proofs.dxl_exchange.Tie as tie
@@ -7,8 +7,8 @@ use Rattle.capi.proofs.dxl_exchange.Tie as tie
 answer-requires : tie.Need-answer-requires
 answer-requires c κs = search needs
 
-exchange-numbers-requires : tie.Need-exchange-numbers-requires
-exchange-numbers-requires c κs = search needs
+answered-requires : tie.Need-answered-requires
+answered-requires c κs = search needs
 
 same-length : tie.Need-same-length
 same-length c = search needs
@@ -22,14 +22,14 @@ same-length-3 c = search needs
 returns : tie.Need-returns
 returns c =
     let e = c .before .before .before .before .before .before .before .answer .ensures in
-    (c .exchange-numbers .ensures ∙ ap₂ deviceNumbers (e .0) (e .1 .0), (e .1 .1 .0, e .1 .1 .1 .0, e .1 .1 .1 .1))
+    (c .answered .ensures ∙ ap₂ deviceNumbers (e .0) (e .1 .0), (e .1 .1 .0, e .1 .1 .1 .0, e .1 .1 .1 .1))
 
 pub dxl-exchange-spec : {M : Type 1} → statement M
 dxl-exchange-spec =
     tie.close
     (tie.spec
     answer-requires
-    exchange-numbers-requires
+    answered-requires
     same-length
     same-length-2
     same-length-3

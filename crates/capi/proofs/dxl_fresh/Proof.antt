@@ -1,7 +1,7 @@
 use mathlib.Core.Path.{ap, _∙_}
 use mir.Facts.{toZ-ofZ}
 use mir.Syntax.{w64}
-use Rattle.capi.specs.Exported.{exportedRefusal}
+use Rattle.numbers.specs.Exported.{exportedRefusal}
 use borrow.Author.Needs.{needs}
 use Rattle.capi.proofs.dxl_fresh.Statement.{statement}
 use Rattle.capi.proofs.dxl_fresh.Tie as tie
@@ -9,8 +9,8 @@ use Rattle.capi.proofs.dxl_fresh.Tie as tie
 fresh-requires : tie.Need-fresh-requires
 fresh-requires c κs = search needs
 
-outcome-number-requires : tie.Need-outcome-number-requires
-outcome-number-requires c κs = search needs
+outcome-requires : tie.Need-outcome-requires
+outcome-requires c κs = search needs
 
 same-length : tie.Need-same-length
 same-length c = search needs
@@ -18,9 +18,9 @@ same-length c = search needs
 returns : tie.Need-returns
 returns c =
     let e = c .before .before .before .fresh in (
-      toZ-ofZ {w = w64} (record { sfits = c .outcome-number .ok }) ∙ c .outcome-number .ensures ∙ ap exportedRefusal (e .ensures .0),
+      toZ-ofZ {w = w64} (record { sfits = c .outcome .ok }) ∙ c .outcome .ensures ∙ ap exportedRefusal (e .ensures .0),
       e .ensures .1,
     )
 
 pub dxl-fresh-spec : {M : Type 1} → statement M
-dxl-fresh-spec = tie.close (tie.spec fresh-requires outcome-number-requires same-length returns)
+dxl-fresh-spec = tie.close (tie.spec fresh-requires outcome-requires same-length returns)

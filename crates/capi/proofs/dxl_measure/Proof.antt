@@ -3,7 +3,7 @@ use mir.Facts.{toZ-ofZ}
 use mir.Syntax.{w32, w64}
 use lib.IntN.{ℤ}
 use Rattle.control_table.specs.Answers.{measureOut}
-use Rattle.capi.specs.Exported.{exportedRefusal}
+use Rattle.numbers.specs.Exported.{exportedRefusal}
 use borrow.Author.Needs.{needs}
 use Rattle.capi.proofs.dxl_measure.Statement.{statement}
 use Rattle.capi.proofs.dxl_measure.Tie as tie
@@ -11,8 +11,8 @@ use Rattle.capi.proofs.dxl_measure.Tie as tie
 measure-requires : tie.Need-measure-requires
 measure-requires c κs = search needs
 
-outcome-number-requires : tie.Need-outcome-number-requires
-outcome-number-requires c κs = search needs
+outcome-requires : tie.Need-outcome-requires
+outcome-requires c κs = search needs
 
 same-length : tie.Need-same-length
 same-length c = search needs
@@ -21,10 +21,10 @@ returns : tie.Need-returns
 returns c =
     let a = c .before .before .before .before .before .before in
     let e = c .before .before .before .measure in (
-      toZ-ofZ {w = w64} (record { sfits = c .outcome-number .ok }) ∙ c .outcome-number .ensures ∙ ap exportedRefusal (e .ensures .0),
+      toZ-ofZ {w = w64} (record { sfits = c .outcome .ok }) ∙ c .outcome .ensures ∙ ap exportedRefusal (e .ensures .0),
       e .ensures .1 ∙ ap (λ (z : ℤ). measureOut (a .args .table .now) z (a .args .hardware-error)) (toZ-ofZ {w = w32} (a .fits .position)),
     )
 
 pub dxl-measure-spec : {M : Type 1} → statement M
 dxl-measure-spec =
-    tie.close (tie.spec measure-requires outcome-number-requires same-length returns)
+    tie.close (tie.spec measure-requires outcome-requires same-length returns)

@@ -1,10 +1,10 @@
 use mathlib.Core.Path.{_≡_, sym, ap}
 use Rattle.table_rules.specs.declared.Outcome.{Outcome}
 use Rattle.table_rules.specs.Outcomes.{refusalOf}
-use Rattle.capi.specs.Exported.{exportedRefusal}
+use Rattle.numbers.specs.Exported.{exportedRefusal}
 use borrow.Author.Needs.{needs}
-use Rattle.capi.proofs.outcome_number.Statement.{statement}
-use Rattle.capi.proofs.outcome_number.Tie as tie
+use Rattle.numbers.proofs.outcome.Statement.{statement}
+use Rattle.numbers.proofs.outcome.Tie as tie
 
 enum-told : tie.Need-enum-told
 enum-told c = search needs
@@ -42,8 +42,8 @@ returns-5 c = ap (λ (o : Outcome). exportedRefusal (refusalOf o)) (sym (c .enum
 returns-6 : tie.Need-returns-6
 returns-6 c = ap (λ (o : Outcome). exportedRefusal (refusalOf o)) (sym (c .enum-told6 .given .1))
 
-pub outcome-number-spec : {M : Type 1} → statement M
-outcome-number-spec =
+pub outcome-spec : {M : Type 1} → statement M
+outcome-spec =
     tie.close
     (tie.spec
     enum-told

@@ -3,14 +3,14 @@ use mir.Syntax.{w64}
 use mathlib.Core.Path.{_≡_, sym, ap, _∙_}
 use Prim.Native.Nat.{ℕ}
 use lib.IntN.{ℤ}
-use Rattle.capi.specs.declared.DeviceNumbers.{DeviceNumbers}
+use Rattle.numbers.specs.declared.DeviceNumbers.{DeviceNumbers}
 use Rattle.device.specs.declared.Replied.{Replied}
 use Rattle.instructions.specs.declared.RegisteredWrite.{RegisteredWrite}
 use Rattle.device.specs.Answers.{repliedAnswer}
-use Rattle.capi.specs.Exported.{deviceNumbers}
+use Rattle.numbers.specs.Exported.{deviceNumbers}
 use borrow.Author.Needs.{needs}
-use Rattle.capi.proofs.device_numbers.Statement.{statement}
-use Rattle.capi.proofs.device_numbers.Tie as tie
+use Rattle.numbers.proofs.response.Statement.{statement}
+use Rattle.numbers.proofs.response.Tie as tie
 
 abbrev numbers : ℤ → ℕ → RegisteredWrite → DeviceNumbers
 numbers count slot w = record { count = count; slot = slot; registered = w }
@@ -21,8 +21,8 @@ by-case r s w e = ap (λ (x : Replied). deviceNumbers (repliedAnswer x) w) (sym 
 enum-known-replied : tie.Need-enum-known-replied
 enum-known-replied c = search needs
 
-count-number-requires : tie.Need-count-number-requires
-count-number-requires c κs = search needs
+count-requires : tie.Need-count-requires
+count-requires c κs = search needs
 
 enum-told : tie.Need-enum-told
 enum-told c = search needs
@@ -38,30 +38,30 @@ enum-told-4 c = search needs
 
 returns : tie.Need-returns
 returns c =
-    let t = c .before .before .before .before .before .args .response in
+    let t = c .before .before .before .before .before .args .answer in
     let v = c .before .before .replied .given in
     ap (λ (z : ℤ). numbers z (v .0 .1 .0) (t .registered))
-    (toZ-ofZ {w = w64} (record { sfits = c .count-number .ok }) ∙ c .count-number .ensures)
+    (toZ-ofZ {w = w64} (record { sfits = c .count .ok }) ∙ c .count .ensures)
     ∙ by-case _ _ (t .registered) (v .1)
 
 returns-2 : tie.Need-returns-2
-returns-2 c = by-case _ _ (c .before .before .before .args .response .registered) (c .enum-told .given .1)
+returns-2 c = by-case _ _ (c .before .before .before .args .answer .registered) (c .enum-told .given .1)
 
 returns-3 : tie.Need-returns-3
-returns-3 c = by-case _ _ (c .before .before .before .args .response .registered) (c .enum-told2 .given .1)
+returns-3 c = by-case _ _ (c .before .before .before .args .answer .registered) (c .enum-told2 .given .1)
 
 returns-4 : tie.Need-returns-4
-returns-4 c = by-case _ _ (c .before .before .before .args .response .registered) (c .enum-told3 .given .1)
+returns-4 c = by-case _ _ (c .before .before .before .args .answer .registered) (c .enum-told3 .given .1)
 
 returns-5 : tie.Need-returns-5
-returns-5 c = by-case _ _ (c .before .before .before .args .response .registered) (c .enum-told4 .given .1)
+returns-5 c = by-case _ _ (c .before .before .before .args .answer .registered) (c .enum-told4 .given .1)
 
-pub device-numbers-spec : {M : Type 1} → statement M
-device-numbers-spec =
+pub response-spec : {M : Type 1} → statement M
+response-spec =
     tie.close
     (tie.spec
     enum-known-replied
-    count-number-requires
+    count-requires
     enum-told
     enum-told-2
     enum-told-3

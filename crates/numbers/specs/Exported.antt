@@ -1,17 +1,13 @@
 -- Answers as C gets them: one signed 64-bit number, a count or minus the refusal number.
-use mathlib.Core.Bool.{cond, _||_}
 use mathlib.Core.Option.{Option, none, some}
 use Prim.Native.Nat.{ℕ, _-_, _^_, min}
 use lib.IntN.{ℤ, pos, negℤ}
-use lib.Dec.{eqb}
 use Rattle.lists.specs.Answer.{Answer, count, refused}
 use Rattle.reader.specs.Answer.{Kind, aPacket, aBadChecksum, noEvent, Said}
 use Rattle.device.specs.Answers.{sent, Answer as Device·Answer, refused as Device·refused}
 use Rattle.instructions.specs.declared.RegisteredWrite.{RegisteredWrite}
-use Rattle.reactions.specs.declared.Heard.{Heard}
-use Rattle.reactions.specs.declared.Heard.the-variants.{Packet, BadChecksum}
-use Rattle.capi.specs.declared.StepNumbers.{StepNumbers}
-use Rattle.capi.specs.declared.DeviceNumbers.{DeviceNumbers}
+use Rattle.numbers.specs.declared.StepNumbers.{StepNumbers}
+use Rattle.numbers.specs.declared.DeviceNumbers.{DeviceNumbers}
 
 -- a count that no 64-bit signed number holds is answered as the largest one (no buffer of a real machine is that long)
 abbrev pub exported : Answer → ℤ
@@ -33,14 +29,6 @@ kindNumber none noEvent = 0
 -- what a feeding or gap call answers beside its buffers
 abbrev pub stepNumbers : Said → StepNumbers
 stepNumbers s = record { taken = s .taken; count = s .count; kind = kindNumber (s .refusal) (s .kind); id = s .id }
-
--- what was heard by its kind: 1 is a packet, and a bad checksum has no body
-abbrev pub heardBy : ℕ → Heard
-heardBy kind = cond (eqb kind 1) Packet BadChecksum
-
--- of any other kind nothing was heard, as of what is sent to an ID that no device has
-abbrev pub idBy : ℕ → ℕ → ℕ
-idBy kind id = cond (eqb kind 1 || eqb kind 2) id 255
 
 -- the device's answer and the registered write that it leaves
 abbrev pub deviceNumbers : Device·Answer → RegisteredWrite → DeviceNumbers

@@ -5,7 +5,7 @@ use Prim.Native.Nat.{ℕ}
 use Rattle.reader.specs.declared.Heard.{Heard}
 use Rattle.reader.specs.declared.Heard.the-variants.{Packet, BadChecksum, Silent, Refused}
 use Rattle.reader.specs.Answer.{Said, saidBy}
-use Rattle.capi.specs.Exported.{stepNumbers}
+use Rattle.numbers.specs.Exported.{stepNumbers}
 
 same-numbers : (heard : Heard) (taken : ℕ) (bytes : List ℕ) (held : ℕ)
     → stepNumbers (saidBy heard taken [] held) ≡ stepNumbers (saidBy heard taken bytes held)

@@ -5,8 +5,8 @@ use lib.IntN.{pos}
 use mir.Facts.{toZ-pos}
 use mir.Syntax.{w64}
 use borrow.Author.Needs.{needs}
-use Rattle.capi.proofs.count_number.Statement.{statement}
-use Rattle.capi.proofs.count_number.Tie as tie
+use Rattle.numbers.proofs.count.Statement.{statement}
+use Rattle.numbers.proofs.count.Tie as tie
 
 cast-result : tie.Need-cast-result
 cast-result c = search needs
@@ -23,5 +23,5 @@ returns-2 c =
     let e : 9223372036854775807 ≡ min n 9223372036854775807 = omega arith in
     ap pos e
 
-pub count-number-spec : {M : Type 1} → statement M
-count-number-spec = tie.close (tie.spec cast-result returns returns-2)
+pub count-spec : {M : Type 1} → statement M
+count-spec = tie.close (tie.spec cast-result returns returns-2)

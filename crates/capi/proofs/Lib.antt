@@ -1,2 +1,0 @@
-mod Told
-mod Steps

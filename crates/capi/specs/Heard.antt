@@ -1,0 +1,14 @@
+-- What the device hears, by the kind that C gives.
+use mathlib.Core.Bool.{cond, _||_}
+use Prim.Native.Nat.{ℕ}
+use lib.Dec.{eqb}
+use Rattle.reactions.specs.declared.Heard.{Heard}
+use Rattle.reactions.specs.declared.Heard.the-variants.{Packet, BadChecksum}
+
+-- 1 is a packet, and a bad checksum has no body
+abbrev pub heardBy : ℕ → Heard
+heardBy kind = cond (eqb kind 1) Packet BadChecksum
+
+-- of a kind that is neither 1 nor 2 nothing was heard, as of what is sent to an ID that no device has
+abbrev pub idBy : ℕ → ℕ → ℕ
+idBy kind id = cond (eqb kind 1 || eqb kind 2) id 255

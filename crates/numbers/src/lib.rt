@@ -1,0 +1,176 @@
+// Answers as C gets them: each answer of a crate beneath becomes a number, or a record of numbers. A function has the name of the
+// answer that it turns.
+use device::Replied;
+use device::Response;
+use encoder::Encoded;
+use exchange::Answered;
+use exchange::Exchanged;
+use instructions::RegisteredWrite;
+use reader::Heard;
+use reader::Told;
+use stuffing::Unstuffed;
+use table_rules::Outcome;
+ghost use mathlib.Core.Path.{_≡_};
+ghost use mathlib.Core.List.{[]};
+ghost use Rattle.stuffing.specs.Answers.{unstuffedAnswer};
+ghost use Rattle.encoder.specs.Encoding.{encodedAnswer};
+ghost use Rattle.table_rules.specs.Outcomes.{refusalOf};
+ghost use Rattle.reader.specs.Answer.{saidBy};
+ghost use Rattle.device.specs.Answers.{repliedAnswer};
+ghost use Rattle.exchange.specs.Exchange.{exchangedAnswer};
+ghost use Rattle.lists.specs.Answer.{count as Answer·count};
+ghost use Rattle.numbers.specs.Exported.{exported, exportedRefusal, stepNumbers, deviceNumbers};
+
+// What a feeding or gap call answers. kind 0: no event, of a gap call: nothing is left; 1: a packet of `count` bytes; 2: a bad
+// checksum; 25: the reader's count is above 1,030. `id` is that of the packet or of the bad checksum.
+#[repr(C)]
+pub struct StepNumbers {
+    pub taken: usize,
+    pub count: usize,
+    pub kind: u8,
+    pub id: u8,
+}
+
+// What the device answers: the status's byte count, 0 for silence, or minus the number of a refusal; the reply slot; and the
+// registered write from now on.
+#[repr(C)]
+pub struct DeviceNumbers {
+    pub count: i64,
+    pub slot: usize,
+    pub registered: RegisteredWrite,
+}
+
+fn count(n: usize) -> i64
+    ensures { λ r. ⌜ r ≡ exported (Answer·count n) ⌝ }
+{
+    if n <= 9223372036854775807 {
+        n as i64
+    } else {
+        9223372036854775807
+    }
+}
+
+pub fn encoded(answer: Encoded) -> i64
+    ensures { λ r. ⌜ r ≡ exported (encodedAnswer answer) ⌝ }
+{
+    match answer {
+        Encoded::Count(n) => count(n),
+        Encoded::BadId => -11,
+        Encoded::TooLong => -12,
+        Encoded::NoRoom => -13,
+    }
+}
+
+pub fn unstuffed(answer: Unstuffed) -> i64
+    ensures { λ r. ⌜ r ≡ exported (unstuffedAnswer answer) ⌝ }
+{
+    match answer {
+        Unstuffed::Count(n) => count(n),
+        Unstuffed::BadStuffing => -14,
+        Unstuffed::NoRoom => -13,
+    }
+}
+
+pub fn outcome(answer: Outcome) -> i64
+    ensures { λ r. ⌜ r ≡ exportedRefusal (refusalOf answer) ⌝ }
+{
+    match answer {
+        Outcome::Done => 0,
+        Outcome::DataRange => -4,
+        Outcome::DataLength => -5,
+        Outcome::DataLimit => -6,
+        Outcome::NoAccess => -7,
+        Outcome::NotTable => -21,
+    }
+}
+
+// The packet's bytes are in the caller's buffer.
+pub fn told(answer: Told) -> StepNumbers
+    ensures { λ r. ⌜ r ≡ stepNumbers (saidBy (answer .heard) (answer .taken) [] (answer .held)) ⌝ }
+{
+    let taken = answer.taken;
+    let heard = answer.heard;
+    match heard {
+        Heard::Packet { id, size } => StepNumbers {
+            taken,
+            count: size,
+            kind: 1,
+            id,
+        },
+        Heard::BadChecksum { id } => StepNumbers {
+            taken,
+            count: 0,
+            kind: 2,
+            id,
+        },
+        Heard::Silent => StepNumbers {
+            taken,
+            count: 0,
+            kind: 0,
+            id: 0,
+        },
+        Heard::Refused => StepNumbers {
+            taken,
+            count: 0,
+            kind: 25,
+            id: 0,
+        },
+    }
+}
+
+pub fn response(answer: Response) -> DeviceNumbers
+    ensures { λ r. ⌜ r ≡ deviceNumbers (repliedAnswer (answer .replied)) (answer .registered) ⌝ }
+{
+    let registered = answer.registered;
+    let replied = answer.replied;
+    match replied {
+        Replied::Sent(n, slot) => DeviceNumbers {
+            count: count(n),
+            slot,
+            registered,
+        },
+        Replied::NotTable => DeviceNumbers {
+            count: -21,
+            slot: 0,
+            registered,
+        },
+        Replied::BadId => DeviceNumbers {
+            count: -22,
+            slot: 0,
+            registered,
+        },
+        Replied::BadRegistered => DeviceNumbers {
+            count: -23,
+            slot: 0,
+            registered,
+        },
+        Replied::NoRoom => DeviceNumbers {
+            count: -24,
+            slot: 0,
+            registered,
+        },
+    }
+}
+
+pub fn answered(answer: Answered) -> DeviceNumbers
+    ensures { λ r. ⌜ r ≡ deviceNumbers (exchangedAnswer (answer .exchanged)) (answer .registered) ⌝ }
+{
+    let registered = answer.registered;
+    let exchanged = answer.exchanged;
+    match exchanged {
+        Exchanged::Device(replied) => response(Response {
+            replied,
+            registered,
+        }),
+        Exchanged::BadStuffing => DeviceNumbers {
+            count: -14,
+            slot: 0,
+            registered,
+        },
+        Exchanged::NoRoom => DeviceNumbers {
+            count: -13,
+            slot: 0,
+            registered,
+        },
+    }
+}

@@ -5,14 +5,14 @@ use packet::Verdict;
 ghost use mathlib.Core.Path.{_≡_};
 ghost use mathlib.Core.List.{[], _∷_, _++_};
 ghost use mathlib.Core.Logic.{_⊎_};
-ghost use Prim.Native.Nat.{_+_, _-_, _≤_, _<_};
+ghost use Prim.Native.Nat.{_+_, _-_, _^_, _≤_, _<_};
 ghost use lib.ListN.{length, take, drop, replicate};
 ghost use Rattle.reading.specs.Reading.{closed};
 ghost use Rattle.reading.specs.Calls.{first, fed, gapped};
 ghost use Rattle.reading.specs.Progress.{afterTaking};
 ghost use Rattle.packet.specs.Verdict.{protocol2, answerFor, verdict, lacks};
-ghost use Rattle.framer.specs.Scan.{modeOf, Seen, onFrom, sizeOf, replyOf, Ends, Filled};
-ghost use Rattle.framer.specs.Step.{Replied, CoreCall};
+ghost use Rattle.framer.specs.Scan.{modeOf, Seen, onFrom, sizeOf, answerOf, replyOf, Ends, Filled};
+ghost use Rattle.framer.specs.Step.{eventOf, bytesOf, Replied, CoreCall};
 
 // What stands at the first offset that is not nothing. Waiting stands also at the end, where all has been passed.
 pub enum Sight {
@@ -221,27 +221,44 @@ fn judge_longest(held: &mut [u8], byte: u8, packet: &mut [u8]) -> Verdict
     packet::judge(packet, 0)
 }
 
+// Where reading goes on.
+fn on_from(seen: Sight) -> usize
+    requires { ⌜ onFrom seen < 2 ^ 64 ⌝ }
+    ensures { λ r. ⌜ r ≡ onFrom seen ⌝ }
+{
+    match seen {
+        Sight::Packet { at, count } => at + count,
+        Sight::BadChecksum { at, id: _ } => at + 1,
+        Sight::Waiting { at, lacks: _ } => at,
+    }
+}
+
+// The event of what was seen of the bytes src; a packet's bytes go to the packet buffer.
+fn tell(src: &[u8], seen: Sight, packet: &mut [u8]) -> Event
+    requires { ⌜ (onFrom seen ≤ length (now src)) × (sizeOf seen ≤ length (now packet)) ⌝ }
+    ensures { λ r. ⌜ r ≡ eventOf (answerOf (now (src .entry)) seen) ⌝ }
+    ensures { λ _. ⌜ take (length (bytesOf (answerOf (now (src .entry)) seen))) (now (packet .exit))
+        ≡ bytesOf (answerOf (now (src .entry)) seen) ⌝ }
+{
+    match seen {
+        Sight::Packet { at, count } => {
+            buffer::place(packet, 0, &src[at..at + count]);
+            Event::Packet(count)
+        }
+        Sight::BadChecksum { at: _, id } => Event::BadChecksum(id),
+        Sight::Waiting { at: _, lacks: _ } => Event::Silent,
+    }
+}
+
 // The event goes out, and the held bytes from where reading goes on stay.
 fn deliver(held: &mut [u8], seen: Sight, end: usize, taken: usize, packet: &mut [u8]) -> Step
     requires { ⌜ (onFrom seen ≤ end) × (end ≤ length (now held)) × (sizeOf seen ≤ length (now packet)) ⌝ }
     ensures { λ r. ⌜ Replied (replyOf (take end (now (held .entry))) taken seen) r (now (held .exit)) (now (packet .exit)) ⌝ }
 {
-    match seen {
-        Sight::Packet { at, count } => {
-            let on = at + count;
-            buffer::place(packet, 0, &held[at..on]);
-            buffer::shift(held, on, end);
-            stepped(taken, end - on, Event::Packet(count))
-        }
-        Sight::BadChecksum { at, id } => {
-            buffer::shift(held, at + 1, end);
-            stepped(taken, end - (at + 1), Event::BadChecksum(id))
-        }
-        Sight::Waiting { at, lacks: _ } => {
-            buffer::shift(held, at, end);
-            stepped(taken, end - at, Event::Silent)
-        }
-    }
+    let event = tell(&held[..end], seen, packet);
+    let on = on_from(seen);
+    buffer::shift(held, on, end);
+    stepped(taken, end - on, event)
 }
 
 // The event goes out, and the chunk's bytes from where reading goes on are held.
@@ -250,23 +267,10 @@ fn deliver_chunk(held: &mut [u8], chunk: &[u8], seen: Sight, end: usize, packet:
         × (sizeOf seen ≤ length (now packet)) ⌝ }
     ensures { λ r. ⌜ Replied (replyOf (take end (now (chunk .entry))) end seen) r (now (held .exit)) (now (packet .exit)) ⌝ }
 {
-    match seen {
-        Sight::Packet { at, count } => {
-            let on = at + count;
-            buffer::place(packet, 0, &chunk[at..on]);
-            buffer::place(held, 0, &chunk[on..end]);
-            stepped(end, end - on, Event::Packet(count))
-        }
-        Sight::BadChecksum { at, id } => {
-            let on = at + 1;
-            buffer::place(held, 0, &chunk[on..end]);
-            stepped(end, end - on, Event::BadChecksum(id))
-        }
-        Sight::Waiting { at, lacks: _ } => {
-            buffer::place(held, 0, &chunk[at..end]);
-            stepped(end, end - at, Event::Silent)
-        }
-    }
+    let event = tell(&chunk[..end], seen, packet);
+    let on = on_from(seen);
+    buffer::place(held, 0, &chunk[on..end]);
+    stepped(end, end - on, event)
 }
 
 // The chunk's bytes from `from` on, where none are held.

@@ -1,20 +1,10 @@
-use mathlib.Core.Path.{sym}
-use lib.Seq.{length-take-le}
 use borrow.Author.Needs.{needs}
 use Rattle.framer.proofs.Replies.{replied}
 use Rattle.framer.proofs.deliver.Statement.{statement}
 use Rattle.framer.proofs.deliver.Tie as tie
 
-slice-reshare-prefix-tell : tie.Need-slice-reshare-prefix-tell
-slice-reshare-prefix-tell c = search needs
-
-slice-aggregate-tell : tie.Need-slice-aggregate-tell
-slice-aggregate-tell c = sym (length-take-le _ _ (search needs))
-
 tell-requires : tie.Need-tell-requires
-tell-requires c κs =
-    let s = c .before .before .before .before in
-    (rw (length-take-le (s .args .end) (s .args .held .now) (s .pre .1)) (s .pre .0), s .pre .2)
+tell-requires c κs = search needs
 
 on-from-requires : tie.Need-on-from-requires
 on-from-requires c κs = search needs
@@ -45,8 +35,6 @@ pub deliver-spec : {M : Type 1} → statement M
 deliver-spec =
     tie.close
     (tie.spec
-    slice-reshare-prefix-tell
-    slice-aggregate-tell
     tell-requires
     on-from-requires
     shift-requires

@@ -1,17 +1,10 @@
-use mathlib.Core.Path.{sym}
-use lib.Seq.{length-take-le}
 use borrow.Author.Needs.{needs}
 use Rattle.framer.proofs.Replies.{replied}
 use Rattle.framer.proofs.deliver_chunk.Statement.{statement}
 use Rattle.framer.proofs.deliver_chunk.Tie as tie
 
-slice-aggregate-tell : tie.Need-slice-aggregate-tell
-slice-aggregate-tell c = sym (length-take-le _ _ (search needs))
-
 tell-requires : tie.Need-tell-requires
-tell-requires c κs =
-    let s = c .before .before .before .before .before in
-    (rw (length-take-le (s .args .end) (s .args .chunk .now) (s .pre .1)) (s .pre .0), s .pre .3)
+tell-requires c κs = search needs
 
 on-from-requires : tie.Need-on-from-requires
 on-from-requires c κs = search needs
@@ -42,7 +35,7 @@ same-length-2 c = search needs
 
 returns : tie.Need-returns
 returns c =
-    let s = c .before .before .before .before .before .before .before .before .before .before .before .before .before .before .before in
+    let s = c .before .before .before .before .before .before .before .before .before .before .before .before .before .before in
     let t = c .before .before .before .before .before .before .before .before .before .tell .ensures in
     replied (s .args .chunk .now) _ _ _ _ _ _ (s .args .seen) _ _ (c .stepped .ensures) (c .before .before .before .before .before .before .on-from .ensures) (s .pre .0)
     (s .pre .1) (t .0) (t .1) (c .before .before .before .place .ensures)
@@ -51,7 +44,6 @@ pub deliver-chunk-spec : {M : Type 1} → statement M
 deliver-chunk-spec =
     tie.close
     (tie.spec
-    slice-aggregate-tell
     tell-requires
     on-from-requires
     sub-place

@@ -2,7 +2,7 @@ use native.Mathlib.Omega.{arith}
 use lib.ListN.{length, length-take}
 use Prim.Native.Nat.{_+_, _≤_}
 use borrow.Author.Needs.{needs}
-use Rattle.framer.proofs.Replies.{on-packet, size-packet, told-packet, told-bad, told-silent}
+use Rattle.framer.proofs.Replies.{on-packet, size-packet, told-packet, told-bad}
 use Rattle.framer.proofs.tell.Statement.{statement}
 use Rattle.framer.proofs.tell.Tie as tie
 

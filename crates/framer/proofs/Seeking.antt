@@ -3,7 +3,6 @@
 use mathlib.Core.Path.{_≡_, refl, sym, ap, _∙_}
 use mathlib.Core.List.{List, []}
 use mathlib.Core.Logic.{_⊎_, inl, inr}
-use mathlib.Core.Option.{none}
 use Prim.Native.Nat.{ℕ, _+_, _-_, _≤_, _<_}
 use native.Mathlib.Omega.{arith}
 use lib.ListN.{length, take, drop, length-take, length-drop}
@@ -11,12 +10,12 @@ use lib.Seq.{drop-drop, take-all}
 use Rattle.reading.specs.Rules.{Rules, Laws, isPacket, isBadChecksum, isWaiting, isNothing}
 use Rattle.reading.specs.Rules.{Verdict as Ruling}
 use Rattle.reading.specs.Reading.{open′}
-use Rattle.reading.specs.Calls.{first, Reply, fed}
+use Rattle.reading.specs.Calls.{first}
 use Rattle.reading.specs.Progress.{Reached, Settles}
 use Rattle.reading.proofs.Progress.{reached-end}
 use Rattle.reading.proofs.Ahead.{Ahead, ahead-start, ahead-next, ahead-reached, ahead-verdict, ahead-first, ahead-whole, ahead-silent}
 use Rattle.framer.specs.declared.Sight.the-variants.{Packet, BadChecksum, Waiting}
-use Rattle.framer.specs.Scan.{Ends, replyOf}
+use Rattle.framer.specs.Scan.{Ends}
 use Rattle.framer.proofs.Parts.{part-is}
 use Rattle.framer.proofs.Scans.{scan-packet, scan-bad}
 use Rattle.framer.proofs.Windows.{ends-decided}

@@ -4,11 +4,12 @@ use mathlib.Core.List.{List, [], _∷_, _++_}
 use mathlib.Core.Option.{some}
 use Prim.Native.Nat.{ℕ, suc, _+_, _-_, _≤_, _<_}
 use native.Mathlib.Omega.{arith}
-use lib.ListN.{length, take, drop, getD, length-append, length-take, length-drop}
+use lib.ListN.{length, take, drop, getD, length-append, length-drop}
 use lib.Seq.{length-take-le, take-all, drop-cons, drop-drop, drop-length}
 use Rattle.reading.specs.Rules.{Rules, Laws, isPacket, isBadChecksum, isWaiting, isNothing}
+use Rattle.reading.specs.Rules.{Verdict as Ruling}
 use Rattle.reading.specs.Reading.{packet, badChecksum, open′, closed}
-use Rattle.reading.specs.Calls.{event, silent, first, Reply, fed, gapped, feed, call}
+use Rattle.reading.specs.Calls.{event, first, Reply, fed, gapped, feed, call}
 use Rattle.reading.specs.Progress.{afterTaking, Reached}
 use Rattle.reading.proofs.Fewest.{same-reply}
 use Rattle.reading.proofs.Held.{held-bound}
@@ -67,29 +68,22 @@ module _ (R : Rules) (L : Laws R) where
   gap-decided s (BadChecksum at id) w d = (d .fits, omega arith, ap gapped (d .first-is))
   gap-decided s (Waiting at k) w d = absurd (w at k refl)
 
-  -- ---- why the held bytes stopped
+  -- ---- how the held bytes stopped
 
-  module _ (most : ℕ) (h c s : List ℕ) (n : ℕ) (v : Sight) (stop : Stop) (f : Filled R most h c s n v stop) where
-    pub filled-done : stop ≡ Done → Ends R h c s n v
-    filled-done e = rw e at f
+  module _ (h chunk : List ℕ) (from : ℕ) (held : List ℕ) (stop : Stop) (f : Filled R h chunk from held stop) where
+    pub filled-done : (v : Sight) (end n : ℕ) → stop ≡ Done v end n → Filled R h chunk from held (Done v end n)
+    filled-done v end n e = rw e at f
 
-    pub filled-passed : stop ≡ Passed → Reached R h c [] n
-    filled-passed e = rw e at f
+    pub filled-passed : (n : ℕ) → stop ≡ Passed n → Filled R h chunk from held (Passed n)
+    filled-passed n e = rw e at f
 
-    pub filled-full : stop ≡ Full → (k : ℕ) × Stops R h c s n 0 k × (length s ≡ most) × (n < length c)
-    filled-full e = rw e at f
-
-  -- all of a full buffer is held, and there is a byte more
-  pub full-all : (end m : ℕ) (held : List ℕ) → length (take end held) ≡ m → length held ≡ m → take end held ≡ held
-  full-all end m held e l = take-all end held (omega (arith, e ∙ sym l, length-take end held))
-
-  pub full-here : (taken next : ℕ) (c : List ℕ) → taken ≤ next → next - taken < length (drop taken c) → next < length c
-  full-here taken next c h l = omega (arith, length-drop taken c)
+    pub filled-full : (n : ℕ) → stop ≡ Full n → Filled R h chunk from held (Full n)
+    filled-full n e = rw e at f
 
   -- ---- a full buffer and one byte more
 
-  module _ (h₀ c₀ h held s : List ℕ) (taken next k : ℕ) (a : Reached R h₀ c₀ h taken)
-      (w : Stops R h (drop taken c₀) s (next - taken) 0 k) (is : s ≡ held) (start : taken ≤ next) (here : next < length c₀)
+  module _ (h₀ c₀ h held : List ℕ) (taken next k : ℕ) (a : Reached R h₀ c₀ h taken)
+      (w : Stops R h (drop taken c₀) held (next - taken) 0 k) (start : taken ≤ next) (here : next < length c₀)
       (full : R .longest ≡ length held + 1) where
     abbrev more : List ℕ
     more = held ++ getD c₀ next 0 ∷ []
@@ -105,17 +99,14 @@ module _ (R : Rules) (L : Laws R) where
         ap (λ (l : List ℕ). take 1 l) (drop-drop (next - taken) taken c₀ ∙ ap (λ (n : ℕ). drop n c₀) z
         ∙ drop-cons c₀ next 0 here) in
         let t =
-        stops-take R L h (drop taken c₀) s more (next - taken) 0 k 1 0 w (w .patient .some) (simp length-drop (omega arith))
-        (rw (is, one)) in
+        stops-take R L h (drop taken c₀) held more (next - taken) 0 k 1 0 w (w .patient .some) (simp length-drop (omega arith))
+        (rw one) in
         rw y at (reached-more R h₀ c₀ h more taken (next - taken + 1) a t)
-
-    silent-so-far : first R open′ held ≡ silent held
-    silent-so-far = rw is at (w .waits)
 
     pub full-packet : (n : ℕ) (r : Step) (held′ bytes : List ℕ) → R .verdict more ≡ isPacket n
         → r ≡ record { taken = next + 1; count = 0; event = Gave·Packet n } → bytes ≡ more → Replied (fed R h₀ c₀) r held′ bytes
     full-packet n r held′ bytes e i j =
-        let m : n ≡ suc (length held) = last-byte R L held held (getD c₀ next 0) n silent-so-far e in
+        let m : n ≡ suc (length held) = last-byte R L held held (getD c₀ next 0) n (w .waits) e in
         let l : n ≡ length more = omega (arith, more-length) in
         let all : take n more ≡ more = take-all n more (omega arith) in
         let end : drop n more ≡ [] = ap (λ (n : ℕ). drop n more) l ∙ drop-length more in
@@ -146,13 +137,17 @@ module _ (R : Rules) (L : Laws R) where
           bytes-are = refl;
         })
 
-    pub full-nothing : (n : ℕ) (held′ : List ℕ) → R .verdict more ≡ isNothing → n ≡ length held → held′ ≡ drop 1 more
+    -- neither: it is too long to wait, so that nothing begins with its first byte
+    pub full-other : (n : ℕ) (held′ : List ℕ) → ((size : ℕ) → R .verdict more ≡ isPacket size → ⊥)
+        → ((id : ℕ) → R .verdict more ≡ isBadChecksum id → ⊥) → n ≡ length held → held′ ≡ drop 1 more
         → Reached R h₀ c₀ (take n held′) (next + 1)
-    full-nothing n held′ e m j =
-        let l : length (drop 1 more) ≡ n = length-drop 1 more ∙ omega (arith, more-length) in
-        let all : take n (drop 1 more) ≡ drop 1 more = take-all n (drop 1 more) (omega arith) in
-        rw (j, all) (reached-nothing R L h₀ c₀ more (next + 1) (omega (arith, more-length)) e more-reached)
-
-    -- it is too long to wait
-    pub full-waits : R .verdict more ≡ isWaiting → ⊥
-    full-waits e = omega (arith, L .room more e, L .lacking more e, more-length)
+    full-other n held′ p q m j = by (R .verdict more) refl
+      where
+        by : (v : Ruling) → R .verdict more ≡ v → Reached R h₀ c₀ (take n held′) (next + 1)
+        by (isPacket size) e = absurd (p size e)
+        by (isBadChecksum id) e = absurd (q id e)
+        by isWaiting e = absurd (omega (arith, L .room more e, L .lacking more e, more-length))
+        by isNothing e =
+            let l : length (drop 1 more) ≡ n = length-drop 1 more ∙ omega (arith, more-length) in
+            let all : take n (drop 1 more) ≡ drop 1 more = take-all n (drop 1 more) (omega arith) in
+            rw (j, all) (reached-nothing R L h₀ c₀ more (next + 1) (omega (arith, more-length)) e more-reached)

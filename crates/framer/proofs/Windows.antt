@@ -5,25 +5,20 @@ use mathlib.Core.Option.{some}
 use Prim.Native.Nat.{ℕ, zero, suc, _+_, _-_, _≤_, _<_}
 use native.Mathlib.Omega.{arith}
 use lib.ListN.{length, take, drop, length-take, length-drop, drop-of-length-le}
-use lib.Seq.{length-take-le, drop-drop}
-use lib.Seq.{slice-empty}
-use Rattle.reading.specs.Rules.{Rules, Laws, isWaiting}
+use lib.Seq.{length-take-le, take-all, drop-drop}
+use Rattle.reading.specs.Rules.{Rules, Laws}
 use Rattle.reading.specs.Reading.{Event, packet, badChecksum, open′}
 use Rattle.reading.specs.Calls.{fed}
 use Rattle.reading.specs.Progress.{Reached}
-use Rattle.reading.proofs.Progress.{first-none, silent-again, reached-start, reached-past, reached-event, reached-end}
-use Rattle.reading.proofs.Progress.{reached-take, waiting-patient}
+use Rattle.reading.proofs.Progress.{silent-again, reached-start, reached-past, reached-event, reached-end}
+use Rattle.reading.proofs.Progress.{reached-take}
 use Rattle.framer.specs.declared.Sight.{Sight}
 use Rattle.framer.specs.declared.Sight.the-variants.{Packet, BadChecksum, Waiting}
 use Rattle.framer.specs.Scan.{Decides, Waits, Seen, Ends, Stops}
-use Rattle.framer.proofs.Parts.{part-more}
 
 pub not-none : (n : ℕ) → (n ≡ 0 → ⊥) → 0 < n
 not-none zero h = absurd (h refl)
 not-none (suc n) h = omega arith
-
-pub some-left : (n k : ℕ) → n < k → 0 < k - n
-some-left n k h = omega arith
 
 -- ---- the call's way
 
@@ -70,78 +65,35 @@ module _ (R : Rules) (L : Laws R) (h c : List ℕ) where
         fed-is = rw e (reached-end R h c (drop at s) (drop at s) (rw e at (w .reached)) (w .waits));
       }
 
--- ---- taking bytes of the chunk into the held ones: the window from `at` up to `end` of a buffer of `most` bytes
+-- ---- taking bytes of the chunk into the held ones: those from `at` up to `end` of a buffer of `most` bytes are to be looked at
 
-pub record Waited (R : Rules) (h chunk : List ℕ) (from most : ℕ) (held : List ℕ) (taken at end k : ℕ) : Type 0 where
+pub record Filling (R : Rules) (h chunk : List ℕ) (from most : ℕ) (held : List ℕ) (taken at end : ℕ) : Type 0 where
   pub started : from ≤ taken
   pub taken-within : taken ≤ length chunk
   pub ordered : at ≤ end
   pub within : end ≤ most
   pub size : length held ≡ most
-  pub stops : Stops R h (drop from chunk) (take end held) (taken - from) at k
+  pub reached : Reached R h (drop from chunk) (drop at (take end held)) (taken - from)
 
 module _ (R : Rules) (L : Laws R) (chunk : List ℕ) (from most : ℕ) where
-  pub waited-start : (held : List ℕ) (count at k : ℕ) → from ≤ length chunk → count ≤ length held → length held ≡ most
-      → Waits R open′ (take count held) 0 at k → Waited R (take count held) chunk from most held from at count k
-  waited-start held count at k f h s w =
+  pub filling-start : (held : List ℕ) (count : ℕ) → from ≤ length chunk → count ≤ length held → length held ≡ most
+      → Filling R (take count held) chunk from most held from 0 count
+  filling-start held count f h s =
       let z : from - from ≡ 0 = omega arith in
-      let i = w .fits in
       record {
         started = omega arith;
         taken-within = f;
-        ordered = omega (arith, length-take-le count held h);
+        ordered = omega arith;
         within = omega arith;
         size = s;
-        stops =
-            rw z
-            (stops-seen R L (take count held) (drop from chunk) (take count held) 0 0 at k
-            (reached-start R (take count held) (drop from chunk)) w);
+        reached = rw z (reached-start R (take count held) (drop from chunk));
       }
 
-  -- the held bytes decide an event before any is taken
-  pub ends-start : (h : List ℕ) (v : Sight) → ((at k : ℕ) → v ≡ Waiting at k → ⊥) → Seen R open′ h 0 v
-      → Ends R h (drop from chunk) h (from - from) v
-  ends-start h v n d =
+  -- none are held
+  pub filling-none : (held : List ℕ) (count : ℕ) → count ≡ 0 → Reached R (take count held) (drop from chunk) [] (from - from)
+  filling-none held count e =
       let z : from - from ≡ 0 = omega arith in
-      rw z (ends-decided R L h (drop from chunk) h 0 0 v n d (reached-start R h (drop from chunk)))
-
-  -- no more is taken
-  module _ (h held : List ℕ) (taken at end k : ℕ) (w : Waited R h chunk from most held taken at end k) where
-    whole : length (take end held) ≡ end
-    whole =
-        let i = w .within in
-        let s = w .size in
-        length-take-le end held (omega arith)
-
-    pub waited-end : length chunk ≤ taken → Ends R h (drop from chunk) (take end held) (taken - from) (Waiting at k)
-    waited-end l =
-        let i = w .taken-within in
-        ends-stopped R L h (drop from chunk) (take end held) (taken - from) at k (w .stops) (simp length-drop (omega arith))
-
-    pub waited-passed : end - at ≡ 0 → Reached R h (drop from chunk) [] (taken - from)
-    waited-passed l =
-        let i = w .ordered in
-        let z : drop at (take end held) ≡ [] = drop-of-length-le (take end held) {i = at} (omega (arith, whole)) in
-        rw z at (w .stops .reached)
-
-    pub waited-full : length held - (end - at) ≡ 0 → taken < length chunk
-        → (j : ℕ) × Stops R h (drop from chunk) (take end held) (taken - from) 0 j × (length (take end held) ≡ most)
-        × (taken - from < length (drop from chunk))
-    waited-full l t =
-        let i = w .within in
-        let s = w .size in
-        let b = w .started in
-        let z : at ≡ 0 = omega arith in
-        (k, rw z at (w .stops), whole ∙ omega arith, simp length-drop (omega arith))
-
-    -- there is room for m bytes more
-    pub waited-room : (m : ℕ) → m ≤ length held - (end - at)
-        → (at ≤ end) × (end ≤ length held) × (end - at + length (take (taken + m - taken) (drop taken chunk)) ≤ length held)
-    waited-room m l =
-        let i = w .ordered in
-        let j = w .within in
-        let s = w .size in
-        (i, omega arith, simp length-take (omega arith))
+      rw (e, z) (reached-start R [] (drop from chunk))
 
   pub part-length : (taken m : ℕ) → taken + m ≤ length chunk → length (take (taken + m - taken) (drop taken chunk)) ≡ m
   part-length taken m h =
@@ -156,43 +108,86 @@ module _ (R : Rules) (L : Laws R) (chunk : List ℕ) (from most : ℕ) where
       → r + waiting + length (take (taken + m - taken) (drop taken chunk)) ≤ n → r + waiting + m ≤ most
   room-behind r waiting n m taken t e h = omega (arith, part-length taken m t)
 
-  module _ (h held held′ : List ℕ) (taken at end k m r : ℕ) (w : Waited R h chunk from most held taken at end k) (l : m ≤ k)
-      (t : taken + m ≤ length chunk) (fits : r + (end - at) + m ≤ most) (same : length held′ ≡ length held)
-      (is : drop r (take (r + (end - at) + length (take (taken + m - taken) (drop taken chunk))) held′)
-      ≡ drop at (take end held) ++ take (taken + m - taken) (drop taken chunk)) where
-    waited-take : Reached R h (drop from chunk) (drop r (take (r + (end - at) + m) held′)) (taken + m - from)
-    waited-take =
-        let s = w .started in
-        let i : taken + m - taken ≡ m = omega arith in
-        let b = part-length taken m t in
-        let z : taken - from + m ≡ taken + m - from = omega arith in
-        let e : from + (taken - from) ≡ taken = omega arith in
-        rw (← z)
-        (stops-take R L h (drop from chunk) (take end held) (take (r + (end - at) + m) held′) (taken - from) at k m r
-        (w .stops) l
-        (simp length-drop (omega arith))
-        (ap (λ (n : ℕ). drop r (take (r + (end - at) + n) held′)) (sym b) ∙ is
-        ∙ ap (λ (n : ℕ). drop at (take end held) ++ take n (drop taken chunk)) i
-        ∙ ap (λ (u : List ℕ). drop at (take end held) ++ take m u)
-        (ap (λ (n : ℕ). drop n chunk) (sym e) ∙ sym (drop-drop (taken - from) from chunk))))
+  module _ (h held : List ℕ) (taken at end : ℕ) (w : Filling R h chunk from most held taken at end) where
+    pub filling-fits : end ≤ length held
+    filling-fits =
+        let i = w .within in
+        let s = w .size in
+        omega arith
 
-    pub waited-next : (at′ k′ : ℕ) → Waits R open′ (take (r + (end - at) + m) held′) r at′ k′
-        → Waited R h chunk from most held′ (taken + m) at′ (r + (end - at) + m) k′
-    waited-next at′ k′ v =
-        let s = w .started in
-        let z = w .size in
-        let f = v .fits in
-        record {
-          started = omega arith;
-          taken-within = t;
-          ordered = omega (arith, length-take-le (r + (end - at) + m) held′ (omega arith));
-          within = fits;
-          size = omega arith;
-          stops =
-              stops-seen R L h (drop from chunk) (take (r + (end - at) + m) held′) (taken + m - from) r at′ k′ waited-take v;
-        }
+    whole : length (take end held) ≡ end
+    whole = length-take-le end held filling-fits
 
-    pub waited-decided : (v : Sight) → ((at k : ℕ) → v ≡ Waiting at k → ⊥) → Seen R open′ (take (r + (end - at) + m) held′) r v
-        → Ends R h (drop from chunk) (take (r + (end - at) + m) held′) (taken + m - from) v
-    waited-decided v n d =
-        ends-decided R L h (drop from chunk) (take (r + (end - at) + m) held′) (taken + m - from) r v n d waited-take
+    pub filling-ordered : at ≤ length (take end held)
+    filling-ordered = let i = w .ordered in omega (arith, whole)
+
+    -- they decide an event
+    pub filling-decided : (v : Sight) → ((at k : ℕ) → v ≡ Waiting at k → ⊥) → Seen R open′ (take end held) at v
+        → Ends R h (drop from chunk) (take end held) (taken - from) v
+    filling-decided v n d = ends-decided R L h (drop from chunk) (take end held) (taken - from) at v n d (w .reached)
+
+    -- they wait, and the window begins at `start`
+    module _ (start k : ℕ) (v : Waits R open′ (take end held) at start k) where
+      pub window-fits : start ≤ end
+      window-fits = let i = v .fits in omega (arith, whole)
+
+      window : Stops R h (drop from chunk) (take end held) (taken - from) start k
+      window = stops-seen R L h (drop from chunk) (take end held) (taken - from) at start k (w .reached) v
+
+      pub window-end : length chunk - taken ≡ 0 → Ends R h (drop from chunk) (take end held) (taken - from) (Waiting start k)
+      window-end l =
+          let i = w .taken-within in
+          ends-stopped R L h (drop from chunk) (take end held) (taken - from) start k window (simp length-drop (omega arith))
+
+      pub window-passed : end - start ≡ 0 → Reached R h (drop from chunk) [] (taken - from)
+      window-passed l =
+          let z : drop start (take end held) ≡ [] =
+          drop-of-length-le (take end held) {i = start} (omega (arith, whole, window-fits)) in
+          rw z at (window .reached)
+
+      pub window-full : length held - (end - start) ≡ 0 → 0 < length chunk - taken
+          → (taken < length chunk) × ((j : ℕ) × Stops R h (drop from chunk) held (taken - from) 0 j)
+      window-full l t =
+          let i = w .within in
+          let s = w .size in
+          let z : start ≡ 0 = omega (arith, window-fits) in
+          let all : take end held ≡ held = take-all end held (omega arith) in
+          (omega arith, (k, rw (z, all) at window))
+
+      -- there is room for m bytes more
+      pub window-room : (m : ℕ) → m ≤ length held - (end - start)
+          → (start ≤ end) × (end ≤ length held)
+          × (end - start + length (take (taken + m - taken) (drop taken chunk)) ≤ length held)
+      window-room m l =
+          let j = w .within in
+          let s = w .size in
+          (window-fits, omega arith, simp length-take (omega arith))
+
+      -- and it has taken them
+      pub window-more : (held′ : List ℕ) (m r : ℕ) → m ≤ k → taken + m ≤ length chunk → r + (end - start) + m ≤ most
+          → length held′ ≡ length held
+          → drop r (take (r + (end - start) + length (take (taken + m - taken) (drop taken chunk))) held′)
+          ≡ drop start (take end held) ++ take (taken + m - taken) (drop taken chunk)
+          → Filling R h chunk from most held′ (taken + m) r (r + (end - start) + m)
+      window-more held′ m r l t fits same is =
+          let b = w .started in
+          let n = w .size in
+          let i : taken + m - taken ≡ m = omega arith in
+          let z : taken - from + m ≡ taken + m - from = omega arith in
+          let e : from + (taken - from) ≡ taken = omega arith in
+          record {
+            started = omega arith;
+            taken-within = t;
+            ordered = omega arith;
+            within = fits;
+            size = omega arith;
+            reached =
+                rw (← z)
+                (stops-take R L h (drop from chunk) (take end held) (take (r + (end - start) + m) held′) (taken - from) start k m r
+                window l
+                (simp length-drop (omega arith))
+                (ap (λ (n : ℕ). drop r (take (r + (end - start) + n) held′)) (sym (part-length taken m t)) ∙ is
+                ∙ ap (λ (n : ℕ). drop start (take end held) ++ take n (drop taken chunk)) i
+                ∙ ap (λ (u : List ℕ). drop start (take end held) ++ take m u)
+                (ap (λ (n : ℕ). drop n chunk) (sym e) ∙ sym (drop-drop (taken - from) from chunk))));
+          }

@@ -72,9 +72,11 @@ pub record Stops (R : Rules) (h c s : List ℕ) (n at k : ℕ) : Type 0 where
   pub waits : first R open′ (drop at s) ≡ silent (drop at s)
   pub patient : Patient R (drop at s) k
 
--- A feeding call on its way, n bytes taken, the held bytes s in a buffer of `most`: it is done; or they have all been passed;
--- or they fill the buffer, and the next byte of the chunk c decides.
-abbrev pub Filled : Rules → ℕ → List ℕ → List ℕ → List ℕ → ℕ → Sight → Stop → Type 0
-Filled R most h c s n v Done = Ends R h c s n v
-Filled R most h c s n v Passed = Reached R h c [] n
-Filled R most h c s n v Full = (k : ℕ) × Stops R h c s n 0 k × (length s ≡ most) × (n < length c)
+-- What a feeding call with the chunk's bytes from `from` on has come to on a reader that holds h, the buffer then being `held`:
+-- it is done; or the held bytes have all been passed; or they fill the buffer, and the next byte of the chunk decides.
+abbrev pub Filled : Rules → List ℕ → List ℕ → ℕ → List ℕ → Stop → Type 0
+Filled R h chunk from held (Done v end n) = (from ≤ n) × (end ≤ length held)
+    × Ends R h (drop from chunk) (take end held) (n - from) v
+Filled R h chunk from held (Passed n) = (from ≤ n) × (n ≤ length chunk) × Reached R h (drop from chunk) [] (n - from)
+Filled R h chunk from held (Full n) = (from ≤ n) × (n < length chunk)
+    × ((k : ℕ) × Stops R h (drop from chunk) held (n - from) 0 k)

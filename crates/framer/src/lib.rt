@@ -5,14 +5,14 @@ use packet::Verdict;
 ghost use mathlib.Core.Path.{_≡_};
 ghost use mathlib.Core.List.{[], _∷_, _++_};
 ghost use mathlib.Core.Logic.{_⊎_};
-ghost use Prim.Native.Nat.{_+_, _-_, _≤_, _<_};
+ghost use Prim.Native.Nat.{_+_, _-_, _^_, _≤_, _<_};
 ghost use lib.ListN.{length, take, drop, replicate};
 ghost use Rattle.reading.specs.Reading.{closed};
 ghost use Rattle.reading.specs.Calls.{first, fed, gapped};
 ghost use Rattle.reading.specs.Progress.{afterTaking};
 ghost use Rattle.packet.specs.Verdict.{protocol2, answerFor, verdict, lacks};
-ghost use Rattle.framer.specs.Scan.{modeOf, Seen, onFrom, sizeOf, replyOf, Ends, Filled};
-ghost use Rattle.framer.specs.Step.{Replied, CoreCall};
+ghost use Rattle.framer.specs.Scan.{modeOf, Seen, onFrom, sizeOf, answerOf, replyOf, Ends, Filled};
+ghost use Rattle.framer.specs.Step.{eventOf, bytesOf, Replied, CoreCall};
 
 // What stands at the first offset that is not nothing. Waiting stands also at the end, where all has been passed.
 pub enum Sight {
@@ -21,19 +21,26 @@ pub enum Sight {
     Waiting { at: usize, lacks: usize },
 }
 
-// Why a feeding call stops at a window: it is done, or all held bytes have been passed, or they fill their buffer.
-pub enum Stop {
-    Done,
-    Passed,
-    Full,
-}
-
-// What was seen of a segment up to its end, how many bytes of the chunk were taken by then, and why no more.
+// What was seen of a segment up to its end.
 pub struct Window {
     pub seen: Sight,
     pub end: usize,
-    pub taken: usize,
-    pub stop: Stop,
+}
+
+// How held bytes stop, so many bytes of the chunk taken: with what was seen of them up to their end; or all of them have been
+// passed; or they wait and fill their buffer.
+pub enum Stop {
+    Done {
+        seen: Sight,
+        end: usize,
+        taken: usize,
+    },
+    Passed {
+        taken: usize,
+    },
+    Full {
+        taken: usize,
+    },
 }
 
 // What a call of the core gives: a packet of so many bytes, a bad checksum with its ID, no event (of a gap call: nothing is
@@ -100,15 +107,10 @@ fn scan(s: &[u8], from: usize, live: bool) -> Sight
     Sight::Waiting { at, lacks: 1 }
 }
 
-fn windowed(seen: Sight, end: usize, taken: usize, stop: Stop) -> Window
-    ensures { λ r. ⌜ r ≡ record { seen = seen; end = end; taken = taken; stop = stop } ⌝ }
+fn windowed(seen: Sight, end: usize) -> Window
+    ensures { λ r. ⌜ r ≡ record { seen = seen; end = end } ⌝ }
 {
-    Window {
-        seen,
-        end,
-        taken,
-        stop,
-    }
+    Window { seen, end }
 }
 
 // The chunk's bytes from `from` on, where none are held. Each offset is judged once, by all the bytes that follow; what is taken
@@ -122,25 +124,23 @@ fn advance(chunk: &[u8], from: usize) -> Window
     let mut end = from;
     while at < chunk.len() {
         match packet::judge(chunk, at) {
-            Verdict::Packet(count) => {
-                let last = greatest(end, at + count);
-                return windowed(Sight::Packet { at, count }, last, last, Stop::Done);
-            }
+            Verdict::Packet(count) => return windowed(
+                Sight::Packet { at, count },
+                greatest(end, at + count),
+            ),
             Verdict::BadChecksum(id) => {
-                let last = greatest(end, at + packet::settled(chunk, at));
-                return windowed(Sight::BadChecksum { at, id }, last, last, Stop::Done);
+                return windowed(
+                    Sight::BadChecksum { at, id },
+                    greatest(end, at + packet::settled(chunk, at)),
+                );
             }
-            Verdict::Waiting(lacks) => {
-                let all = chunk.len();
-                return windowed(Sight::Waiting { at, lacks }, all, all, Stop::Done);
-            }
+            Verdict::Waiting(lacks) => return windowed(Sight::Waiting { at, lacks }, chunk.len()),
             Verdict::Nothing => {}
         }
         end = greatest(end, at + packet::settled(chunk, at));
         at += 1;
     }
-    let all = chunk.len();
-    windowed(Sight::Waiting { at, lacks: 1 }, all, all, Stop::Done)
+    windowed(Sight::Waiting { at, lacks: 1 }, chunk.len())
 }
 
 // More bytes behind the window from `at` to `end`, which moves to the start where there is no room behind it. The answer is
@@ -161,49 +161,38 @@ fn append(held: &mut [u8], at: usize, end: usize, bytes: &[u8]) -> usize
 }
 
 // The held bytes, and where they wait as many of the chunk's, from `from` on, as they wait for, as far as there is room.
-fn fill(held: &mut [u8], count: usize, chunk: &[u8], from: usize) -> Window
+fn fill(held: &mut [u8], count: usize, chunk: &[u8], from: usize) -> Stop
     requires { ⌜ (count ≤ length (now held)) × (from ≤ length (now chunk)) ⌝ }
-    ensures { λ r. ⌜ (from ≤ r .taken) × (r .taken ≤ length (now (chunk .entry))) × (r .end ≤ length (now (held .entry)))
-        × Filled protocol2 (length (now (held .entry))) (take count (now (held .entry))) (drop from (now (chunk .entry)))
-        (take (r .end) (now (held .exit))) (r .taken - from) (r .seen) (r .stop) ⌝ }
+    ensures { λ r. ⌜ Filled protocol2 (take count (now (held .entry))) (now (chunk .entry)) from (now (held .exit)) r ⌝ }
 {
-    let first = scan(&held[..count], 0, true);
-    let Sight::Waiting {
-        at: start,
-        lacks: wanted,
-    } = first
-    else {
-        return windowed(first, count, from, Stop::Done);
-    };
-    let mut at = start;
-    let mut lacks = wanted;
+    if count == 0 {
+        return Stop::Passed { taken: from };
+    }
+    let mut at = 0;
     let mut end = count;
     let mut taken = from;
-    while taken < chunk.len() {
-        let waiting = end - at;
+    loop {
+        let seen = scan(&held[..end], at, true);
+        let Sight::Waiting { at: start, lacks } = seen else {
+            return Stop::Done { seen, end, taken };
+        };
+        let left = chunk.len() - taken;
+        if left == 0 {
+            return Stop::Done { seen, end, taken };
+        }
+        let waiting = end - start;
         if waiting == 0 {
-            return windowed(Sight::Waiting { at, lacks }, end, taken, Stop::Passed);
+            return Stop::Passed { taken };
         }
         let room = held.len() - waiting;
         if room == 0 {
-            return windowed(Sight::Waiting { at, lacks }, end, taken, Stop::Full);
+            return Stop::Full { taken };
         }
-        let more = least(least(lacks, room), chunk.len() - taken);
-        let moved = append(held, at, end, &chunk[taken..taken + more]);
-        end = moved + waiting + more;
+        let more = least(least(lacks, room), left);
+        at = append(held, start, end, &chunk[taken..taken + more]);
+        end = at + waiting + more;
         taken += more;
-        let seen = scan(&held[..end], moved, true);
-        let Sight::Waiting {
-            at: next,
-            lacks: still,
-        } = seen
-        else {
-            return windowed(seen, end, taken, Stop::Done);
-        };
-        at = next;
-        lacks = still;
     }
-    windowed(Sight::Waiting { at, lacks }, end, taken, Stop::Done)
 }
 
 // The window fills its buffer: with one byte more it is judged in the packet buffer. All of it but its first byte stays held.
@@ -221,27 +210,44 @@ fn judge_longest(held: &mut [u8], byte: u8, packet: &mut [u8]) -> Verdict
     packet::judge(packet, 0)
 }
 
+// Where reading goes on.
+fn on_from(seen: Sight) -> usize
+    requires { ⌜ onFrom seen < 2 ^ 64 ⌝ }
+    ensures { λ r. ⌜ r ≡ onFrom seen ⌝ }
+{
+    match seen {
+        Sight::Packet { at, count } => at + count,
+        Sight::BadChecksum { at, id: _ } => at + 1,
+        Sight::Waiting { at, lacks: _ } => at,
+    }
+}
+
+// The event of what was seen of the bytes src; a packet's bytes go to the packet buffer.
+fn tell(src: &[u8], seen: Sight, packet: &mut [u8]) -> Event
+    requires { ⌜ (onFrom seen ≤ length (now src)) × (sizeOf seen ≤ length (now packet)) ⌝ }
+    ensures { λ r. ⌜ r ≡ eventOf (answerOf (now (src .entry)) seen) ⌝ }
+    ensures { λ _. ⌜ take (length (bytesOf (answerOf (now (src .entry)) seen))) (now (packet .exit))
+        ≡ bytesOf (answerOf (now (src .entry)) seen) ⌝ }
+{
+    match seen {
+        Sight::Packet { at, count } => {
+            buffer::place(packet, 0, &src[at..at + count]);
+            Event::Packet(count)
+        }
+        Sight::BadChecksum { at: _, id } => Event::BadChecksum(id),
+        Sight::Waiting { at: _, lacks: _ } => Event::Silent,
+    }
+}
+
 // The event goes out, and the held bytes from where reading goes on stay.
 fn deliver(held: &mut [u8], seen: Sight, end: usize, taken: usize, packet: &mut [u8]) -> Step
     requires { ⌜ (onFrom seen ≤ end) × (end ≤ length (now held)) × (sizeOf seen ≤ length (now packet)) ⌝ }
     ensures { λ r. ⌜ Replied (replyOf (take end (now (held .entry))) taken seen) r (now (held .exit)) (now (packet .exit)) ⌝ }
 {
-    match seen {
-        Sight::Packet { at, count } => {
-            let on = at + count;
-            buffer::place(packet, 0, &held[at..on]);
-            buffer::shift(held, on, end);
-            stepped(taken, end - on, Event::Packet(count))
-        }
-        Sight::BadChecksum { at, id } => {
-            buffer::shift(held, at + 1, end);
-            stepped(taken, end - (at + 1), Event::BadChecksum(id))
-        }
-        Sight::Waiting { at, lacks: _ } => {
-            buffer::shift(held, at, end);
-            stepped(taken, end - at, Event::Silent)
-        }
-    }
+    let event = tell(held, seen, packet);
+    let on = on_from(seen);
+    buffer::shift(held, on, end);
+    stepped(taken, end - on, event)
 }
 
 // The event goes out, and the chunk's bytes from where reading goes on are held.
@@ -250,23 +256,10 @@ fn deliver_chunk(held: &mut [u8], chunk: &[u8], seen: Sight, end: usize, packet:
         × (sizeOf seen ≤ length (now packet)) ⌝ }
     ensures { λ r. ⌜ Replied (replyOf (take end (now (chunk .entry))) end seen) r (now (held .exit)) (now (packet .exit)) ⌝ }
 {
-    match seen {
-        Sight::Packet { at, count } => {
-            let on = at + count;
-            buffer::place(packet, 0, &chunk[at..on]);
-            buffer::place(held, 0, &chunk[on..end]);
-            stepped(end, end - on, Event::Packet(count))
-        }
-        Sight::BadChecksum { at, id } => {
-            let on = at + 1;
-            buffer::place(held, 0, &chunk[on..end]);
-            stepped(end, end - on, Event::BadChecksum(id))
-        }
-        Sight::Waiting { at, lacks: _ } => {
-            buffer::place(held, 0, &chunk[at..end]);
-            stepped(end, end - at, Event::Silent)
-        }
-    }
+    let event = tell(chunk, seen, packet);
+    let on = on_from(seen);
+    buffer::place(held, 0, &chunk[on..end]);
+    stepped(end, end - on, event)
 }
 
 // The chunk's bytes from `from` on, where none are held.
@@ -289,35 +282,26 @@ fn feed_slices(held: &mut [u8], count: usize, chunk: &[u8], packet: &mut [u8]) -
     let mut n = count;
     let mut taken = 0;
     loop {
-        let w = fill(held, n, chunk, taken);
-        let seen = w.seen;
-        let stop = w.stop;
-        let next = w.taken;
-        match stop {
-            Stop::Done => return deliver(held, seen, w.end, next, packet),
-            Stop::Passed => return read_chunk(held, chunk, next, packet),
-            Stop::Full => {}
+        match fill(held, n, chunk, taken) {
+            Stop::Done {
+                seen,
+                end,
+                taken: all,
+            } => return deliver(held, seen, end, all, packet),
+            Stop::Passed { taken: next } => return read_chunk(held, chunk, next, packet),
+            Stop::Full { taken: next } => {
+                taken = next;
+            }
         }
+        let byte = chunk[taken];
+        taken += 1;
         n = held.len();
-        taken = next + 1;
-        match judge_longest(held, chunk[next], packet) {
+        match judge_longest(held, byte, packet) {
             Verdict::Packet(size) => return stepped(taken, 0, Event::Packet(size)),
             Verdict::BadChecksum(id) => return stepped(taken, n, Event::BadChecksum(id)),
-            Verdict::Waiting(_) => {}
-            Verdict::Nothing => {}
+            _ => {}
         }
     }
-}
-
-// Where nothing is held, the chunk is read where it lies.
-fn read_on(held: &mut [u8], count: usize, chunk: &[u8], packet: &mut [u8]) -> Step
-    requires { ⌜ (count ≤ 1030) × (length (now held) ≡ 1030) × (length (now packet) ≡ 1031) ⌝ }
-    ensures { λ r. ⌜ Replied (fed protocol2 (take count (now (held .entry))) (now (chunk .entry))) r (now (held .exit)) (now (packet .exit)) ⌝ }
-{
-    if count == 0 {
-        return read_chunk(held, chunk, 0, packet);
-    }
-    feed_slices(held, count, chunk, packet)
 }
 
 // All bytes from `from` on become 0.
@@ -339,7 +323,7 @@ pub fn feed_in(held: &mut [u8; 1030], count: usize, chunk: &[u8], packet: &mut [
     if 1030 < count {
         return stepped(0, count, Event::Refused);
     }
-    let done = read_on(held, count, chunk, packet);
+    let done = feed_slices(held, count, chunk, packet);
     clear(held, done.count);
     done
 }

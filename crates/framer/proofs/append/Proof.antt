@@ -1,5 +1,4 @@
 use Rattle.framer.proofs.Parts.{append-behind, append-moved}
-use Prim.Native.Nat.{_-_}
 use borrow.Author.Needs.{needs}
 use Rattle.framer.proofs.append.Statement.{statement}
 use Rattle.framer.proofs.append.Tie as tie

@@ -3,7 +3,6 @@ use Rattle.packet.specs.Verdict.{protocol2}
 use Rattle.packet.proofs.Laws.{laws}
 use Rattle.framer.proofs.Core.{held-fits, core-cleared, core-refused, gap-room}
 use mathlib.Core.Path.{_≡_}
-use Prim.Native.Nat.{_-_}
 use lib.ListN.{length, take}
 use borrow.Author.Needs.{needs}
 use Rattle.framer.proofs.gap_in.Statement.{statement}

@@ -6,7 +6,6 @@ use lib.Seq.{length-take-le}
 use types.Run.{miss}
 use mathlib.Core.List.{[], _∷_}
 use mathlib.Core.Path.{sym}
-use Prim.Native.Nat.{_-_}
 use borrow.Author.Needs.{needs}
 use Rattle.framer.proofs.gap_slices.Statement.{statement}
 use Rattle.framer.proofs.gap_slices.Tie as tie

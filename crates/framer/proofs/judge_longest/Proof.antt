@@ -3,7 +3,7 @@ use Rattle.packet.specs.Verdict.{answerFor, verdict, lacks}
 use mathlib.Core.List.{List}
 use Rattle.framer.proofs.Buffers.{longest-placed, longest-held}
 use mathlib.Core.Path.{refl, sym, ap, _∙_}
-use Prim.Native.Nat.{ℕ, _-_}
+use Prim.Native.Nat.{ℕ}
 use lib.ListN.{length}
 use borrow.Author.Needs.{needs}
 use Rattle.framer.proofs.judge_longest.Statement.{statement}

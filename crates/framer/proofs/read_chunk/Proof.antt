@@ -1,7 +1,6 @@
 use Rattle.packet.specs.Verdict.{protocol2}
 use Rattle.packet.proofs.Laws.{laws}
 use Rattle.framer.proofs.Turns.{room-for, ends-on, ends-left, ends-after}
-use Prim.Native.Nat.{_-_}
 use borrow.Author.Needs.{needs}
 use Rattle.framer.proofs.read_chunk.Statement.{statement}
 use Rattle.framer.proofs.read_chunk.Tie as tie

@@ -6,9 +6,9 @@ use native.Mathlib.Decide.{decLe}
 use native.Mathlib.Omega.{arith}
 use borrow.Author.Tests.{le-leb, lt-leb}
 use Rattle.reading.specs.Calls.{Reply}
-use Rattle.framer.specs.declared.Event.{Event as Outcome}
-use Rattle.framer.specs.declared.Step.{Step}
-use Rattle.framer.specs.Step.{CoreCall}
+use Rattle.delivery.specs.declared.Event.{Event as Outcome}
+use Rattle.delivery.specs.declared.Step.{Step}
+use Rattle.framer.specs.Core.{CoreCall}
 use Rattle.reader.specs.declared.Heard.{Heard}
 use Rattle.reader.specs.declared.Heard.the-variants.{Packet, BadChecksum, Silent, Refused}
 use Rattle.reader.specs.declared.Answer.{Answer}

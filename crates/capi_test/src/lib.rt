@@ -1,5 +1,5 @@
 // Exports that only the comparison tests and the benchmark call: parts that firmware has no use for by themselves.
-use framer::Event;
+use delivery::Event;
 use packet::Verdict;
 use reader::Told;
 use stuffing::Checked;
@@ -12,7 +12,7 @@ ghost use Rattle.stuffing.specs.Stuffing.{stuff};
 ghost use Rattle.stuffing.specs.Answers.{checked};
 ghost use Rattle.reading.specs.Calls.{fed};
 ghost use Rattle.packet.specs.Verdict.{verdict, lacks, answerFor, protocol2};
-ghost use Rattle.framer.specs.Step.{CoreCall};
+ghost use Rattle.framer.specs.Core.{CoreCall};
 ghost use Rattle.reader.specs.Answer.{saidFor, leftFor};
 ghost use Rattle.capi_test.specs.Numbers.{testNumber, verdictNumbers};
 ghost use Rattle.capi_test.specs.Calls.{stepFor, coreEvent, coreNumbers, valueNumbers};

@@ -1,8 +1,2 @@
-pub mod Buffers
-pub mod Parts
-pub mod Scans
-pub mod Windows
-mod Seeking
-pub mod Replies
 pub mod Turns
 pub mod Core

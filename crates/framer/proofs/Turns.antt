@@ -14,15 +14,15 @@ use Rattle.reading.specs.Progress.{afterTaking, Reached}
 use Rattle.reading.proofs.Fewest.{same-reply}
 use Rattle.reading.proofs.Held.{held-bound}
 use Rattle.reading.proofs.Progress.{first-at, last-byte, reached-more, reached-event, reached-nothing}
-use Rattle.framer.specs.declared.Sight.{Sight}
-use Rattle.framer.specs.declared.Sight.the-variants.{Packet, BadChecksum, Waiting}
-use Rattle.framer.specs.declared.Stop.{Stop}
-use Rattle.framer.specs.declared.Stop.the-variants.{Done, Passed, Full}
-use Rattle.framer.specs.declared.Step.{Step}
-use Rattle.framer.specs.declared.Event.the-variants.{Packet as Gave·Packet, BadChecksum as Gave·BadChecksum}
-use Rattle.framer.specs.Scan.{onFrom, sizeOf, Seen, replyOf, Ends, Stops, Filled}
-use Rattle.framer.specs.Step.{Replied}
-use Rattle.framer.proofs.Windows.{stops-take}
+use Rattle.windows.specs.declared.Sight.{Sight}
+use Rattle.windows.specs.declared.Sight.the-variants.{Packet, BadChecksum, Waiting}
+use Rattle.windows.specs.declared.Stop.{Stop}
+use Rattle.windows.specs.declared.Stop.the-variants.{Done, Passed, Full}
+use Rattle.delivery.specs.declared.Step.{Step}
+use Rattle.delivery.specs.declared.Event.the-variants.{Packet as Gave·Packet, BadChecksum as Gave·BadChecksum}
+use Rattle.windows.specs.Scan.{onFrom, sizeOf, Seen, replyOf, Ends, Stops, Filled}
+use Rattle.delivery.specs.Step.{Replied}
+use Rattle.windows.proofs.Windows.{stops-take}
 
 pub room-for : (n m k : ℕ) → n ≤ m → k ≡ m → n ≤ k
 room-for n m k h e = rw e h

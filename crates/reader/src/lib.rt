@@ -1,6 +1,6 @@
 // The streaming reader of Protocol 2.0: bytes go in as they come, in chunks of any size, and events come out. The work is done
 // in place by `framer`; here its answers get the packet's bytes, and the record gets its life.
-use framer::Event;
+use delivery::Event;
 ghost use mathlib.Core.Path.{_≡_};
 ghost use Prim.Native.Nat.{_<_};
 ghost use lib.ListN.{length, take, getD};
@@ -78,7 +78,7 @@ pub fn feed_value(held: &mut [u8; 1030], count: usize, chunk: &[u8]) -> Answer
     let mut bytes = [0u8; 1031];
     let done = framer::feed_in(held, count, chunk, &mut bytes);
     let event = done.event;
-    framer::clear(&mut bytes, size_of(event));
+    buffers::clear(&mut bytes, size_of(event));
     let heard = hear(event, &bytes);
     Answer {
         taken: done.taken,
@@ -96,7 +96,7 @@ pub fn gap_value(held: &mut [u8; 1030], count: usize) -> Answer
     let mut bytes = [0u8; 1031];
     let done = framer::gap_in(held, count, &mut bytes);
     let event = done.event;
-    framer::clear(&mut bytes, size_of(event));
+    buffers::clear(&mut bytes, size_of(event));
     let heard = hear(event, &bytes);
     Answer {
         taken: done.taken,
@@ -122,7 +122,7 @@ pub fn feed_into(held: &mut [u8; 1030], count: usize, chunk: &[u8], packet: &mut
     }
     let done = framer::feed_in(held, count, chunk, packet);
     let event = done.event;
-    framer::clear(packet, size_of(event));
+    buffers::clear(packet, size_of(event));
     let heard = hear(event, packet);
     Told {
         taken: done.taken,
@@ -146,7 +146,7 @@ pub fn gap_into(held: &mut [u8; 1030], count: usize, packet: &mut [u8; 1031]) ->
     }
     let done = framer::gap_in(held, count, packet);
     let event = done.event;
-    framer::clear(packet, size_of(event));
+    buffers::clear(packet, size_of(event));
     let heard = hear(event, packet);
     Told {
         taken: done.taken,

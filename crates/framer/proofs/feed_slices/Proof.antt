@@ -6,9 +6,9 @@ use Rattle.reading.specs.Progress.{Reached}
 use Rattle.reading.proofs.Progress.{reached-start}
 use Rattle.packet.specs.Verdict.{protocol2}
 use Rattle.packet.proofs.Laws.{laws}
-use Rattle.framer.specs.declared.Stop.the-variants.{Full}
-use Rattle.framer.specs.Scan.{Filled}
-use Rattle.framer.proofs.Scans.{was-packet, was-bad}
+use Rattle.windows.specs.declared.Stop.the-variants.{Full}
+use Rattle.windows.specs.Scan.{Filled}
+use Rattle.windows.proofs.Scans.{was-packet, was-bad}
 use Rattle.framer.proofs.Turns.{room-for, ends-on, ends-fed, passed-fed, filled-done, filled-passed, filled-full}
 use Rattle.framer.proofs.Turns.{full-packet, full-bad, full-other}
 use mathlib.Core.Path.{_≡_, refl, sym, ap, _∙_}

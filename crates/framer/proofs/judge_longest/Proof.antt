@@ -1,7 +1,7 @@
 use lib.Seq.{length-take-le}
 use Rattle.packet.specs.Verdict.{answerFor, verdict, lacks}
 use mathlib.Core.List.{List}
-use Rattle.framer.proofs.Buffers.{longest-placed, longest-held}
+use Rattle.buffers.proofs.Buffers.{longest-placed, longest-held}
 use mathlib.Core.Path.{refl, sym, ap, _∙_}
 use Prim.Native.Nat.{ℕ}
 use lib.ListN.{length}

@@ -1,0 +1,62 @@
+// Bytes moved within and between buffers. Inside the reader: its callers are held to what the functions require.
+ghost use mathlib.Core.Path.{_≡_};
+ghost use mathlib.Core.List.{_++_};
+ghost use Prim.Native.Nat.{_+_, _-_, _≤_};
+ghost use lib.ListN.{length, take, drop, replicate};
+ghost use Rattle.lists.specs.Write.{overwritten, placed};
+
+// The bytes of src go to buffer from `at` on.
+pub fn place(buffer: &mut [u8], at: usize, src: &[u8])
+    requires { ⌜ at + length (now src) ≤ length (now buffer) ⌝ }
+    ensures { λ _. ⌜ now (buffer .exit) ≡ placed (now (buffer .entry)) at (now (src .entry)) ⌝ }
+{
+    let mut i = 0;
+    while i < src.len() {
+        buffer[at + i] = src[i];
+        i += 1;
+    }
+}
+
+// The bytes from `from` up to `end` go to the start, unless they stand there already.
+pub fn shift(buffer: &mut [u8], from: usize, end: usize)
+    requires { ⌜ (from ≤ end) × (end ≤ length (now buffer)) ⌝ }
+    ensures { λ _. ⌜ now (buffer .exit) ≡ overwritten (now (buffer .entry)) (take (end - from) (drop from (now (buffer .entry)))) ⌝ }
+{
+    if from == 0 {
+        return;
+    }
+    let mut i = 0;
+    while i < end - from {
+        let b = buffer[from + i];
+        buffer[i] = b;
+        i += 1;
+    }
+}
+
+// More bytes behind the window from `at` to `end`, which moves to the start where there is no room behind it. The answer is
+// where the window begins then.
+pub fn append(held: &mut [u8], at: usize, end: usize, bytes: &[u8]) -> usize
+    requires { ⌜ (at ≤ end) × (end ≤ length (now held)) × (end - at + length (now bytes) ≤ length (now held)) ⌝ }
+    ensures { λ r. ⌜ (r ≤ at) × (r + (end - at) + length (now (bytes .entry)) ≤ length (now (held .entry)))
+        × (drop r (take (r + (end - at) + length (now (bytes .entry))) (now (held .exit)))
+        ≡ drop at (take end (now (held .entry))) ++ now (bytes .entry)) ⌝ }
+{
+    if bytes.len() <= held.len() - end {
+        place(held, end, bytes);
+        return at;
+    }
+    shift(held, at, end);
+    place(held, end - at, bytes);
+    0
+}
+
+// All bytes from `from` on become 0.
+pub fn clear(buffer: &mut [u8], from: usize)
+    ensures { λ _. ⌜ now (buffer .exit) ≡ take from (now (buffer .entry)) ++ replicate (length (now (buffer .entry)) - from) 0 ⌝ }
+{
+    let mut i = from;
+    while i < buffer.len() {
+        buffer[i] = 0;
+        i += 1;
+    }
+}

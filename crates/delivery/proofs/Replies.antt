@@ -1,0 +1,81 @@
+-- A step says what the reply says, once the event's bytes and the held ones stand in their buffers.
+use mathlib.Core.Path.{_≡_, refl, sym, ap, _∙_}
+use mathlib.Core.List.{List}
+use mathlib.Core.Option.{some}
+use Prim.Native.Nat.{ℕ, _+_, _-_, _≤_}
+use native.Mathlib.Omega.{arith}
+use lib.ListN.{length, take, drop, length-drop}
+use lib.Seq.{length-take-le, take-at, take-take}
+use Rattle.lists.specs.Write.{overwritten}
+use Rattle.reading.specs.Reading.{packet}
+use Rattle.delivery.specs.declared.Event.{Event as Outcome}
+use Rattle.delivery.specs.declared.Event.the-variants.{Packet, BadChecksum, Silent}
+use Rattle.windows.specs.declared.Sight.{Sight}
+use Rattle.windows.specs.declared.Sight.the-variants.{Packet as Seen·Packet, BadChecksum as Seen·BadChecksum}
+use Rattle.windows.specs.declared.Sight.the-variants.{Waiting as Seen·Waiting}
+use Rattle.delivery.specs.declared.Step.{Step}
+use Rattle.windows.specs.Scan.{onFrom, sizeOf, answerOf, replyOf}
+use Rattle.delivery.specs.Step.{eventOf, bytesOf, Replied}
+use Rattle.buffers.proofs.Parts.{part-is}
+
+-- ---- where reading goes on, and the packet's bytes
+
+module _ (v : Sight) (most : ℕ) where
+  pub on-packet : (at n : ℕ) → v ≡ Seen·Packet at n → onFrom v ≤ most → at + n ≤ most
+  on-packet at n e h = rw e at h
+
+  pub size-packet : (at n : ℕ) → v ≡ Seen·Packet at n → sizeOf v ≤ most → n ≤ most
+  size-packet at n e h = rw e at h
+
+-- what is placed at the start stands there
+pub front : (old new buffer : List ℕ) (n : ℕ) → buffer ≡ overwritten old new → length new ≡ n → take n buffer ≡ new
+front old new buffer n e l = ap (λ (b : List ℕ). take n b) e ∙ take-at new (drop (length new) old) n l
+
+-- ---- the event
+
+module _ (src : List ℕ) (v : Sight) (bytes : List ℕ) where
+  abbrev Told : Outcome → Type 0
+  Told e = (e ≡ eventOf (answerOf src v)) × (take (length (bytesOf (answerOf src v))) bytes ≡ bytesOf (answerOf src v))
+
+  pub told-packet : (old : List ℕ) (at n : ℕ) → v ≡ Seen·Packet at n → at + n ≤ length src
+      → bytes ≡ overwritten old (take (at + n - at) (drop at src)) → Told (Packet n)
+  told-packet old at n i h b =
+      let z : at + n - at ≡ n = omega arith in
+      let l : length (take n (drop at src)) ≡ n = length-take-le n (drop at src) (simp length-drop (omega arith)) in
+      rw i (
+        ap Packet (sym l),
+        front old (take n (drop at src)) bytes (length (take n (drop at src)))
+            (b ∙ ap (λ (k : ℕ). overwritten old (take k (drop at src))) z) refl,
+      )
+
+  pub told-bad : (at id : ℕ) → v ≡ Seen·BadChecksum at id → Told (BadChecksum id)
+  told-bad at id i = rw i (refl, refl)
+
+-- ---- the step: the bytes of src from where reading goes on up to `end` are held
+
+-- bytes behind what was seen do not count
+answer-within : (src : List ℕ) (end : ℕ) (v : Sight) → onFrom v ≤ end → end ≤ length src
+    → answerOf (take end src) v ≡ answerOf src v
+answer-within src end (Seen·Packet at n) h k =
+    ap (λ (w : List ℕ). some (packet w))
+    (ap (λ (l : List ℕ). take n l) (sym (part-is at end src (omega arith) (omega arith)))
+    ∙ take-take n (end - at) (drop at src) (omega arith))
+answer-within src end (Seen·BadChecksum at id) h k = refl
+answer-within src end (Seen·Waiting at n) h k = refl
+
+pub replied : (src old held bytes : List ℕ) (end taken on : ℕ) (v : Sight) (event : Outcome) (r : Step)
+    → r ≡ record { taken = taken; count = end - on; event = event } → on ≡ onFrom v → onFrom v ≤ end → end ≤ length src
+    → event ≡ eventOf (answerOf src v) → take (length (bytesOf (answerOf src v))) bytes ≡ bytesOf (answerOf src v)
+    → held ≡ overwritten old (take (end - on) (drop on src)) → Replied (replyOf (take end src) taken v) r held bytes
+replied src old held bytes end taken on v event r i o h k e b s =
+    let p = part-is (onFrom v) end src h (omega arith) in
+    let n : length (take (end - onFrom v) (drop (onFrom v) src)) ≡ end - onFrom v =
+    length-take-le (end - onFrom v) (drop (onFrom v) src) (simp length-drop (omega arith)) in
+    rw (i, answer-within src end v h k)
+    (record {
+      taken-is = refl;
+      event-is = e;
+      count-is = rw o (sym (ap length (sym p) ∙ n));
+      held-is = rw o (front old (take (end - onFrom v) (drop (onFrom v) src)) held (end - onFrom v) (rw o at s) n ∙ p);
+      bytes-are = b;
+    })

@@ -1,0 +1,75 @@
+use native.Mathlib.Omega.{arith}
+use lib.ListN.{length, length-take}
+use Prim.Native.Nat.{_+_, _≤_}
+use borrow.Author.Needs.{needs}
+use Rattle.delivery.proofs.Replies.{on-packet, size-packet, told-packet, told-bad}
+use Rattle.delivery.proofs.tell.Statement.{statement}
+use Rattle.delivery.proofs.tell.Tie as tie
+
+-- what the call requires, where a packet was seen
+module _ (g : tie.After-seen) where
+  abbrev s : tie.Start
+  s = g .before .before .before .before
+
+  on : g .seen .given .0 .0 + g .seen .given .0 .1 .0 ≤ length (s .args .src .now)
+  on = on-packet (s .args .seen) _ _ _ (g .seen .given .1) (s .pre .0)
+
+  size : g .seen .given .0 .1 .0 ≤ length (s .args .packet .now)
+  size = size-packet (s .args .seen) _ _ _ (g .seen .given .1) (s .pre .1)
+
+enum-known-seen : tie.Need-enum-known-seen
+enum-known-seen c = search needs
+
+add-place : tie.Need-add-place
+add-place c = omega (arith, on (c .before .before))
+
+sub-place : tie.Need-sub-place
+sub-place c = search needs
+
+part-place-start : tie.Need-part-place-start
+part-place-start c = search needs
+
+part-place-end : tie.Need-part-place-end
+part-place-end c = on (c .before .before)
+
+place-requires : tie.Need-place-requires
+place-requires c κs =
+    let l = size (c .before .before .before) in
+    simp length-take (omega arith)
+
+enum-known-seen-2 : tie.Need-enum-known-seen-2
+enum-known-seen-2 c = search needs
+
+enum-told : tie.Need-enum-told
+enum-told c = search needs
+
+same-length : tie.Need-same-length
+same-length c = search needs
+
+returns : tie.Need-returns
+returns c =
+    let g = c .before .before .before .before .before .before in
+    told-packet _ (s g .args .seen) _ _ _ _ (g .seen .given .1) (on g) (c .before .before .place .ensures)
+
+returns-2 : tie.Need-returns-2
+returns-2 c = told-bad _ (c .before .before .before .before .before .args .seen) _ _ _ (c .before .seen2 .given .1)
+
+returns-3 : tie.Need-returns-3
+returns-3 c = search needs
+
+pub tell-spec : {M : Type 1} → statement M
+tell-spec =
+    tie.close
+    (tie.spec
+    enum-known-seen
+    add-place
+    sub-place
+    part-place-start
+    part-place-end
+    place-requires
+    enum-known-seen-2
+    enum-told
+    same-length
+    returns
+    returns-2
+    returns-3)

@@ -1,0 +1,193 @@
+-- How far a feeding call has come, by what was seen of its window: one turn of the loops that take bytes, and their end.
+use mathlib.Core.Path.{_≡_, refl, sym, ap, _∙_}
+use mathlib.Core.List.{List, [], _++_}
+use mathlib.Core.Option.{some}
+use Prim.Native.Nat.{ℕ, zero, suc, _+_, _-_, _≤_, _<_}
+use native.Mathlib.Omega.{arith}
+use lib.ListN.{length, take, drop, length-take, length-drop, drop-of-length-le}
+use lib.Seq.{length-take-le, take-all, drop-drop}
+use Rattle.reading.specs.Rules.{Rules, Laws}
+use Rattle.reading.specs.Reading.{Event, packet, badChecksum, open′}
+use Rattle.reading.specs.Calls.{fed}
+use Rattle.reading.specs.Progress.{Reached}
+use Rattle.reading.proofs.Progress.{silent-again, reached-start, reached-past, reached-event, reached-end}
+use Rattle.reading.proofs.Progress.{reached-take}
+use Rattle.windows.specs.declared.Sight.{Sight}
+use Rattle.windows.specs.declared.Sight.the-variants.{Packet, BadChecksum, Waiting}
+use Rattle.windows.specs.Scan.{Decides, Waits, Seen, Ends, Stops}
+
+pub not-none : (n : ℕ) → (n ≡ 0 → ⊥) → 0 < n
+not-none zero h = absurd (h refl)
+not-none (suc n) h = omega arith
+
+-- ---- the call's way
+
+module _ (R : Rules) (L : Laws R) (h c : List ℕ) where
+  ends-event : (s : List ℕ) (n from at on : ℕ) (e : Event) → Reached R h c (drop from s) n → Decides R open′ s from at on e
+      → fed R h c ≡ record { taken = n; answer = some e; held = drop on s }
+  ends-event s n from at on e r d = reached-event R h c (drop from s) (drop on s) n e r (d .first-is)
+
+  pub ends-decided : (s : List ℕ) (n from : ℕ) (v : Sight) → ((at k : ℕ) → v ≡ Waiting at k → ⊥) → Seen R open′ s from v
+      → Reached R h c (drop from s) n → Ends R h c s n v
+  ends-decided s n from (Packet at k) w d r =
+      record {
+        fits = d .fits;
+        short = omega (arith, d .short);
+        fed-is = ends-event s n from at (at + k) (packet (take k (drop at s))) r d;
+      }
+  ends-decided s n from (BadChecksum at id) w d r =
+      record { fits = d .fits; short = omega arith; fed-is = ends-event s n from at (at + 1) (badChecksum id) r d }
+  ends-decided s n from (Waiting at k) w d r = absurd (w at k refl)
+
+  -- a waiting window, and the offsets before it dropped
+  pub stops-seen : (s : List ℕ) (n from at k : ℕ) → Reached R h c (drop from s) n → Waits R open′ s from at k
+      → Stops R h c s n at k
+  stops-seen s n from at k r w =
+      record {
+        fits = w .fits;
+        reached = reached-past R L h c (drop from s) (drop at s) n r (w .first-is);
+        waits = silent-again R L (drop from s) (drop at s) (w .first-is);
+        patient = w .patient;
+      }
+
+  -- the window takes bytes that it waits for
+  pub stops-take : (s s′ : List ℕ) (n at k m from : ℕ) → Stops R h c s n at k → m ≤ k → n + m ≤ length c
+      → drop from s′ ≡ drop at s ++ take m (drop n c) → Reached R h c (drop from s′) (n + m)
+  stops-take s s′ n at k m from w l fits e =
+      rw e (reached-take R h c (drop at s) n m k (w .reached) (w .patient) l fits)
+
+  -- all of the chunk is taken
+  pub ends-stopped : (s : List ℕ) (n at k : ℕ) → Stops R h c s n at k → n ≡ length c → Ends R h c s n (Waiting at k)
+  ends-stopped s n at k w e =
+      record {
+        fits = w .fits;
+        short = omega arith;
+        fed-is = rw e (reached-end R h c (drop at s) (drop at s) (rw e at (w .reached)) (w .waits));
+      }
+
+-- ---- taking bytes of the chunk into the held ones: those from `at` up to `end` of a buffer of `most` bytes are to be looked at
+
+pub record Filling (R : Rules) (h chunk : List ℕ) (from most : ℕ) (held : List ℕ) (taken at end : ℕ) : Type 0 where
+  pub started : from ≤ taken
+  pub taken-within : taken ≤ length chunk
+  pub ordered : at ≤ end
+  pub within : end ≤ most
+  pub size : length held ≡ most
+  pub reached : Reached R h (drop from chunk) (drop at (take end held)) (taken - from)
+
+module _ (R : Rules) (L : Laws R) (chunk : List ℕ) (from most : ℕ) where
+  pub filling-start : (held : List ℕ) (count : ℕ) → from ≤ length chunk → count ≤ length held → length held ≡ most
+      → Filling R (take count held) chunk from most held from 0 count
+  filling-start held count f h s =
+      let z : from - from ≡ 0 = omega arith in
+      record {
+        started = omega arith;
+        taken-within = f;
+        ordered = omega arith;
+        within = omega arith;
+        size = s;
+        reached = rw z (reached-start R (take count held) (drop from chunk));
+      }
+
+  -- none are held
+  pub filling-none : (held : List ℕ) (count : ℕ) → count ≡ 0 → Reached R (take count held) (drop from chunk) [] (from - from)
+  filling-none held count e =
+      let z : from - from ≡ 0 = omega arith in
+      rw (e, z) (reached-start R [] (drop from chunk))
+
+  pub part-length : (taken m : ℕ) → taken + m ≤ length chunk → length (take (taken + m - taken) (drop taken chunk)) ≡ m
+  part-length taken m h =
+      let i : taken + m - taken ≡ m = omega arith in
+      rw i (length-take-le m (drop taken chunk) (simp length-drop (omega arith)))
+
+  pub fits-behind : (taken m : ℕ) → taken ≤ length chunk → m ≤ length chunk - taken → taken + m ≤ length chunk
+  fits-behind taken m h l = omega arith
+
+  -- the window with m bytes more, where it begins now
+  pub room-behind : (r waiting n m taken : ℕ) → taken + m ≤ length chunk → n ≡ most
+      → r + waiting + length (take (taken + m - taken) (drop taken chunk)) ≤ n → r + waiting + m ≤ most
+  room-behind r waiting n m taken t e h = omega (arith, part-length taken m t)
+
+  module _ (h held : List ℕ) (taken at end : ℕ) (w : Filling R h chunk from most held taken at end) where
+    pub filling-fits : end ≤ length held
+    filling-fits =
+        let i = w .within in
+        let s = w .size in
+        omega arith
+
+    whole : length (take end held) ≡ end
+    whole = length-take-le end held filling-fits
+
+    pub filling-ordered : at ≤ length (take end held)
+    filling-ordered = let i = w .ordered in omega (arith, whole)
+
+    -- they decide an event
+    pub filling-decided : (v : Sight) → ((at k : ℕ) → v ≡ Waiting at k → ⊥) → Seen R open′ (take end held) at v
+        → Ends R h (drop from chunk) (take end held) (taken - from) v
+    filling-decided v n d = ends-decided R L h (drop from chunk) (take end held) (taken - from) at v n d (w .reached)
+
+    -- they wait, and the window begins at `start`
+    module _ (start k : ℕ) (v : Waits R open′ (take end held) at start k) where
+      pub window-fits : start ≤ end
+      window-fits = let i = v .fits in omega (arith, whole)
+
+      window : Stops R h (drop from chunk) (take end held) (taken - from) start k
+      window = stops-seen R L h (drop from chunk) (take end held) (taken - from) at start k (w .reached) v
+
+      pub window-end : length chunk - taken ≡ 0 → Ends R h (drop from chunk) (take end held) (taken - from) (Waiting start k)
+      window-end l =
+          let i = w .taken-within in
+          ends-stopped R L h (drop from chunk) (take end held) (taken - from) start k window (simp length-drop (omega arith))
+
+      pub window-passed : end - start ≡ 0 → Reached R h (drop from chunk) [] (taken - from)
+      window-passed l =
+          let z : drop start (take end held) ≡ [] =
+          drop-of-length-le (take end held) {i = start} (omega (arith, whole, window-fits)) in
+          rw z at (window .reached)
+
+      pub window-full : length held - (end - start) ≡ 0 → 0 < length chunk - taken
+          → (taken < length chunk) × ((j : ℕ) × Stops R h (drop from chunk) held (taken - from) 0 j)
+      window-full l t =
+          let i = w .within in
+          let s = w .size in
+          let z : start ≡ 0 = omega (arith, window-fits) in
+          let all : take end held ≡ held = take-all end held (omega arith) in
+          (omega arith, (k, rw (z, all) at window))
+
+      -- there is room for m bytes more
+      pub window-room : (m : ℕ) → m ≤ length held - (end - start)
+          → (start ≤ end) × (end ≤ length held)
+          × (end - start + length (take (taken + m - taken) (drop taken chunk)) ≤ length held)
+      window-room m l =
+          let j = w .within in
+          let s = w .size in
+          (window-fits, omega arith, simp length-take (omega arith))
+
+      -- and it has taken them
+      pub window-more : (held′ : List ℕ) (m r : ℕ) → m ≤ k → taken + m ≤ length chunk → r + (end - start) + m ≤ most
+          → length held′ ≡ length held
+          → drop r (take (r + (end - start) + length (take (taken + m - taken) (drop taken chunk))) held′)
+          ≡ drop start (take end held) ++ take (taken + m - taken) (drop taken chunk)
+          → Filling R h chunk from most held′ (taken + m) r (r + (end - start) + m)
+      window-more held′ m r l t fits same is =
+          let b = w .started in
+          let n = w .size in
+          let i : taken + m - taken ≡ m = omega arith in
+          let z : taken - from + m ≡ taken + m - from = omega arith in
+          let e : from + (taken - from) ≡ taken = omega arith in
+          record {
+            started = omega arith;
+            taken-within = t;
+            ordered = omega arith;
+            within = fits;
+            size = omega arith;
+            reached =
+                rw (← z)
+                (stops-take R L h (drop from chunk) (take end held) (take (r + (end - start) + m) held′) (taken - from) start k m r
+                window l
+                (simp length-drop (omega arith))
+                (ap (λ (n : ℕ). drop r (take (r + (end - start) + n) held′)) (sym (part-length taken m t)) ∙ is
+                ∙ ap (λ (n : ℕ). drop start (take end held) ++ take n (drop taken chunk)) i
+                ∙ ap (λ (u : List ℕ). drop start (take end held) ++ take m u)
+                (ap (λ (n : ℕ). drop n chunk) (sym e) ∙ sym (drop-drop (taken - from) from chunk))));
+          }

@@ -1,0 +1,148 @@
+// Looking for the first event in held bytes and in a chunk, in place. Inside the reader: its callers are held to what the
+// functions require.
+use packet::Verdict;
+ghost use mathlib.Core.Path.{_≡_};
+ghost use mathlib.Core.List.{[]};
+ghost use mathlib.Core.Logic.{_⊎_};
+ghost use Prim.Native.Nat.{_-_, _≤_, _<_};
+ghost use lib.ListN.{length, take, drop};
+ghost use Rattle.packet.specs.Verdict.{protocol2};
+ghost use Rattle.windows.specs.Scan.{modeOf, Seen, Ends, Filled};
+
+// What stands at the first offset that is not nothing. Waiting stands also at the end, where all has been passed.
+pub enum Sight {
+    Packet { at: usize, count: usize },
+    BadChecksum { at: usize, id: u8 },
+    Waiting { at: usize, lacks: usize },
+}
+
+// What was seen of a segment up to its end.
+pub struct Window {
+    pub seen: Sight,
+    pub end: usize,
+}
+
+// How held bytes stop, so many bytes of the chunk taken: with what was seen of them up to their end; or all of them have been
+// passed; or they wait and fill their buffer.
+pub enum Stop {
+    Done {
+        seen: Sight,
+        end: usize,
+        taken: usize,
+    },
+    Passed {
+        taken: usize,
+    },
+    Full {
+        taken: usize,
+    },
+}
+
+fn least(a: usize, b: usize) -> usize
+    ensures { λ r. ⌜ (r ≤ a) × (r ≤ b) × ((0 < a) → (0 < b) → 0 < r) ⌝ }
+{
+    if a < b { a } else { b }
+}
+
+fn greatest(a: usize, b: usize) -> usize
+    ensures { λ r. ⌜ (a ≤ r) × (b ≤ r) × ((r ≡ a) ⊎ (r ≡ b)) ⌝ }
+{
+    if a < b { b } else { a }
+}
+
+// The bytes of s from `from` on, offset by offset; a waiting offset is passed once the segment is closed. At the end the rules
+// say how many bytes a packet has at least, so that as many can be taken.
+pub fn scan(s: &[u8], from: usize, live: bool) -> Sight
+    requires { ⌜ from ≤ length (now s) ⌝ }
+    ensures { λ r. ⌜ Seen protocol2 (modeOf live) (now (s .entry)) from r ⌝ }
+{
+    let mut at = from;
+    while at < s.len() {
+        match packet::judge(s, at) {
+            Verdict::Packet(count) => return Sight::Packet { at, count },
+            Verdict::BadChecksum(id) => return Sight::BadChecksum { at, id },
+            Verdict::Waiting(lacks) => {
+                if live {
+                    return Sight::Waiting { at, lacks };
+                }
+            }
+            Verdict::Nothing => {}
+        }
+        at += 1;
+    }
+    if let Verdict::Waiting(lacks) = packet::judge(s, at) {
+        return Sight::Waiting { at, lacks };
+    }
+    Sight::Waiting { at, lacks: 1 }
+}
+
+fn windowed(seen: Sight, end: usize) -> Window
+    ensures { λ r. ⌜ r ≡ record { seen = seen; end = end } ⌝ }
+{
+    Window { seen, end }
+}
+
+// The chunk's bytes from `from` on, where none are held. Each offset is judged once, by all the bytes that follow; what is taken
+// are those that settle the offsets up to the event.
+pub fn advance(chunk: &[u8], from: usize) -> Window
+    requires { ⌜ from ≤ length (now chunk) ⌝ }
+    ensures { λ r. ⌜ (from ≤ r .end) × (r .end ≤ length (now (chunk .entry)))
+        × Ends protocol2 [] (drop from (now (chunk .entry))) (take (r .end) (now (chunk .entry))) (r .end - from) (r .seen) ⌝ }
+{
+    let mut at = from;
+    let mut end = from;
+    while at < chunk.len() {
+        match packet::judge(chunk, at) {
+            Verdict::Packet(count) => return windowed(
+                Sight::Packet { at, count },
+                greatest(end, at + count),
+            ),
+            Verdict::BadChecksum(id) => {
+                return windowed(
+                    Sight::BadChecksum { at, id },
+                    greatest(end, at + packet::settled(chunk, at)),
+                );
+            }
+            Verdict::Waiting(lacks) => return windowed(Sight::Waiting { at, lacks }, chunk.len()),
+            Verdict::Nothing => {}
+        }
+        end = greatest(end, at + packet::settled(chunk, at));
+        at += 1;
+    }
+    windowed(Sight::Waiting { at, lacks: 1 }, chunk.len())
+}
+
+// The held bytes, and where they wait as many of the chunk's, from `from` on, as they wait for, as far as there is room.
+pub fn fill(held: &mut [u8], count: usize, chunk: &[u8], from: usize) -> Stop
+    requires { ⌜ (count ≤ length (now held)) × (from ≤ length (now chunk)) ⌝ }
+    ensures { λ r. ⌜ Filled protocol2 (take count (now (held .entry))) (now (chunk .entry)) from (now (held .exit)) r ⌝ }
+{
+    if count == 0 {
+        return Stop::Passed { taken: from };
+    }
+    let mut at = 0;
+    let mut end = count;
+    let mut taken = from;
+    loop {
+        let seen = scan(&held[..end], at, true);
+        let Sight::Waiting { at: start, lacks } = seen else {
+            return Stop::Done { seen, end, taken };
+        };
+        let left = chunk.len() - taken;
+        if left == 0 {
+            return Stop::Done { seen, end, taken };
+        }
+        let waiting = end - start;
+        if waiting == 0 {
+            return Stop::Passed { taken };
+        }
+        let room = held.len() - waiting;
+        if room == 0 {
+            return Stop::Full { taken };
+        }
+        let more = least(least(lacks, room), left);
+        at = buffers::append(held, start, end, &chunk[taken..taken + more]);
+        end = at + waiting + more;
+        taken += more;
+    }
+}

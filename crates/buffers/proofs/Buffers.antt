@@ -1,14 +1,14 @@
 -- Bytes moved within and between buffers: one turn of each loop, and what it comes to at the end.
-use mathlib.Core.Path.{_≡_, refl, sym, ap, ap₂, _∙_}
+use mathlib.Core.Path.{_≡_, sym, ap, ap₂, _∙_}
 use mathlib.Core.List.{List, [], _∷_, _++_, append-nil, append-assoc}
 use Prim.Native.Nat.{ℕ, suc, _+_, _-_, _≤_, _<_}
 use native.Mathlib.Nat.{add-comm}
 use native.Mathlib.Numerals.{add-one}
 use native.Mathlib.Omega.{arith}
-use lib.ListN.{length, take, drop, getD, set, replicate, length-append, length-take, length-drop, length-replicate}
+use lib.ListN.{length, take, drop, getD, set, replicate, length-append, length-drop, length-replicate}
 use lib.ListN.{getD-replicate}
 use lib.ListN.{drop-of-length-le, take-append-drop}
-use lib.Seq.{paste, paste-zero, paste-suc, length-paste, take-all, take-at, take-length, length-take-le, drop-append-le}
+use lib.Seq.{paste, paste-zero, paste-suc, take-all, take-at, take-length, length-take-le, drop-append-le}
 use lib.Seq.{drop-drop}
 use lib.Seq.{set-split, getD-append-add}
 use lib.Seq.{getD-drop}
@@ -27,10 +27,6 @@ place-done old src at i e =
     rw e
     (append-assoc (take at old) (take (length src) src) (drop (at + length src) old)
     ∙ rw (take-length src, ← drop-drop (length src) at old))
-
-pub length-placed : (old src : List ℕ) (at : ℕ) → at + length src ≤ length old → length (placed old at src) ≡ length old
-length-placed old src at h = ap length (sym (place-done old src at (length src) refl)) ∙ length-paste old at src
-    (length src) h (omega arith)
 
 -- ---- the bytes from `from` on go to the start, i of them so far
 
@@ -55,9 +51,6 @@ shift-next old buffer from i e h =
     (ap (λ (b : List ℕ). set b i (getD b (from + i) 0)) e
     ∙ ap (λ (x : ℕ). set (shifted old from i) i x) (shift-read old from i h)
     ∙ store-next (drop from old) old i (simp length-drop (omega arith)) (omega arith))
-
-pub length-shifted : (old : List ℕ) (from i : ℕ) → from + i ≤ length old → length (shifted old from i) ≡ length old
-length-shifted old from i h = simp (length-append, length-take, length-drop) (omega arith)
 
 pub shift-done : (old : List ℕ) (from i n : ℕ) → i ≡ n → from + n ≤ length old
     → shifted old from i ≡ overwritten old (take n (drop from old))

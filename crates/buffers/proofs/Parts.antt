@@ -1,4 +1,4 @@
--- Parts of lists: one taken the other way round, one that grows, and what was placed behind another.
+-- Parts of lists: one taken the other way round, and what was placed behind another.
 use mathlib.Core.Path.{_≡_, sym, ap, _∙_}
 use mathlib.Core.List.{List, _++_}
 use Prim.Native.Nat.{ℕ, _+_, _-_, _≤_}
@@ -14,13 +14,6 @@ part-is a e s h k =
     sym
     (ap (λ (n : ℕ). drop a (take n s)) z ∙ ap (λ (l : List ℕ). drop a l) (take-add a (e - a) s)
     ∙ drop-at (take a s) (take (e - a) (drop a s)) a (length-take-le a s k))
-
--- m bytes more behind the part from a up to e
-pub part-more : (a e m : ℕ) (s : List ℕ) → a ≤ e → e ≤ length s
-    → drop a (take (e + m) s) ≡ drop a (take e s) ++ take m (drop e s)
-part-more a e m s h k =
-    let l = length-take-le e s k in
-    ap (λ (t : List ℕ). drop a t) (take-add e m s) ∙ drop-append-le a (take e s) (take m (drop e s)) (omega arith)
 
 -- what a placed part stands behind
 pub placed-behind : (old new : List ℕ) (e : ℕ) → e ≤ length old → take (e + length new) (placed old e new) ≡ take e old ++ new

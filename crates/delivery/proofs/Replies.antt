@@ -9,7 +9,7 @@ use lib.Seq.{length-take-le, take-at, take-take}
 use Rattle.lists.specs.Write.{overwritten}
 use Rattle.reading.specs.Reading.{packet}
 use Rattle.delivery.specs.declared.Event.{Event as Outcome}
-use Rattle.delivery.specs.declared.Event.the-variants.{Packet, BadChecksum, Silent}
+use Rattle.delivery.specs.declared.Event.the-variants.{Packet, BadChecksum}
 use Rattle.windows.specs.declared.Sight.{Sight}
 use Rattle.windows.specs.declared.Sight.the-variants.{Packet as Seen·Packet, BadChecksum as Seen·BadChecksum}
 use Rattle.windows.specs.declared.Sight.the-variants.{Waiting as Seen·Waiting}

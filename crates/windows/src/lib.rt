@@ -76,12 +76,6 @@ pub fn scan(s: &[u8], from: usize, live: bool) -> Sight
     Sight::Waiting { at, lacks: 1 }
 }
 
-fn windowed(seen: Sight, end: usize) -> Window
-    ensures { λ r. ⌜ r ≡ record { seen = seen; end = end } ⌝ }
-{
-    Window { seen, end }
-}
-
 // The chunk's bytes from `from` on, where none are held. Each offset is judged once, by all the bytes that follow; what is taken
 // are those that settle the offsets up to the event.
 pub fn advance(chunk: &[u8], from: usize) -> Window
@@ -93,23 +87,35 @@ pub fn advance(chunk: &[u8], from: usize) -> Window
     let mut end = from;
     while at < chunk.len() {
         match packet::judge(chunk, at) {
-            Verdict::Packet(count) => return windowed(
-                Sight::Packet { at, count },
-                greatest(end, at + count),
-            ),
-            Verdict::BadChecksum(id) => {
-                return windowed(
-                    Sight::BadChecksum { at, id },
-                    greatest(end, at + packet::settled(chunk, at)),
-                );
+            Verdict::Packet(count) => {
+                let last = greatest(end, at + count);
+                return Window {
+                    seen: Sight::Packet { at, count },
+                    end: last,
+                };
             }
-            Verdict::Waiting(lacks) => return windowed(Sight::Waiting { at, lacks }, chunk.len()),
+            Verdict::BadChecksum(id) => {
+                let last = greatest(end, at + packet::settled(chunk, at));
+                return Window {
+                    seen: Sight::BadChecksum { at, id },
+                    end: last,
+                };
+            }
+            Verdict::Waiting(lacks) => {
+                return Window {
+                    seen: Sight::Waiting { at, lacks },
+                    end: chunk.len(),
+                };
+            }
             Verdict::Nothing => {}
         }
         end = greatest(end, at + packet::settled(chunk, at));
         at += 1;
     }
-    windowed(Sight::Waiting { at, lacks: 1 }, chunk.len())
+    Window {
+        seen: Sight::Waiting { at, lacks: 1 },
+        end: chunk.len(),
+    }
 }
 
 // The held bytes, and where they wait as many of the chunk's, from `from` on, as they wait for, as far as there is room.

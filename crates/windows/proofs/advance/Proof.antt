@@ -45,21 +45,17 @@ add-greatest c =
 greatest-requires : tie.Need-greatest-requires Inv-loop μ-loop
 greatest-requires c κs = search needs
 
-windowed-requires : tie.Need-windowed-requires Inv-loop μ-loop
-windowed-requires c κs = search needs
-
 returns : tie.Need-returns Inv-loop μ-loop
 returns c =
-    let k = c .before .before .before in
+    let k = c .before .before in
     let j = k .before .before in
     let h = j .before .before .loop in
     let s = j .before .before .before .before .args .chunk .now in
     let e = was-packet _ _ _ (sym (j .judge .ensures) ∙ k .count .given .1) in
     let n = settles .of-packet (drop (h .at) s) _ e .0 in
-    let g = c .before .greatest .ensures in
-    rw (c .windowed .ensures)
-    (sought-packet protocol2 laws settledBy settles s _ (h .at) (h .end) (h .inv) _ (j .before .loop-test .taken) (g .0) (rw n (g .1))
-    (rw n (g .2)) _ (omega (arith, none-lacks)) e)
+    let g = c .greatest .ensures in
+    sought-packet protocol2 laws settledBy settles s _ (h .at) (h .end) (h .inv) _ (j .before .loop-test .taken) (g .0) (rw n (g .1))
+    (rw n (g .2)) _ (omega (arith, none-lacks)) e
 
 enum-known-id : tie.Need-enum-known-id Inv-loop μ-loop
 enum-known-id c = search needs
@@ -76,35 +72,28 @@ add-greatest-2 c =
 greatest-requires-2 : tie.Need-greatest-requires-2 Inv-loop μ-loop
 greatest-requires-2 c κs = search needs
 
-windowed-requires-2 : tie.Need-windowed-requires-2 Inv-loop μ-loop
-windowed-requires-2 c κs = search needs
-
 returns-2 : tie.Need-returns-2 Inv-loop μ-loop
 returns-2 c =
-    let k = c .before .before .before .before in
+    let k = c .before .before .before in
     let j = k .before .before in
     let h = j .before .before .loop in
     let s = j .before .before .before .before .args .chunk .now in
     let e = was-bad _ _ _ (sym (j .judge .ensures) ∙ k .id .given .1) in
-    let n = c .before .before .settled .ensures in
-    let g = c .before .greatest2 .ensures in
-    rw (c .windowed2 .ensures)
-    (sought-bad protocol2 laws settledBy settles s _ (h .at) (h .end) (h .inv) _ (j .before .loop-test .taken) (g .0) (rw n at (g .1))
-    (rw n at (g .2)) _ (omega arith) (omega (arith, none-lacks)) e)
+    let n = c .before .settled .ensures in
+    let g = c .greatest2 .ensures in
+    sought-bad protocol2 laws settledBy settles s _ (h .at) (h .end) (h .inv) _ (j .before .loop-test .taken) (g .0) (rw n at (g .1))
+    (rw n at (g .2)) _ (omega arith) (omega (arith, none-lacks)) e
 
 enum-known-lacks : tie.Need-enum-known-lacks Inv-loop μ-loop
 enum-known-lacks c = search needs
 
-windowed-requires-3 : tie.Need-windowed-requires-3 Inv-loop μ-loop
-windowed-requires-3 c κs = search needs
-
 returns-3 : tie.Need-returns-3 Inv-loop μ-loop
 returns-3 c =
-    let k = c .before .before in
+    let k = c .before in
     let j = k .before .before in
     let h = j .before .before .loop in
     let e = was-waiting _ _ _ (sym (j .judge .ensures) ∙ k .lacks .given .1) in
-    rw (c .windowed3 .ensures) (sought-end protocol2 laws settledBy settles _ _ (h .at) (h .end) (h .inv) (inl (e .0)) _)
+    sought-end protocol2 laws settledBy settles _ _ (h .at) (h .end) (h .inv) (inl (e .0)) _
 
 enum-told : tie.Need-enum-told Inv-loop μ-loop
 enum-told c = search needs
@@ -139,13 +128,10 @@ loop-again c =
     sought-next protocol2 laws settledBy settles s _ (h .at) (h .end) (h .inv) _ (j .before .loop-test .taken) (g .0) (rw n at (g .1))
     (rw n at (g .2)) e
 
-windowed-requires-4 : tie.Need-windowed-requires-4 Inv-loop μ-loop
-windowed-requires-4 c κs = search needs
-
 returns-4 : tie.Need-returns-4 Inv-loop μ-loop
 returns-4 c =
-    let h = c .before .before .loop in
-    rw (c .windowed4 .ensures) (sought-end protocol2 laws settledBy settles _ _ (h .at) (h .end) (h .inv) (inr (c .before .loop-test .left)) _)
+    let h = c .before .loop in
+    sought-end protocol2 laws settledBy settles _ _ (h .at) (h .end) (h .inv) (inr (c .loop-test .left)) _
 
 pub advance-spec : {M : Type 1} → statement M
 advance-spec =
@@ -158,16 +144,13 @@ advance-spec =
     enum-known-count
     add-greatest
     greatest-requires
-    windowed-requires
     returns
     enum-known-id
     settled-requires
     add-greatest-2
     greatest-requires-2
-    windowed-requires-2
     returns-2
     enum-known-lacks
-    windowed-requires-3
     returns-3
     enum-told
     settled-requires-2
@@ -176,5 +159,4 @@ advance-spec =
     add-at
     loop-less
     loop-again
-    windowed-requires-4
     returns-4)

@@ -1,8 +1,8 @@
 """Holds docs/PROMISES.md to the tree: usage check_promises.py, in the repository's root
 
 Every must-fail edit that the page cites is there, and every edit that is there is cited; every file that it cites is there too.
-Only public functions of the crates that its row K1 calls inner require anything, and each says what it leaves of all that it is
-lent to write.
+Only public functions of the crates that its row K1 calls inner require anything, and each contract names what it is lent to
+write as it is at exit.
 """
 import re
 import sys

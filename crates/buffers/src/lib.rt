@@ -1,4 +1,4 @@
-// Bytes moved within and between buffers. Inside the reader: its callers are held to what the functions require.
+// Bytes moved within and between buffers. An inner crate: its callers are held to what the functions require.
 ghost use mathlib.Core.Path.{_≡_};
 ghost use mathlib.Core.List.{_++_};
 ghost use Prim.Native.Nat.{_+_, _-_, _≤_};

@@ -5,7 +5,7 @@ ghost use mathlib.Core.Option.{none};
 ghost use Prim.Native.Nat.{_+_, _≤_};
 ghost use lib.ListN.{length, take, drop, replicate};
 ghost use Rattle.lists.specs.Write.{overwritten};
-ghost use Rattle.table_rules.specs.Rules.{stored, readRule, writeRule};
+ghost use Rattle.table_rules.specs.Rules.{readRule, writeRule};
 ghost use Rattle.table_rules.specs.Outcomes.{refusalOf, inTable};
 ghost use Rattle.control_table.specs.Answers.{freshOut, measureOut, readBytes, writeOut};
 
@@ -13,18 +13,6 @@ ghost use Rattle.control_table.specs.Answers.{freshOut, measureOut, read
 pub struct Reading {
     pub outcome: Outcome,
     pub bytes: [u8; 8],
-}
-
-// The bytes stand from `address` on.
-fn store(table: &mut [u8], address: usize, bytes: &[u8])
-    requires { ⌜ address + length (now bytes) ≤ length (now table) ⌝ }
-    ensures { λ _. ⌜ now (table .exit) ≡ stored (now (table .entry)) address (now (bytes .entry)) ⌝ }
-{
-    let mut i = 0;
-    while i < bytes.len() {
-        table[address + i] = bytes[i];
-        i += 1;
-    }
 }
 
 // The write: judged first, then stored whole. A refused one leaves every byte.
@@ -36,7 +24,7 @@ pub fn write(table: &mut [u8], address: u16, bytes: &[u8]) -> Outcome
     if !table_rules::is_done(outcome) {
         return outcome;
     }
-    store(table, address as usize, bytes);
+    buffers::place(table, address as usize, bytes);
     Outcome::Done
 }
 
@@ -46,11 +34,7 @@ fn bytes_from(table: &[u8], at: usize, n: usize) -> [u8; 8]
     ensures { λ r. ⌜ r ≡ overwritten (replicate 8 0) (take n (drop at (now (table .entry)))) ⌝ }
 {
     let mut out = [0u8; 8];
-    let mut i = 0;
-    while i < n {
-        out[i] = table[at + i];
-        i += 1;
-    }
+    buffers::place(&mut out, 0, &table[at..at + n]);
     out
 }
 
@@ -85,16 +69,6 @@ pub fn read(table: &[u8], address: u16, count: u16) -> Reading
     }
 }
 
-fn clear(table: &mut [u8])
-    ensures { λ _. ⌜ now (table .exit) ≡ replicate (length (now (table .entry))) 0 ⌝ }
-{
-    let mut i = 0;
-    while i < table.len() {
-        table[i] = 0;
-        i += 1;
-    }
-}
-
 // The table as it comes from the factory: each register has its fresh value, undefined bytes are 0.
 pub fn fresh(table: &mut [u8]) -> Outcome
     ensures { λ r. ⌜ refusalOf r ≡ inTable (now (table .entry)) none ⌝ }
@@ -103,7 +77,7 @@ pub fn fresh(table: &mut [u8]) -> Outcome
     if table.len() != 136 {
         return Outcome::NotTable;
     }
-    clear(table);
+    buffers::clear(table, 0);
     table[0] = 6;
     table[1] = 4;
     table[6] = 38;

@@ -27,7 +27,7 @@ leaving table w error bytes = record { table = table; registered = w; error = er
 abbrev pub refusing : List ℕ → RegisteredWrite → ℕ → Effect
 refusing table w error = leaving table w error []
 
--- ---- instructions with a fixed form
+-- ---- instructions on registers
 
 abbrev pub ping : List ℕ → RegisteredWrite → Effect
 ping table w = leaving table w 0 (itemBytes modelNumber table ++ itemBytes firmwareVersion table)

@@ -74,11 +74,7 @@ fn padded_bytes(bytes: &[u8]) -> [u8; 8]
     ensures { λ r. ⌜ r ≡ padded (now (bytes .entry)) ⌝ }
 {
     let mut out = [0u8; 8];
-    let mut i = 0;
-    while i < bytes.len() {
-        out[i] = bytes[i];
-        i += 1;
-    }
+    buffers::place(&mut out, 0, bytes);
     out
 }
 

@@ -1,4 +1,4 @@
--- What the device makes of what it hears: what is done, and how that is answered.
+-- Which instruction is carried out, and how that is answered.
 use mathlib.Core.Bool.{Bool, cond, _&&_}
 use mathlib.Core.List.{List, [], _∷_}
 use Prim.Native.Nat.{ℕ, _+_}
@@ -98,7 +98,7 @@ heardSyncWrite all table w params =
     cond all (syncWriteBy (syncSearch (1 + wordAt params 2) (ownId table) params) table w params)
     (reacting (refusing table w 0x02) (speaks 2 0))
 
--- ---- the device
+-- ---- whatever is heard
 
 unfoldable pub heardInstruction : ℕ → Bool → List ℕ → RegisteredWrite → List ℕ → Reaction
 heardInstruction instruction all table w params =

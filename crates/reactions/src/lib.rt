@@ -1,5 +1,5 @@
-// What the device makes of what it hears: what each instruction does, and how that is answered. Inside the device: its callers
-// are held to what the functions require.
+// What the device makes of what it hears: which instruction is carried out, and how that is answered. Inside the device: its
+// callers are held to what the functions require.
 use instructions::Done;
 use instructions::RegisteredWrite;
 use parameters::Found;

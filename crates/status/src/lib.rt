@@ -10,7 +10,6 @@ ghost use Rattle.status.specs.Status.{errorByte, replyBytes};
 
 // A status to send: ID, error byte with its alert bit, data and the reply slot (the paper's turn number); or silence, which
 // is marked, all else being 0.
-#[repr(C)]
 pub struct Reply {
     pub speaks: bool,
     pub id: u8,

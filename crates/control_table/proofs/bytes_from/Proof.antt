@@ -1,61 +1,45 @@
-use mathlib.Core.Path.{_≡_, _∙_}
-use mathlib.Core.List.{_++_}
-use Prim.Native.Nat.{_+_, _-_, _≤_}
+use mathlib.Core.Path.{_≡_, ap, _∙_}
+use Prim.Native.Nat.{ℕ, _+_, _-_}
 use native.Mathlib.Omega.{arith}
 use lib.ListN.{take, drop, replicate}
+use Rattle.lists.specs.Write.{overwritten}
 use borrow.Author.Needs.{needs}
-use Rattle.control_table.proofs.Copied.{part-next, part-done}
 use Rattle.control_table.proofs.bytes_from.Statement.{statement}
 use Rattle.control_table.proofs.bytes_from.Tie as tie
 
-abbrev Inv-loop : tie.InvT-loop
-Inv-loop table at n out₀ i₀ out i = (i ≤ n) × (out ≡ take i (take n (drop at table)) ++ drop i (replicate 8 0))
+slice-aggregate-place : tie.Need-slice-aggregate-place
+slice-aggregate-place c = search needs
 
-abbrev μ-loop : tie.MeasureT-loop
-μ-loop table at n out₀ i₀ out i = n - i
+add-place : tie.Need-add-place
+add-place c = search needs
 
-loop-holds : tie.Need-loop-holds Inv-loop μ-loop
-loop-holds c = search needs
+sub-place : tie.Need-sub-place
+sub-place c = search needs
 
-add-out : tie.Need-add-out Inv-loop μ-loop
-add-out c = search needs
+part-place-start : tie.Need-part-place-start
+part-place-start c = search needs
 
-shared-slice-read-out : tie.Need-shared-slice-read-out Inv-loop μ-loop
-shared-slice-read-out c = search needs
+part-place-end : tie.Need-part-place-end
+part-place-end c = search needs
 
-array-write-out : tie.Need-array-write-out Inv-loop μ-loop
-array-write-out c = search needs
+place-requires : tie.Need-place-requires
+place-requires c κs = search needs
 
-add-i : tie.Need-add-i Inv-loop μ-loop
-add-i c = search needs
-
-loop-less : tie.Need-loop-less Inv-loop μ-loop
-loop-less c = search needs
-
-loop-again : tie.Need-loop-again Inv-loop μ-loop
-loop-again c =
-    let h = c .before .before .loop in
-    let a = c .before .before .before in
-    (search needs, rw (h .inv .1) (part-next (a .args .table .now) (replicate 8 0) (a .args .at) (a .args .n) (a .pre .0) (a .pre .1) (h .i) (c .before .loop-test .taken)))
-
-returns : tie.Need-returns Inv-loop μ-loop
+returns : tie.Need-returns
 returns c =
-    let h = c .before .loop in
-    let a = c .before .before in
-    let e : h .i ≡ a .args .n = omega arith in
-    h .inv .1 ∙ rw e (part-done (a .args .table .now) (replicate 8 0) (a .args .at) (a .args .n) (a .pre .0) (a .pre .1))
+    let p = c .before in
+    let a = c .before .before .before .before .before .args in
+    let e : a .at + a .n - a .at ≡ a .n = omega arith in
+    p .place .ensures ∙ ap (λ (k : ℕ). overwritten (replicate 8 0) (take k (drop (a .at) (a .table .now)))) e
 
 pub bytes-from-spec : {M : Type 1} → statement M
 bytes-from-spec =
     tie.close
     (tie.spec
-    Inv-loop
-    μ-loop
-    loop-holds
-    add-out
-    shared-slice-read-out
-    array-write-out
-    add-i
-    loop-less
-    loop-again
+    slice-aggregate-place
+    add-place
+    sub-place
+    part-place-start
+    part-place-end
+    place-requires
     returns)

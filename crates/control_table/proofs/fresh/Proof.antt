@@ -3,7 +3,7 @@ use Rattle.items.specs.Items.{bytesOf, put}
 use Rattle.control_table.specs.Fresh.{freshened, freshTable}
 use mathlib.Core.Path.{_≡_, ap, _∙_}
 use mathlib.Core.List.{List}
-use Prim.Native.Nat.{ℕ}
+use Prim.Native.Nat.{ℕ, _-_}
 use native.Mathlib.Omega.{arith}
 use lib.ListN.{length-set, set, replicate}
 use borrow.Author.Tests.{eq-eqb, ne-eqb}
@@ -55,7 +55,7 @@ returns-2 c =
     let l = c .before .before .before .before .if1 .left in
     let e = eq-eqb _ _ l in
     let k = c .before .before .clear in
-    (rw e, rw e (written (k .last .0) (k .ensures ∙ ap (λ (n : ℕ). replicate n 0) l)))
+    (rw e, rw e (written (k .last .0) (k .ensures ∙ ap (λ (n : ℕ). replicate (n - 0) 0) l)))
 
 pub fresh-spec : {M : Type 1} → statement M
 fresh-spec =

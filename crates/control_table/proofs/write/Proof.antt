@@ -34,8 +34,8 @@ good : (c : tie.Else1)
 good c =
     sym (c .before .before .judge .ensures) ∙ done-none (c .before .before .judge .result) (sym (c .before .is-done .ensures) ∙ not-false _ (c .if1 .left))
 
-store-requires : tie.Need-store-requires
-store-requires c κs =
+place-requires : tie.Need-place-requires
+place-requires c κs =
     let a = c .before .before .before .before .before .before .before .args in
     write-inside (a .table .now) (a .address) (a .bytes .now) (good (c .before))
 
@@ -46,7 +46,7 @@ returns-2 : tie.Need-returns-2
 returns-2 c =
     let d = c .before .before .before .before in
     let a = d .before .before .before .before .before .before .args in
-    (sym (good d), c .before .before .store .ensures ∙ ap (λ (o : Option ℕ). unlessRefused o (a .table .now) (stored (a .table .now) (a .address) (a .bytes .now))) (sym (good d)))
+    (sym (good d), c .before .before .place .ensures ∙ ap (λ (o : Option ℕ). unlessRefused o (a .table .now) (stored (a .table .now) (a .address) (a .bytes .now))) (sym (good d)))
 
 pub write-spec : {M : Type 1} → statement M
 write-spec =
@@ -56,6 +56,6 @@ write-spec =
     is-done-requires
     same-length
     returns
-    store-requires
+    place-requires
     same-length-2
     returns-2)

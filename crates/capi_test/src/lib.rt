@@ -41,7 +41,7 @@ pub extern "C" fn dxl_test_stuff(first: u8, rest: &[u8], out: &mut [u8]) -> usiz
     ensures { λ r. ⌜ r ≡ min (length (now (out .entry))) (length (stuff (first ∷ now (rest .entry)))) ⌝ }
     ensures { λ _. ⌜ now (out .exit) ≡ overwritten (now (out .entry)) (take (length (now (out .entry))) (stuff (first ∷ now (rest .entry)))) ⌝ }
 {
-    stuffing::write_stuffed(first, rest, out)
+    stuffing_writer::write_stuffed(first, rest, out)
 }
 
 #[no_mangle]

@@ -1,5 +1,5 @@
 // The encoder of Protocol 2.0: the packet of an ID, an instruction and parameters, written into the caller's buffer.
-use stuffing::Length;
+use stuffing_writer::Length;
 ghost use mathlib.Core.Path.{_≡_};
 ghost use mathlib.Core.List.{_∷_};
 ghost use Prim.Native.Nat.{_+_, _≤_};
@@ -48,7 +48,7 @@ fn write_packet(id: u8, instruction: u8, params: &[u8], n: usize, out: &mut [u8]
     ensures { λ _. ⌜ now (out .exit) ≡ overwritten (now (out .entry)) (packetOf id (instruction ∷ now (params .entry))) ⌝ }
 {
     write_front(id, n, out);
-    stuffing::write_stuffed(instruction, params, &mut out[7..]);
+    stuffing_writer::write_stuffed(instruction, params, &mut out[7..]);
     write_checksum(out, n + 7);
 }
 
@@ -61,7 +61,7 @@ pub fn encode(id: u8, instruction: u8, params: &[u8], out: &mut [u8], at: usize)
     if !packet::good_id(id) {
         return Encoded::BadId;
     }
-    let Length::Within(n) = stuffing::stuffed_len(instruction, params, 1022) else {
+    let Length::Within(n) = stuffing_writer::stuffed_len(instruction, params, 1022) else {
         return Encoded::TooLong;
     };
     if out.len() < at {

@@ -2,15 +2,12 @@
 use mathlib.Core.Path.{_≡_, refl}
 use mathlib.Core.Bool.{Bool, true, false, cond}
 use mathlib.Core.List.{List}
-use Prim.Native.Nat.{ℕ, _≤_, _<_}
+use Prim.Native.Nat.{ℕ}
 use native.Mathlib.Omega.{arith}
-use lib.Dec.{leb}
 use lib.ListN.{length}
-use borrow.Author.Tests.{leb-true, leb-false}
 use Rattle.stuffing.specs.Stuffing.{wellStuffed, unstuff}
-use Rattle.stuffing.specs.Answers.{checked, lengthWithin}
+use Rattle.stuffing.specs.Answers.{checked}
 use Rattle.stuffing.specs.declared.Checked.the-variants.{Good, Bad}
-use Rattle.stuffing.specs.declared.Length.the-variants.{Within, Past}
 
 pub checked-bad : (body : List ℕ) → checked body ≡ Bad → wellStuffed body ≡ false
 checked-bad body e = go (wellStuffed body) e
@@ -25,17 +22,3 @@ checked-good body n e = go (wellStuffed body) e
     go : (w : Bool) → cond w (Good (length (unstuff body))) Bad ≡ Good n → (w ≡ true) × (length (unstuff body) ≡ n)
     go true e = (refl, cc)
     go false e = let z : _≡_ {A = ℕ} 0 1 = cc in absurd (omega arith)
-
-pub is-within : (most n m : ℕ) → lengthWithin most n ≡ Within m → (n ≤ most) × (n ≡ m)
-is-within most n m e = go (leb n most) refl e
-  where
-    go : (w : Bool) → leb n most ≡ w → cond w (Within n) Past ≡ Within m → (n ≤ most) × (n ≡ m)
-    go true l e = (leb-true n most l, cc)
-    go false l e = let z : _≡_ {A = ℕ} 0 1 = cc in absurd (omega arith)
-
-pub is-past : (most n : ℕ) → lengthWithin most n ≡ Past → most < n
-is-past most n e = go (leb n most) refl e
-  where
-    go : (w : Bool) → leb n most ≡ w → cond w (Within n) Past ≡ Past → most < n
-    go false l e = leb-false n most l
-    go true l e = let z : _≡_ {A = ℕ} 0 1 = cc in absurd (omega arith)

@@ -2,10 +2,10 @@
 use mathlib.Core.Path.{_≡_, refl, sym, ap, _∙_}
 use mathlib.Core.Bool.{Bool, true, false, cond, _&&_, and-false, and-true}
 use mathlib.Core.List.{List, [], _∷_}
-use Prim.Native.Nat.{ℕ, zero, suc, _+_, _-_, _<_}
+use Prim.Native.Nat.{ℕ, zero, suc, _+_, _-_, _≤_, _<_}
 use native.Mathlib.Omega.{arith}
 use lib.Dec.{eqb}
-use lib.ListN.{getD}
+use lib.ListN.{length, getD}
 use native.Mathlib.Nat.{pos-of-ne-zero}
 use borrow.Author.Tests.{eqb-true, eq-eqb, ne-eqb}
 use Rattle.lists.proofs.Bools.{and-right}
@@ -36,10 +36,19 @@ pub two-back : (x y : ℕ) (s : List ℕ) (i : ℕ) → 1 < i → getD (x ∷ y 
 two-back x y s i h =
     one-back x (y ∷ s) i (omega arith) ∙ one-back y s (i - 1) (omega arith) ∙ ap (λ (n : ℕ). getD s n 0) (omega arith)
 
+-- no byte stands past the end
+none-past : (s : List ℕ) (i : ℕ) → length s ≤ i → getD s i 0 ≡ 0
+none-past [] i h = refl
+none-past (c ∷ s) zero h = absurd (omega arith)
+none-past (c ∷ s) (suc i) h = none-past s i (omega arith)
+
 -- The mark that ends at i, byte by byte from its last.
 module _ (before : ℕ) (s : List ℕ) (i : ℕ) where
   pub last-differs : (getD s i 0 ≡ 0xFD → ⊥) → false ≡ markAt before s i
   last-differs h = simp (ne-eqb (getD s i 0) 0xFD h, and-false)
+
+  pub past-end : length s ≤ i → false ≡ markAt before s i
+  past-end h = simp (none-past s i h, and-false)
 
   pub at-start : i ≡ 0 → false ≡ markAt before s i
   at-start e = rw e refl

@@ -7,14 +7,13 @@ use native.Mathlib.Numerals.{add-one}
 use native.Mathlib.Omega.{arith}
 use native.Mathlib.Decide.{decLt, ℕ-discrete}
 use lib.Dec.{eqb}
-use lib.ListN.{length, getD, set, drop, drop-of-length-le}
+use lib.ListN.{length, getD, drop, drop-of-length-le}
 use lib.Seq.{drop-cons}
 use borrow.Author.Tests.{eq-eqb, ne-eqb}
-use Rattle.lists.proofs.Filling.{Filling, drop-lt, fill-next}
-use Rattle.stuffing.specs.Stuffing.{mark, markAt, stuffAfter, wellAfter, unstuffAfter}
+use Rattle.stuffing.specs.Stuffing.{mark, markAt, wellAfter, unstuffAfter}
 use Rattle.stuffing.proofs.Mark.{mark-last, no-mark}
 
--- ---- the test and the removal: the bytes of s from i on, after the three that stand before them
+-- The bytes of s from i on, after the three that stand before them.
 
 module _ (s : List ℕ) (i : ℕ) where
   abbrev pub wellAt : Bool
@@ -97,39 +96,3 @@ module _ (s : List ℕ) (i : ℕ) (free : marked s i ≡ false) (h : i < length 
             at : Dec (getD s (i + 1) 0 ≡ 0xFD) → getD s (i + 1) 0 ≡ 0xFD
             at (yes e) = e
             at (no e) = absurd (is-false (mark-unstuffed l e))
-
--- ---- the writing: the stuffed form of the bytes of s from i on, after the byte `before` and those of s before them
-
-module _ (before : ℕ) (s : List ℕ) (i : ℕ) where
-  abbrev pub stuffedAt : List ℕ
-  stuffedAt = stuffAfter (getD (0 ∷ before ∷ s) i 0) (getD (before ∷ s) i 0) (drop i s)
-
-module _ (before : ℕ) (s : List ℕ) (i : ℕ) where
-  stuff-turn : i < length s
-      → stuffedAt before s i ≡ getD s i 0 ∷ cond (markAt before s i) (0xFD ∷ stuffedAt before s (i + 1)) (stuffedAt before s (i + 1))
-  unfolding stuffAfter
-  stuff-turn h = rw (add-one, drop-cons s i 0) refl
-
-  pub stuff-plain : markAt before s i ≡ false → i < length s → stuffedAt before s i ≡ getD s i 0 ∷ stuffedAt before s (i + 1)
-  stuff-plain e h = stuff-turn h ∙ rw e refl
-
-  pub stuff-marked : markAt before s i ≡ true → i < length s → stuffedAt before s i ≡ getD s i 0 ∷ 0xFD ∷ stuffedAt before s (i + 1)
-  stuff-marked e h = stuff-turn h ∙ rw e refl
-
-  -- a byte more makes the stuffed form longer
-  pub stuff-some : i < length s → 0 < length (stuffedAt before s i)
-  stuff-some h = omega (arith, ap length (stuff-turn h))
-
-  pub stuff-end : length s ≤ i → stuffedAt before s i ≡ []
-  unfolding stuffAfter
-  stuff-end h = ap (stuffAfter (getD (0 ∷ before ∷ s) i 0) (getD (before ∷ s) i 0)) (drop-of-length-le s h)
-
-  -- the byte at i is written at j, and FD after it where it ends a mark
-  module _ (new old out : List ℕ) (j : ℕ) (h : i < length s) (f : Filling new old out j (stuffedAt before s i))
-      (room : j < length old) where
-    pub put-plain : markAt before s i ≡ false → Filling new old (set out j (getD s i 0)) (j + 1) (stuffedAt before s (i + 1))
-    put-plain e = fill-next new old out j (getD s i 0) _ (rw (stuff-plain e h) at f) room
-
-    pub put-marked : markAt before s i ≡ true
-        → Filling new old (set out j (getD s i 0)) (j + 1) (0xFD ∷ stuffedAt before s (i + 1))
-    put-marked e = fill-next new old out j (getD s i 0) _ (rw (stuff-marked e h) at f) room

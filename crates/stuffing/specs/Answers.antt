@@ -10,18 +10,12 @@ use Rattle.lists.specs.Write.{overwritten}
 use Rattle.stuffing.specs.Stuffing.{wellStuffed, unstuff}
 use Rattle.stuffing.specs.declared.Checked.{Checked}
 use Rattle.stuffing.specs.declared.Checked.the-variants.{Good, Bad}
-use Rattle.stuffing.specs.declared.Length.{Length}
-use Rattle.stuffing.specs.declared.Length.the-variants.{Within, Past}
 use Rattle.stuffing.specs.declared.Unstuffed.{Unstuffed}
 use Rattle.stuffing.specs.declared.Unstuffed.the-variants.{Count, BadStuffing, NoRoom}
 
 -- the stuffing test, with the count of the unstuffed bytes where it passes
 abbrev pub checked : List ℕ → Checked
 checked body = cond (wellStuffed body) (Good (length (unstuff body))) Bad
-
--- a length, where it is at most the bound
-abbrev pub lengthWithin : ℕ → ℕ → Length
-lengthWithin most n = cond (leb n most) (Within n) Past
 
 -- the refusal numbers of removal
 abbrev pub unstuffedAnswer : Unstuffed → Answer

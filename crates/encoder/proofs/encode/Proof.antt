@@ -8,7 +8,7 @@ use borrow.Author.Tests.{le-leb, lt-leb, not-true, not-false}
 use Rattle.lists.specs.Answer.{count}
 use Rattle.lists.proofs.Write.{tail-placed}
 use Rattle.stuffing.specs.Stuffing.{stuff}
-use Rattle.stuffing.proofs.Answers.{is-within, is-past}
+use Rattle.stuffing_writer.proofs.Answers.{is-within, is-past}
 use Rattle.packet.specs.Packet.{goodId}
 use Rattle.encoder.specs.Writing.{packetOf}
 use Rattle.encoder.specs.Encoding.{encodeRefusal}

@@ -1,37 +1,42 @@
 use borrow.Author.Needs.{needs}
-use Rattle.stuffing.proofs.Mark.{last-differs, at-start, middle-differs, first-before, first-here}
+use Rattle.stuffing.proofs.Mark.{past-end, last-differs, at-start, middle-differs, first-before, first-here}
 use Rattle.stuffing.proofs.ends_mark.Statement.{statement}
 use Rattle.stuffing.proofs.ends_mark.Tie as tie
 
-shared-slice-read-if1 : tie.Need-shared-slice-read-if1
-shared-slice-read-if1 c = search needs
-
 returns : tie.Need-returns
 returns c =
-    let a = c .before .before .args in
-    last-differs (a .before) (a .bytes .now) (a .i) (c .if1 .taken)
+    let a = c .before .args in
+    past-end (a .before) (a .bytes .now) (a .i) (c .if1 .taken)
+
+shared-slice-read-if2 : tie.Need-shared-slice-read-if2
+shared-slice-read-if2 c = search needs
 
 returns-2 : tie.Need-returns-2
 returns-2 c =
     let a = c .before .before .before .args in
-    at-start (a .before) (a .bytes .now) (a .i) (c .if2 .taken)
-
-sub-if3 : tie.Need-sub-if3
-sub-if3 c = search needs
-
-shared-slice-read-if3 : tie.Need-shared-slice-read-if3
-shared-slice-read-if3 c = search needs
+    last-differs (a .before) (a .bytes .now) (a .i) (c .if2 .taken)
 
 returns-3 : tie.Need-returns-3
 returns-3 c =
-    let a = c .before .before .before .before .before .args in
-    middle-differs (a .before) (a .bytes .now) (a .i) (c .before .before .if2 .left) (c .if3 .taken)
+    let a = c .before .before .before .before .args in
+    at-start (a .before) (a .bytes .now) (a .i) (c .if3 .taken)
+
+sub-if4 : tie.Need-sub-if4
+sub-if4 c = search needs
+
+shared-slice-read-if4 : tie.Need-shared-slice-read-if4
+shared-slice-read-if4 c = search needs
 
 returns-4 : tie.Need-returns-4
 returns-4 c =
+    let a = c .before .before .before .before .before .before .args in
+    middle-differs (a .before) (a .bytes .now) (a .i) (c .before .before .if3 .left) (c .if4 .taken)
+
+returns-5 : tie.Need-returns-5
+returns-5 c =
     let k = c .before .before in
-    let a = k .before .before .before .before .args in
-    first-before (a .before) (a .bytes .now) (a .i) (k .before .if2 .left) (k .before .before .if1 .left) (c .before .if3 .left) (c .if4 .taken)
+    let a = k .before .before .before .before .before .args in
+    first-before (a .before) (a .bytes .now) (a .i) (k .before .if3 .left) (k .before .before .if2 .left) (c .before .if4 .left) (c .if5 .taken)
 
 sub-result : tie.Need-sub-result
 sub-result c = search needs
@@ -39,23 +44,24 @@ sub-result c = search needs
 shared-slice-read-result : tie.Need-shared-slice-read-result
 shared-slice-read-result c = search needs
 
-returns-5 : tie.Need-returns-5
-returns-5 c =
+returns-6 : tie.Need-returns-6
+returns-6 c =
     let k = c .before .before .before in
-    let a = k .before .before .before .before .args in
-    first-here (a .before) (a .bytes .now) (a .i) (k .before .if2 .left) (k .before .before .if1 .left) (c .before .before .if3 .left) (c .before .if4 .left)
+    let a = k .before .before .before .before .before .args in
+    first-here (a .before) (a .bytes .now) (a .i) (k .before .if3 .left) (k .before .before .if2 .left) (c .before .before .if4 .left) (c .before .if5 .left)
 
 pub ends-mark-spec : {M : Type 1} → statement M
 ends-mark-spec =
     tie.close
     (tie.spec
-    shared-slice-read-if1
     returns
+    shared-slice-read-if2
     returns-2
-    sub-if3
-    shared-slice-read-if3
     returns-3
+    sub-if4
+    shared-slice-read-if4
     returns-4
+    returns-5
     sub-result
     shared-slice-read-result
-    returns-5)
+    returns-6)

@@ -8,11 +8,11 @@ use lib.ListN.{length, take, drop, getD, set, length-set}
 use borrow.Author.Tests.{not-true, not-false}
 use Rattle.lists.specs.Write.{overwritten}
 use Rattle.lists.proofs.Filling.{Filling, fill-first, fill-next, fill-length, filled-all, filled-room}
 use Rattle.stuffing.specs.Stuffing.{stuffAfter, stuff}
-use Rattle.stuffing.proofs.Turns.{stuffedAt, stuff-end, put-plain, put-marked}
+use Rattle.stuffing_writer.proofs.Turns.{stuffedAt, stuff-end, put-plain, put-marked}
 use borrow.Author.Needs.{needs}
-use Rattle.stuffing.proofs.write_stuffed.Statement.{statement}
-use Rattle.stuffing.proofs.write_stuffed.Tie as tie
+use Rattle.stuffing_writer.proofs.write_stuffed.Statement.{statement}
+use Rattle.stuffing_writer.proofs.write_stuffed.Tie as tie
 
 abbrev Inv-loop : tie.InvT-loop
 Inv-loop first rest out₀ j₀ i₀ out j i =

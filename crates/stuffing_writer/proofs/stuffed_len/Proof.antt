@@ -5,11 +5,11 @@ use Prim.Native.Nat.{ℕ, _+_, _-_, _≤_, _<_}
 use native.Mathlib.Omega.{arith}
 use lib.ListN.{length, getD, drop}
 use borrow.Author.Tests.{le-leb, lt-leb}
 use Rattle.stuffing.specs.Stuffing.{stuffAfter, stuff}
-use Rattle.stuffing.proofs.Turns.{stuffedAt, stuff-plain, stuff-marked, stuff-some, stuff-end}
+use Rattle.stuffing_writer.proofs.Turns.{stuffedAt, stuff-plain, stuff-marked, stuff-some, stuff-end}
 use borrow.Author.Needs.{needs}
-use Rattle.stuffing.proofs.stuffed_len.Statement.{statement}
-use Rattle.stuffing.proofs.stuffed_len.Tie as tie
+use Rattle.stuffing_writer.proofs.stuffed_len.Statement.{statement}
+use Rattle.stuffing_writer.proofs.stuffed_len.Tie as tie
 
 abbrev Inv-loop : tie.InvT-loop
 Inv-loop first rest most n₀ i₀ n i =

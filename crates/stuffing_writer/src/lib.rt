@@ -1,0 +1,70 @@
+// The stuffed form of packet bodies: its length, and the writing.
+ghost use mathlib.Core.Path.{_≡_};
+ghost use mathlib.Core.List.{_∷_};
+ghost use Prim.Native.Nat.{min};
+ghost use lib.ListN.{length, take};
+ghost use Rattle.lists.specs.Write.{overwritten};
+ghost use Rattle.stuffing.specs.Stuffing.{stuff};
+ghost use Rattle.stuffing_writer.specs.Answers.{lengthWithin};
+
+// A length, where it is within a bound.
+pub enum Length {
+    Within(usize),
+    Past,
+}
+
+// The stuffed length of the body `first` followed by `rest`, where it is at most `most`. It stops as soon as it is past.
+pub fn stuffed_len(first: u8, rest: &[u8], most: usize) -> Length
+    ensures { λ r. ⌜ r ≡ lengthWithin most (length (stuff (first ∷ now (rest .entry)))) ⌝ }
+{
+    let mut n = 1;
+    let mut i = 0;
+    while i < rest.len() {
+        if most <= n {
+            return Length::Past;
+        }
+        n += 1;
+        if stuffing::ends_mark(first, rest, i) {
+            if most <= n {
+                return Length::Past;
+            }
+            n += 1;
+        }
+        i += 1;
+    }
+    if n <= most {
+        Length::Within(n)
+    } else {
+        Length::Past
+    }
+}
+
+// The stuffed form of the body `first` followed by `rest` at the start of out, as far as out has room. The answer is how many
+// bytes that are; those after them stay.
+pub fn write_stuffed(first: u8, rest: &[u8], out: &mut [u8]) -> usize
+    ensures { λ r. ⌜ r ≡ min (length (now (out .entry))) (length (stuff (first ∷ now (rest .entry)))) ⌝ }
+    ensures { λ _. ⌜ now (out .exit) ≡ overwritten (now (out .entry)) (take (length (now (out .entry))) (stuff (first ∷ now (rest .entry)))) ⌝ }
+{
+    if out.len() == 0 {
+        return 0;
+    }
+    out[0] = first;
+    let mut j = 1;
+    let mut i = 0;
+    while i < rest.len() {
+        if out.len() <= j {
+            return j;
+        }
+        out[j] = rest[i];
+        j += 1;
+        if stuffing::ends_mark(first, rest, i) {
+            if out.len() <= j {
+                return j;
+            }
+            out[j] = 0xFD;
+            j += 1;
+        }
+        i += 1;
+    }
+    j
+}

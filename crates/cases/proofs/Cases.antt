@@ -13,8 +13,10 @@ use Rattle.lists.proofs.Bools.{and-left, and-right}
 use Rattle.reading.specs.Rules.{Verdict, isPacket, isBadChecksum, isWaiting, isNothing}
 use Rattle.crc16.specs.Crc.{reduceIf, shift, shifts, crcByte, crcFrom}
 use Rattle.stuffing.specs.Stuffing.{stuffAfter, stuff, wellAfter, wellStuffed, unstuffAfter, unstuff}
-use Rattle.packet.specs.Packet.{lengthOf, bodyOf, checksumRight}
-use Rattle.packet.specs.Verdict.{frontAgrees, lengthAgrees, verdict}
+use Rattle.packet_front.specs.Front.{lengthOf}
+use Rattle.packet.specs.Packet.{bodyOf, checksumRight}
+use Rattle.packet_front.specs.Begun.{frontAgrees, lengthAgrees}
+use Rattle.packet.specs.Verdict.{verdict}
 use Rattle.encoder.specs.Writing.{withChecksum, packetOf}
 use Rattle.registers.specs.Registers.{registers, permitsBy}
 use Rattle.items.specs.Items.{numberAt, valueAt, bytesOf, put}

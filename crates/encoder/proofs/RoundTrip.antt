@@ -16,7 +16,8 @@ use Rattle.reading.specs.Rules.{isPacket}
 use Rattle.packet.specs.Verdict.{verdict}
 use Rattle.packet.proofs.Laws.{laws}
 use Rattle.stuffing.proofs.Laws.{unstuff-stuff, stuff-unstuff, stuff-well, length-stuff}
-use Rattle.packet.specs.Packet.{word, goodId, idOf, lengthOf, bodyOf, checksumRight, WellFormed}
+use Rattle.packet_front.specs.Front.{word, goodId, idOf, lengthOf}
+use Rattle.packet.specs.Packet.{bodyOf, checksumRight, WellFormed}
 use Rattle.encoder.specs.Writing.{low, high, front, withChecksum, packetOf}
 use Rattle.encoder.specs.RoundTrip.{Bytes, RoundTrip}
 use Rattle.encoder.proofs.Lists.{seven-apart, last-two}

@@ -8,7 +8,7 @@ use lib.Seq.{take-all}
 use Rattle.lists.specs.Write.{overwritten}
 use Rattle.lists.proofs.Write.{overwritten-take, overwritten-parts, overwritten-more}
 use Rattle.stuffing.specs.Stuffing.{stuff}
-use Rattle.packet.specs.Packet.{header}
+use Rattle.packet_front.specs.Front.{header}
 use Rattle.encoder.specs.Writing.{front, withChecksum, packetOf}
 
 pub packet-length : (id : ℕ) (body : List ℕ) → length (packetOf id body) ≡ length (stuff body) + 9

@@ -7,7 +7,7 @@ use lib.ListN.{length}
 use Rattle.lists.specs.Answer.{Answer, count, refused, firstFailing, answered, unlessRefused}
 use Rattle.lists.specs.Write.{placed}
 use Rattle.stuffing.specs.Stuffing.{stuff}
-use Rattle.packet.specs.Packet.{goodId}
+use Rattle.packet_front.specs.Front.{goodId}
 use Rattle.encoder.specs.Writing.{packetOf}
 use Rattle.encoder.specs.declared.Encoded.{Encoded}
 use Rattle.encoder.specs.declared.Encoded.the-variants.{Count, BadId, TooLong, NoRoom}

@@ -6,7 +6,8 @@ use Prim.Native.Nat.{ℕ, _+_, _≤_, _<_}
 use lib.ListN.{length, getD}
 use Rattle.stuffing.specs.Stuffing.{stuff, unstuff}
 use Rattle.reading.specs.Rules.{isPacket}
-use Rattle.packet.specs.Packet.{goodId, idOf, bodyOf, WellFormed}
+use Rattle.packet_front.specs.Front.{goodId, idOf}
+use Rattle.packet.specs.Packet.{bodyOf, WellFormed}
 use Rattle.packet.specs.Verdict.{verdict}
 use Rattle.encoder.specs.Writing.{packetOf}
 

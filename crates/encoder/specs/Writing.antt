@@ -4,7 +4,7 @@ use Prim.Native.Nat.{ℕ, _+_, _/_, _%_}
 use lib.ListN.{length}
 use Rattle.crc16.specs.Crc.{crcFrom}
 use Rattle.stuffing.specs.Stuffing.{stuff}
-use Rattle.packet.specs.Packet.{header}
+use Rattle.packet_front.specs.Front.{header}
 
 -- 16-bit numbers go low byte first
 abbrev pub low : ℕ → ℕ

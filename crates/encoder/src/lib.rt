@@ -6,7 +6,7 @@ ghost use Prim.Native.Nat.{_+_, _≤_};
 ghost use lib.ListN.{length, take};
 ghost use Rattle.lists.specs.Write.{overwritten};
 ghost use Rattle.stuffing.specs.Stuffing.{stuff};
-ghost use Rattle.packet.specs.Packet.{header};
+ghost use Rattle.packet_front.specs.Front.{header};
 ghost use Rattle.encoder.specs.Writing.{front, withChecksum, packetOf};
 ghost use Rattle.encoder.specs.Encoding.{encodedAnswer, encodeAnswer, encodeOut};
 
@@ -58,7 +58,7 @@ pub fn encode(id: u8, instruction: u8, params: &[u8], out: &mut [u8], at: usize)
     ensures { λ r. ⌜ encodedAnswer r ≡ encodeAnswer id (instruction ∷ now (params .entry)) (now (out .entry)) at ⌝ }
     ensures { λ _. ⌜ now (out .exit) ≡ encodeOut id (instruction ∷ now (params .entry)) (now (out .entry)) at ⌝ }
 {
-    if !packet::good_id(id) {
+    if !packet_front::good_id(id) {
         return Encoded::BadId;
     }
     let Length::Within(n) = stuffing_writer::stuffed_len(instruction, params, 1022) else {

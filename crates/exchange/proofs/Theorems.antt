@@ -9,7 +9,8 @@ use lib.ListN.{length, getD}
 use borrow.Author.Tests.{le-leb}
 use Rattle.stuffing.specs.Stuffing.{stuff, unstuff}
 use Rattle.stuffing.specs.Answers.{removalRefusal}
-use Rattle.packet.specs.Packet.{goodId, idOf, bodyOf, WellFormed}
+use Rattle.packet_front.specs.Front.{goodId, idOf}
+use Rattle.packet.specs.Packet.{bodyOf, WellFormed}
 use Rattle.encoder.specs.Writing.{withChecksum, packetOf}
 use Rattle.encoder.specs.RoundTrip.{RoundTrip}
 use Rattle.encoder.proofs.RoundTrip.{round-trip}

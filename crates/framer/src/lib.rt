@@ -11,7 +11,8 @@ ghost use lib.ListN.{length, take, drop};
 ghost use Rattle.reading.specs.Reading.{closed};
 ghost use Rattle.reading.specs.Calls.{first, fed, gapped};
 ghost use Rattle.reading.specs.Progress.{afterTaking};
-ghost use Rattle.packet.specs.Verdict.{protocol2, answerFor, verdict, lacks};
+ghost use Rattle.packet_front.specs.Begun.{lacks};
+ghost use Rattle.packet.specs.Verdict.{protocol2, answerFor, verdict};
 ghost use Rattle.delivery.specs.Step.{Replied};
 ghost use Rattle.framer.specs.Core.{CoreCall};
 

@@ -5,7 +5,7 @@ use Prim.Native.Nat.{ℕ, _+_, _-_, _≤_}
 use native.Mathlib.Omega.{arith}
 use lib.ListN.{take, drop, take-append-drop}
 use lib.Seq.{take-append-add}
-use Rattle.packet.specs.Packet.{header}
+use Rattle.packet_front.specs.Front.{header}
 
 pub after-header : (s : List ℕ) (n : ℕ) → take 4 s ≡ header → 4 ≤ n → header ++ take (n - 4) (drop 4 s) ≡ take n s
 after-header s n e h =

@@ -13,11 +13,14 @@ use Rattle.lists.proofs.Bools.{and-left, and-right, contrary, both-ways}
 use Rattle.reading.specs.Rules.{Laws, Undecided, isPacket, isBadChecksum, isWaiting, isNothing, Verdict as Ruling}
 use Rattle.reading.specs.Progress.{Settles}
 use Rattle.stuffing.specs.Stuffing.{wellStuffed}
-use Rattle.packet.specs.Packet.{goodId, idOf, lengthOf, bodyOf, checksumRight, WellFormed}
-use Rattle.packet.specs.Verdict.{soFar, frontAgrees, lengthAgrees, sizeOf, complete, ruling, verdict, lacks, begunAs, settledAs, settledBy, protocol2}
-use Rattle.packet.proofs.Lists.{four-taken}
-use Rattle.packet.proofs.Rulings.{disagrees, waits, whole, both, length-good, incomplete-early, incomplete, completes, has-field, has-all, lacks-early, lacks-late}
-use Rattle.packet.proofs.Agreement.{passes, passed, front-header, front-tests, front-agrees, front-before, front-same, size-same, length-same, length-before, length-bounds}
+use Rattle.packet_front.specs.Front.{goodId, idOf, lengthOf}
+use Rattle.packet.specs.Packet.{bodyOf, checksumRight, WellFormed}
+use Rattle.packet_front.specs.Begun.{soFar, frontAgrees, lengthAgrees, sizeOf, complete, lacks, begunAs, settledAs, settledBy}
+use Rattle.packet.specs.Verdict.{ruling, verdict, protocol2}
+use Rattle.packet_front.proofs.Lists.{four-taken}
+use Rattle.packet_front.proofs.Tests.{both, length-good, incomplete-early, incomplete, completes, has-field, has-all, lacks-early, lacks-late}
+use Rattle.packet.proofs.Rulings.{disagrees, waits, whole}
+use Rattle.packet_front.proofs.Agreement.{passes, passed, front-header, front-tests, front-agrees, front-before, front-same, size-same, length-same, length-before, length-bounds}
 
 abbrev agrees : List ℕ → Bool
 agrees s = frontAgrees s && lengthAgrees s

@@ -1,6 +1,4 @@
-mod Lists
 pub mod Header
 mod Rulings
-mod Agreement
 mod Looks
 pub mod Laws

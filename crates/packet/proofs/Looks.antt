@@ -7,13 +7,15 @@ use native.Mathlib.Omega.{arith}
 use lib.ListN.{length, take}
 use lib.Seq.{length-take-le, take-take}
 use Rattle.lists.proofs.Bools.{and-left, and-right}
-use Rattle.packet.specs.Packet.{header, lengthOf}
-use Rattle.packet.specs.Verdict.{frontAgrees, lengthAgrees, sizeOf, complete, verdict, lacks, begunAs, begunBy, answerFor, wholeAnswer}
+use Rattle.packet_front.specs.Front.{header, lengthOf}
+use Rattle.packet_front.specs.Begun.{frontAgrees, lengthAgrees, sizeOf, complete, lacks, begunAs, begunBy}
+use Rattle.packet.specs.Verdict.{verdict, answerFor, wholeAnswer}
 use Rattle.packet.specs.declared.Verdict.the-variants.{Waiting, Nothing}
-use Rattle.packet.specs.declared.Begun.the-variants.{Whole}
-use Rattle.packet.specs.declared.Begun.the-variants.{Nothing as Nothing·begun, Waiting as Waiting·begun}
-use Rattle.packet.proofs.Rulings.{disagrees, waits, whole-answer, has-field, has-all}
-use Rattle.packet.proofs.Agreement.{front-tests, front-header, length-bounds}
+use Rattle.packet_front.specs.declared.Begun.the-variants.{Whole}
+use Rattle.packet_front.specs.declared.Begun.the-variants.{Nothing as Nothing·begun, Waiting as Waiting·begun}
+use Rattle.packet_front.proofs.Tests.{has-field, has-all}
+use Rattle.packet.proofs.Rulings.{disagrees, waits, whole-answer}
+use Rattle.packet_front.proofs.Agreement.{front-tests, front-header, length-bounds}
 
 as-nothing : (a c : Bool) (k n : ℕ) → begunAs a c k n ≡ Nothing·begun → a ≡ false
 as-nothing false c k n e = refl

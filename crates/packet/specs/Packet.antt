@@ -1,30 +1,13 @@
 -- One packet of Protocol 2.0, rule by rule: FF FF FD 00, ID, length low and high, body, checksum low and high.
 use mathlib.Core.Path.{_≡_}
-use mathlib.Core.Bool.{Bool, true, _||_}
-use mathlib.Core.List.{List, [], _∷_}
-use Prim.Native.Nat.{ℕ, _+_, _-_, _*_, _≤_}
-use lib.Dec.{leb, eqb}
+use mathlib.Core.Bool.{Bool, true}
+use mathlib.Core.List.{List}
+use Prim.Native.Nat.{ℕ, _+_, _-_, _≤_}
+use lib.Dec.{eqb}
 use lib.ListN.{length, take, drop, getD}
 use Rattle.crc16.specs.Crc.{crcFrom}
 use Rattle.stuffing.specs.Stuffing.{wellStuffed}
-
--- 16-bit numbers go low byte first
-abbrev pub word : ℕ → ℕ → ℕ
-word lo hi = lo + hi * 256
-
-abbrev pub header : List ℕ
-header = 0xFF ∷ 0xFF ∷ 0xFD ∷ 0x00 ∷ []
-
--- 0 to 252, or 254 for all devices
-abbrev pub goodId : ℕ → Bool
-goodId id = leb id 252 || eqb id 254
-
-abbrev pub idOf : List ℕ → ℕ
-idOf w = getD w 4 0
-
--- the length field counts the body and the checksum
-unfoldable pub lengthOf : List ℕ → ℕ
-lengthOf w = word (getD w 5 0) (getD w 6 0)
+use Rattle.packet_front.specs.Front.{word, header, goodId, idOf, lengthOf}
 
 -- the body lies between the length field and the checksum
 unfoldable pub bodyOf : List ℕ → List ℕ

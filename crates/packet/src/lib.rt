@@ -1,17 +1,17 @@
 // One packet of Protocol 2.0, as it is read: the verdict on the bytes from an offset on, and the body as a part of the packet.
+use packet_front::Begun;
 use stuffing::Checked;
 use stuffing::Unstuffed;
 ghost use mathlib.Core.Path.{_≡_};
-ghost use mathlib.Core.Bool.{Bool};
 ghost use mathlib.Core.List.{_++_};
-ghost use Prim.Native.Nat.{_+_, _*_, _≤_, _<_};
-ghost use lib.Dec.{eqb};
+ghost use Prim.Native.Nat.{_≤_};
 ghost use lib.ListN.{length, take, drop};
 ghost use Rattle.crc16.specs.Crc.{crcFrom};
 ghost use Rattle.stuffing.specs.Answers.{unstuffedAnswer, removalAnswer, removalOut};
-ghost use Rattle.packet.specs.Packet.{header, goodId, bodyOf};
-ghost use Rattle.packet.specs.Packet.{word as Packet·word};
-ghost use Rattle.packet.specs.Verdict.{soFar, frontAgrees, verdict, lacks, begunBy, settledBy, answerFor, wholeAnswer};
+ghost use Rattle.packet_front.specs.Front.{header};
+ghost use Rattle.packet_front.specs.Begun.{lacks};
+ghost use Rattle.packet.specs.Packet.{bodyOf};
+ghost use Rattle.packet.specs.Verdict.{verdict, answerFor, wholeAnswer};
 
 // What the bytes from an offset on are, while the segment is open.
 pub enum Verdict {
@@ -22,67 +22,6 @@ pub enum Verdict {
     // a beginning that surely lacks so many bytes
     Waiting(usize),
     Nothing,
-}
-
-// Bytes that begin no packet, by header, ID and length field; that begin one and surely lack so many bytes; that have all its
-// bytes, so many.
-pub enum Begun {
-    Nothing,
-    Waiting(usize),
-    Whole(usize),
-}
-
-fn word(low: u8, high: u8) -> usize
-    ensures { λ n. ⌜ n ≡ Packet·word low high ⌝ }
-{
-    (low as usize) + (high as usize) * 256
-}
-
-pub fn good_id(id: u8) -> bool
-    ensures { λ r. ⌜ r ≡ goodId id ⌝ }
-{
-    if id <= 252 {
-        return true;
-    }
-    id == 254
-}
-
-// Byte i is `value`, if it is there.
-fn byte_agrees(s: &[u8], i: usize, value: u8) -> bool
-    ensures { λ r. ⌜ r ≡ soFar (now (s .entry)) i (eqb value) ⌝ }
-{
-    if s.len() <= i {
-        return true;
-    }
-    value == s[i]
-}
-
-fn id_agrees(s: &[u8]) -> bool
-    ensures { λ r. ⌜ r ≡ soFar (now (s .entry)) 4 goodId ⌝ }
-{
-    if s.len() <= 4 {
-        return true;
-    }
-    good_id(s[4])
-}
-
-// The bytes that are there agree with header and ID.
-fn front_agrees(s: &[u8]) -> bool
-    ensures { λ r. ⌜ r ≡ frontAgrees (now (s .entry)) ⌝ }
-{
-    if !byte_agrees(s, 0, 0xFF) {
-        return false;
-    }
-    if !byte_agrees(s, 1, 0xFF) {
-        return false;
-    }
-    if !byte_agrees(s, 2, 0xFD) {
-        return false;
-    }
-    if !byte_agrees(s, 3, 0x00) {
-        return false;
-    }
-    id_agrees(s)
 }
 
 // The body, as a part of the packet: between the length field and the checksum; empty where there is no room for both.
@@ -122,7 +61,7 @@ fn judge_whole(packet: &[u8]) -> Verdict
     let n = packet.len();
     let end = n - 2;
     let crc = checksum(&packet[4..end]);
-    if (crc as usize) != word(packet[end], packet[end + 1]) {
+    if (crc as usize) != packet_front::word(packet[end], packet[end + 1]) {
         return Verdict::BadChecksum(packet[4]);
     }
     let Checked::Good(_) = stuffing::check(body(packet)) else {
@@ -131,36 +70,11 @@ fn judge_whole(packet: &[u8]) -> Verdict
     Verdict::Packet(n)
 }
 
-// What header, ID and length field say of the bytes from the slice's start on.
-fn look(s: &[u8]) -> Begun
-    ensures { λ r. ⌜ r ≡ begunBy (now (s .entry)) ⌝ }
-{
-    if !front_agrees(s) {
-        return Begun::Nothing;
-    }
-    let n = s.len();
-    if n < 7 {
-        return Begun::Waiting(10 - n);
-    }
-    let length = word(s[5], s[6]);
-    if length < 3 {
-        return Begun::Nothing;
-    }
-    if 1024 < length {
-        return Begun::Nothing;
-    }
-    let size = 7 + length;
-    if n < size {
-        return Begun::Waiting(size - n);
-    }
-    Begun::Whole(size)
-}
-
 // The verdict on the bytes from the slice's start on.
 fn judge_start(s: &[u8]) -> Verdict
     ensures { λ r. ⌜ r ≡ answerFor (verdict (now (s .entry))) (lacks (now (s .entry))) ⌝ }
 {
-    match look(s) {
+    match packet_front::look(s) {
         Begun::Nothing => Verdict::Nothing,
         Begun::Waiting(lacks) => Verdict::Waiting(lacks),
         Begun::Whole(size) => judge_whole(&s[..size]),
@@ -176,19 +90,4 @@ pub fn judge(segment: &[u8], offset: usize) -> Verdict
         return judge_start(&segment[..0]);
     }
     judge_start(&segment[offset..])
-}
-
-// How many bytes checksum and stuffing are judged by at an offset: all of a packet by header, ID and length that is there; 0
-// where none begins, which as many bytes as the shortest packet has show, or where some are missing.
-pub fn settled(segment: &[u8], offset: usize) -> usize
-    ensures { λ r. ⌜ r ≡ settledBy (drop offset (now (segment .entry))) ⌝ }
-{
-    if segment.len() <= offset {
-        return 0;
-    }
-    match look(&segment[offset..]) {
-        Begun::Nothing => 0,
-        Begun::Waiting(_) => 0,
-        Begun::Whole(size) => size,
-    }
 }

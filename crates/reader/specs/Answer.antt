@@ -9,7 +9,7 @@ use lib.ListN.{length, replicate}
 use Rattle.lists.specs.Write.{padded}
 use Rattle.reading.specs.Reading.{Event, packet, badChecksum}
 use Rattle.reading.specs.Calls.{Reply}
-use Rattle.packet.specs.Packet.{idOf}
+use Rattle.packet_front.specs.Front.{idOf}
 use Rattle.delivery.specs.declared.Event.{Event as Outcome}
 use Rattle.delivery.specs.declared.Event.the-variants.{Packet, BadChecksum, Silent, Refused}
 use Rattle.reader.specs.declared.Heard.{Heard}

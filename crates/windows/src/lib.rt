@@ -95,7 +95,7 @@ pub fn advance(chunk: &[u8], from: usize) -> Window
                 };
             }
             Verdict::BadChecksum(id) => {
-                let last = greatest(end, at + packet::settled(chunk, at));
+                let last = greatest(end, at + packet_front::settled(chunk, at));
                 return Window {
                     seen: Sight::BadChecksum { at, id },
                     end: last,
@@ -109,7 +109,7 @@ pub fn advance(chunk: &[u8], from: usize) -> Window
             }
             Verdict::Nothing => {}
         }
-        end = greatest(end, at + packet::settled(chunk, at));
+        end = greatest(end, at + packet_front::settled(chunk, at));
         at += 1;
     }
     Window {

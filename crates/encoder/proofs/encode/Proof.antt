@@ -9,7 +9,7 @@ use Rattle.lists.specs.Answer.{count}
 use Rattle.lists.proofs.Write.{tail-placed}
 use Rattle.stuffing.specs.Stuffing.{stuff}
 use Rattle.stuffing_writer.proofs.Answers.{is-within, is-past}
-use Rattle.packet.specs.Packet.{goodId}
+use Rattle.packet_front.specs.Front.{goodId}
 use Rattle.encoder.specs.Writing.{packetOf}
 use Rattle.encoder.specs.Encoding.{encodeRefusal}
 use Rattle.encoder.proofs.Writing.{packet-length}

@@ -1,5 +1,6 @@
 use lib.Seq.{length-take-le}
-use Rattle.packet.specs.Verdict.{answerFor, verdict, lacks}
+use Rattle.packet_front.specs.Begun.{lacks}
+use Rattle.packet.specs.Verdict.{answerFor, verdict}
 use mathlib.Core.List.{List}
 use Rattle.buffers.proofs.Buffers.{longest-placed, longest-held}
 use mathlib.Core.Path.{refl, sym, ap, _∙_}

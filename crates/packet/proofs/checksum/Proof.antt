@@ -1,7 +1,7 @@
 use mathlib.Core.Path.{_≡_, _∙_}
 use Rattle.crc16.specs.Crc.{reduceIf, shift, shifts, crcByte, crcFrom}
 use Rattle.crc16.proofs.Laws.{crc-append}
-use Rattle.packet.specs.Packet.{header}
+use Rattle.packet_front.specs.Front.{header}
 use borrow.Author.Needs.{needs}
 use Rattle.packet.proofs.checksum.Statement.{statement}
 use Rattle.packet.proofs.checksum.Tie as tie

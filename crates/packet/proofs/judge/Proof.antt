@@ -4,7 +4,8 @@ use Prim.Native.Nat.{ℕ, _-_}
 use native.Mathlib.Omega.{arith}
 use lib.ListN.{length, drop, length-drop, drop-of-length-le}
 use lib.Seq.{take-all}
-use Rattle.packet.specs.Verdict.{verdict, lacks, answerFor}
+use Rattle.packet_front.specs.Begun.{lacks}
+use Rattle.packet.specs.Verdict.{verdict, answerFor}
 use borrow.Author.Needs.{needs}
 use Rattle.packet.proofs.judge.Statement.{statement}
 use Rattle.packet.proofs.judge.Tie as tie

@@ -9,7 +9,8 @@ use Rattle.crc16.specs.Crc.{crcFrom}
 use Rattle.stuffing.specs.Stuffing.{wellStuffed}
 use Rattle.stuffing.specs.Answers.{checked}
 use Rattle.stuffing.proofs.Answers.{checked-bad, checked-good}
-use Rattle.packet.specs.Packet.{word, bodyOf, checksumRight}
+use Rattle.packet_front.specs.Front.{word}
+use Rattle.packet.specs.Packet.{bodyOf, checksumRight}
 use Rattle.packet.proofs.Header.{after-header}
 use borrow.Author.Needs.{needs}
 use Rattle.packet.proofs.judge_whole.Statement.{statement}

@@ -6,7 +6,8 @@ use native.Mathlib.Omega.{arith}
 use lib.ListN.{length, drop, length-drop}
 use borrow.Author.Needs.{needs}
 use Rattle.reading.specs.Rules.{isPacket}
-use Rattle.packet.specs.Verdict.{protocol2, settledBy}
+use Rattle.packet_front.specs.Begun.{settledBy}
+use Rattle.packet.specs.Verdict.{protocol2}
 use Rattle.packet.proofs.Laws.{laws, settles, none-lacks}
 use Rattle.windows.proofs.Scans.{was-packet, was-bad, was-waiting, was-nothing}
 use Rattle.windows.proofs.Seeking.{Sought, sought-start, sought-next, sought-packet, sought-bad, sought-end}

@@ -4,12 +4,12 @@ use Prim.Native.Nat.{ℕ, _+_, _-_, _≤_}
 use native.Mathlib.Omega.{arith}
 use lib.ListN.{length, take, length-take}
 use borrow.Author.Tests.{not-true, not-false}
-use Rattle.packet.specs.Packet.{lengthOf}
-use Rattle.packet.specs.Verdict.{frontAgrees, lengthAgrees, sizeOf}
-use Rattle.packet.proofs.Rulings.{length-early, length-short, length-long, length-good, both, incomplete-early, incomplete, completes, lacks-early, lacks-late}
+use Rattle.packet_front.specs.Front.{lengthOf}
+use Rattle.packet_front.specs.Begun.{frontAgrees, lengthAgrees, sizeOf}
+use Rattle.packet_front.proofs.Tests.{length-early, length-short, length-long, length-good, both, incomplete-early, incomplete, completes, lacks-early, lacks-late}
 use borrow.Author.Needs.{needs}
-use Rattle.packet.proofs.look.Statement.{statement}
-use Rattle.packet.proofs.look.Tie as tie
+use Rattle.packet_front.proofs.look.Statement.{statement}
+use Rattle.packet_front.proofs.look.Tie as tie
 
 -- what is known once the length field has been read
 module _ (p : tie.After-word) where

@@ -1,6 +1,6 @@
 use borrow.Author.Tests.{le-leb, lt-leb}
-use Rattle.packet.proofs.good_id.Statement.{statement}
-use Rattle.packet.proofs.good_id.Tie as tie
+use Rattle.packet_front.proofs.good_id.Statement.{statement}
+use Rattle.packet_front.proofs.good_id.Tie as tie
 
 returns : tie.Need-returns
 returns c = simp (le-leb _ _ (c .if1 .taken))

@@ -8,9 +8,9 @@ use lib.Dec.{leb, ltb, eqb}
 use lib.ListN.{length, take, getD, length-append, List·getD-append}
 use borrow.Author.Tests.{eqb-true, leb-true, leb-false, ltb-false, le-leb, lt-leb, lt-ltb, le-ltb}
 use Rattle.lists.proofs.Bools.{and-left, and-right, or-right}
-use Rattle.packet.specs.Packet.{header, goodId, lengthOf}
-use Rattle.packet.proofs.Lists.{take-four}
-use Rattle.packet.specs.Verdict.{soFar, frontAgrees, lengthAgrees, sizeOf}
+use Rattle.packet_front.specs.Front.{header, goodId, lengthOf}
+use Rattle.packet_front.proofs.Lists.{take-four}
+use Rattle.packet_front.specs.Begun.{soFar, frontAgrees, lengthAgrees, sizeOf}
 
 -- one byte's test
 module _ (test : ℕ → Bool) (i : ℕ) (a : List ℕ) where

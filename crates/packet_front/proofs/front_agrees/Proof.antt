@@ -1,10 +1,10 @@
 use mathlib.Core.Path.{_≡_, refl, sym, ap, _∙_}
 use mathlib.Core.Bool.{and-false}
 use borrow.Author.Tests.{not-true, not-false}
-use Rattle.packet.specs.Verdict.{frontAgrees}
+use Rattle.packet_front.specs.Begun.{frontAgrees}
 use borrow.Author.Needs.{needs}
-use Rattle.packet.proofs.front_agrees.Statement.{statement}
-use Rattle.packet.proofs.front_agrees.Tie as tie
+use Rattle.packet_front.proofs.front_agrees.Statement.{statement}
+use Rattle.packet_front.proofs.front_agrees.Tie as tie
 
 byte-agrees-requires : tie.Need-byte-agrees-requires
 byte-agrees-requires c κs = search needs

@@ -1,4 +1,4 @@
--- Laws on lists that only this crate needs.
+-- The first four bytes of a list.
 use mathlib.Core.Path.{_≡_, sym, ap, _∙_}
 use mathlib.Core.List.{List, [], _∷_}
 use Prim.Native.Nat.{ℕ, _≤_, _<_}

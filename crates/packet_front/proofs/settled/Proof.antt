@@ -4,10 +4,10 @@ use Prim.Native.Nat.{ℕ, _-_}
 use native.Mathlib.Omega.{arith}
 use lib.ListN.{length, take, drop, length-drop, drop-of-length-le}
 use lib.Seq.{take-all}
-use Rattle.packet.specs.Verdict.{frontAgrees, lengthAgrees, begunBy, settledAs, settledBy}
+use Rattle.packet_front.specs.Begun.{frontAgrees, lengthAgrees, begunBy, settledAs, settledBy}
 use borrow.Author.Needs.{needs}
-use Rattle.packet.proofs.settled.Statement.{statement}
-use Rattle.packet.proofs.settled.Tie as tie
+use Rattle.packet_front.proofs.settled.Statement.{statement}
+use Rattle.packet_front.proofs.settled.Tie as tie
 
 none-settles : settledBy [] ≡ 0
 unfolding frontAgrees lengthAgrees

@@ -1,0 +1,109 @@
+// The front of a packet of Protocol 2.0: what header, ID and length field say of the bytes from an offset on.
+ghost use mathlib.Core.Path.{_≡_};
+ghost use lib.Dec.{eqb};
+ghost use lib.ListN.{drop};
+ghost use Rattle.packet_front.specs.Front.{goodId};
+ghost use Rattle.packet_front.specs.Front.{word as Front·word};
+ghost use Rattle.packet_front.specs.Begun.{soFar, frontAgrees, begunBy, settledBy};
+
+// Bytes that begin no packet, by header, ID and length field; that begin one and surely lack so many bytes; that have all its
+// bytes, so many.
+pub enum Begun {
+    Nothing,
+    Waiting(usize),
+    Whole(usize),
+}
+
+// A 16-bit number, low byte first.
+pub fn word(low: u8, high: u8) -> usize
+    ensures { λ n. ⌜ n ≡ Front·word low high ⌝ }
+{
+    (low as usize) + (high as usize) * 256
+}
+
+pub fn good_id(id: u8) -> bool
+    ensures { λ r. ⌜ r ≡ goodId id ⌝ }
+{
+    if id <= 252 {
+        return true;
+    }
+    id == 254
+}
+
+// Byte i is `value`, if it is there.
+fn byte_agrees(s: &[u8], i: usize, value: u8) -> bool
+    ensures { λ r. ⌜ r ≡ soFar (now (s .entry)) i (eqb value) ⌝ }
+{
+    if s.len() <= i {
+        return true;
+    }
+    value == s[i]
+}
+
+fn id_agrees(s: &[u8]) -> bool
+    ensures { λ r. ⌜ r ≡ soFar (now (s .entry)) 4 goodId ⌝ }
+{
+    if s.len() <= 4 {
+        return true;
+    }
+    good_id(s[4])
+}
+
+// The bytes that are there agree with header and ID.
+fn front_agrees(s: &[u8]) -> bool
+    ensures { λ r. ⌜ r ≡ frontAgrees (now (s .entry)) ⌝ }
+{
+    if !byte_agrees(s, 0, 0xFF) {
+        return false;
+    }
+    if !byte_agrees(s, 1, 0xFF) {
+        return false;
+    }
+    if !byte_agrees(s, 2, 0xFD) {
+        return false;
+    }
+    if !byte_agrees(s, 3, 0x00) {
+        return false;
+    }
+    id_agrees(s)
+}
+
+// What header, ID and length field say of the bytes from the slice's start on.
+pub fn look(s: &[u8]) -> Begun
+    ensures { λ r. ⌜ r ≡ begunBy (now (s .entry)) ⌝ }
+{
+    if !front_agrees(s) {
+        return Begun::Nothing;
+    }
+    let n = s.len();
+    if n < 7 {
+        return Begun::Waiting(10 - n);
+    }
+    let length = word(s[5], s[6]);
+    if length < 3 {
+        return Begun::Nothing;
+    }
+    if 1024 < length {
+        return Begun::Nothing;
+    }
+    let size = 7 + length;
+    if n < size {
+        return Begun::Waiting(size - n);
+    }
+    Begun::Whole(size)
+}
+
+// How many bytes checksum and stuffing are judged by at an offset: all of a packet by header, ID and length that is there; 0
+// where none begins, which as many bytes as the shortest packet has show, or where some are missing.
+pub fn settled(segment: &[u8], offset: usize) -> usize
+    ensures { λ r. ⌜ r ≡ settledBy (drop offset (now (segment .entry))) ⌝ }
+{
+    if segment.len() <= offset {
+        return 0;
+    }
+    match look(&segment[offset..]) {
+        Begun::Nothing => 0,
+        Begun::Waiting(_) => 0,
+        Begun::Whole(size) => size,
+    }
+}

@@ -31,7 +31,7 @@ help:
 	@echo 'make checksum  print the checksum and byte count of a file, likewise (CAPTURE=FILE or -)'
 	@echo 'make demo   run a device in C on a pseudo-terminal, talk to it and show the exchanges'
 	@echo 'make lib    prove the exports and build the archives that C links: $(LIBS)'
-	@echo 'make test   the gate: formatting, C and Rust tests, then every proof from nothing'
+	@echo 'make test   the gate: formatting, every proof from nothing and every must-fail edit, C and Rust tests'
 	@echo 'make fuzz   compare all exports with the second implementation for 10 minutes (SECONDS=N, SEED=S)'
 	@echo 'make replay FILE=FILE  run a case again in which make fuzz has found a difference'
 	@echo 'make bench  measure the exports beside plain C, as ratios (RUNS=N repeats it and gives the medians)'
@@ -73,9 +73,9 @@ $(call archive,$(1)): $(SOURCES)
 endef
 $(foreach crate,$(EXPORT_CRATES),$(eval $(call archive_rule,$(crate))))
 
-# rt ci comes last: it removes target/, and its count is the last line.
-test: kit format promises_test vectors_test lib c_test header_test demo_test rust_test
-	@rt ci || $(call failed,rt ci)
+# rt ci comes last: it removes target/, and its count is the last line. The tests that link the archives run beside it.
+test: kit format promises_test vectors_test
+	@python3 tests/gate.py rt ci || $(call failed,rt ci and the tests beside it)
 
 # Another kit may prove the same crates, so a difference is only said.
 kit:

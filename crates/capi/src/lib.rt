@@ -6,17 +6,16 @@ use numbers::StepNumbers;
 use reactions::Heard;
 ghost use mathlib.Core.Path.{_≡_};
 ghost use mathlib.Core.List.{_∷_};
-ghost use lib.ListN.{take};
 ghost use mathlib.Core.Option.{none};
 ghost use Rattle.crc16.specs.Crc.{crcFrom};
 ghost use Rattle.stuffing.specs.Answers.{removalAnswer, removalOut};
 ghost use Rattle.encoder.specs.Encoding.{encodeAnswer, encodeOut};
 ghost use Rattle.table_rules.specs.Outcomes.{inTable};
 ghost use Rattle.control_table.specs.Answers.{freshOut, measureOut};
-ghost use Rattle.reading.specs.Reading.{closed};
-ghost use Rattle.reading.specs.Calls.{first, fed, gapped};
+ghost use Rattle.reading.specs.Calls.{feed as Call·feed, gap as Call·gap};
+ghost use Rattle.reading.specs.Promise.{Demand3};
 ghost use Rattle.packet.specs.Verdict.{protocol2};
-ghost use Rattle.reader.specs.Answer.{saidFor, leftFor, packetFor};
+ghost use Rattle.reader.specs.Records.{saidOn, leftBy, lent, packetOn, records, NeverRefused};
 ghost use Rattle.device.specs.Answers.{callAnswer, callRegistered, callTable, callOut};
 ghost use Rattle.exchange.specs.Exchange.{exchangeAnswer, exchangeRegistered, exchangeTable, exchangeBody, exchangeOut};
 ghost use Rattle.numbers.specs.Exported.{exported, exportedRefusal, stepNumbers, deviceNumbers};
@@ -72,7 +71,7 @@ pub extern "C" fn dxl_measure(table: &mut [u8], position: i32, hardware_error: u
     numbers::outcome(control_table::measure(table, position, hardware_error))
 }
 
-// A feeding call on a reader by its parts: the held bytes and their count.
+// A feeding call on a reader's record by its parts, the held bytes and their count. Demand 3 is promised of these calls.
 #[no_mangle]
 pub extern "C" fn dxl_feed(
     held: &mut [u8; 1030],
@@ -80,10 +79,10 @@ pub extern "C" fn dxl_feed(
     chunk: &[u8],
     packet: &mut [u8; 1031],
 ) -> StepNumbers
-    ensures { λ r. ⌜ r ≡ stepNumbers (saidFor (now (count .entry)) (fed protocol2 (take (now (count .entry)) (now (held .entry))) (now (chunk .entry)))) ⌝ }
-    ensures { λ _. ⌜ (now (count .exit) ≡ saidFor (now (count .entry)) (fed protocol2 (take (now (count .entry)) (now (held .entry))) (now (chunk .entry))) .held)
-        × (now (held .exit) ≡ leftFor (now (count .entry)) (now (held .entry)) (fed protocol2 (take (now (count .entry)) (now (held .entry))) (now (chunk .entry))))
-        × (now (packet .exit) ≡ packetFor (now (count .entry)) (now (packet .entry)) (fed protocol2 (take (now (count .entry)) (now (held .entry))) (now (chunk .entry)))) ⌝ }
+    ensures { λ r. ⌜ r ≡ stepNumbers (saidOn (lent (now (held .entry)) (now (count .entry))) (Call·feed (now (chunk .entry)))) ⌝ }
+    ensures { λ _. ⌜ lent (now (held .exit)) (now (count .exit)) ≡ leftBy (lent (now (held .entry)) (now (count .entry))) (Call·feed (now (chunk .entry))) ⌝ }
+    ensures { λ _. ⌜ now (packet .exit) ≡ packetOn (lent (now (held .entry)) (now (count .entry))) (Call·feed (now (chunk .entry))) (now (packet .entry)) ⌝ }
+    ensures { λ _. ⌜ Demand3 protocol2 records × NeverRefused ⌝ }
 {
     let n = *count;
     let told = reader::feed_into(held, n, chunk, packet);
@@ -98,10 +97,9 @@ pub extern "C" fn dxl_gap(
     count: &mut usize,
     packet: &mut [u8; 1031],
 ) -> StepNumbers
-    ensures { λ r. ⌜ r ≡ stepNumbers (saidFor (now (count .entry)) (gapped (first protocol2 closed (take (now (count .entry)) (now (held .entry)))))) ⌝ }
-    ensures { λ _. ⌜ (now (count .exit) ≡ saidFor (now (count .entry)) (gapped (first protocol2 closed (take (now (count .entry)) (now (held .entry))))) .held)
-        × (now (held .exit) ≡ leftFor (now (count .entry)) (now (held .entry)) (gapped (first protocol2 closed (take (now (count .entry)) (now (held .entry))))))
-        × (now (packet .exit) ≡ packetFor (now (count .entry)) (now (packet .entry)) (gapped (first protocol2 closed (take (now (count .entry)) (now (held .entry)))))) ⌝ }
+    ensures { λ r. ⌜ r ≡ stepNumbers (saidOn (lent (now (held .entry)) (now (count .entry))) Call·gap) ⌝ }
+    ensures { λ _. ⌜ lent (now (held .exit)) (now (count .exit)) ≡ leftBy (lent (now (held .entry)) (now (count .entry))) Call·gap ⌝ }
+    ensures { λ _. ⌜ now (packet .exit) ≡ packetOn (lent (now (held .entry)) (now (count .entry))) Call·gap (now (packet .entry)) ⌝ }
 {
     let n = *count;
     let told = reader::gap_into(held, n, packet);

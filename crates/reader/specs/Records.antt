@@ -1,5 +1,5 @@
--- The reader's record and the calls on it, and demand 3 over lists of these calls. The contracts of `feed` and `gap` cite
--- `saidOn` and `leftBy`, of which the reader `records` is made.
+-- The reader's record and the calls on it, and demand 3 over lists of these calls. The contracts of `feed` and `gap`, and of the
+-- exports to C, cite `saidOn` and `leftBy`, of which the reader `records` is made.
 use mathlib.Core.Path.{_≡_}
 use mathlib.Core.List.{List}
 use mathlib.Core.Option.{Option, none, some}
@@ -10,7 +10,7 @@ use Rattle.reading.specs.Calls.{Call, call}
 use Rattle.reading.specs.Lists.{AnyReader, after}
 use Rattle.packet.specs.Verdict.{protocol2}
 use Rattle.reader.specs.declared.Reader.{Reader}
-use Rattle.reader.specs.Answer.{Kind, aPacket, aBadChecksum, noEvent, Said, saidFor, leftFor}
+use Rattle.reader.specs.Answer.{Kind, aPacket, aBadChecksum, noEvent, Said, saidFor, leftFor, packetFor}
 
 -- bytes past the count are ignored
 abbrev pub heldIn : Reader → List ℕ
@@ -24,6 +24,14 @@ saidOn r c = saidFor (r .count) (call protocol2 (heldIn r) c)
 unfoldable pub leftBy : Reader → Call → Reader
 leftBy r c =
     record { bytes = leftFor (r .count) (r .bytes) (call protocol2 (heldIn r) c); count = saidOn r c .held }
+
+-- the record by its parts, as C lends it
+abbrev pub lent : List ℕ → ℕ → Reader
+lent bytes count = record { bytes = bytes; count = count }
+
+-- and what a call leaves of the packet buffer that is lent beside it: the packet's bytes, followed by 0
+unfoldable pub packetOn : Reader → Call → List ℕ → List ℕ
+packetOn r c old = packetFor (r .count) old (call protocol2 (heldIn r) c)
 
 -- the event that an answer gives: the bytes of a packet, whose ID `saidOn` gives too, or the ID of a bad checksum
 abbrev pub eventOfKind : Kind → ℕ → ℕ → List ℕ → Option Event

@@ -1,4 +1,7 @@
-use mathlib.Core.Path.{_∙_}
+use mathlib.Core.Path.{_∙_, ap₂}
+use Rattle.reading.specs.Calls.{call}
+use Rattle.reader.specs.Records.{lent, saidOn, leftBy, packetOn}
+use Rattle.reader.proofs.Records.{records-demand, never-refused}
 use Rattle.numbers.proofs.Steps.{numbers-told, held-told}
 use borrow.Author.Needs.{needs}
 use Rattle.capi.proofs.dxl_feed.Statement.{statement}
@@ -11,11 +14,13 @@ told-requires : tie.Need-told-requires
 told-requires c κs = search needs
 
 returns : tie.Need-returns
+unfolding saidOn leftBy packetOn call
 returns c =
     let t = c .before .feed-into in
-    let e = t .ensures in (
+    let e = t .ensures in
+    let n = held-told (t .result .heard) (t .result .taken) (t .result .held) _ (e .0) in (
       c .told .ensures ∙ numbers-told (t .result .heard) (t .result .taken) (t .result .held) _ (e .0),
-      (held-told (t .result .heard) (t .result .taken) (t .result .held) _ (e .0), e .1 .0, e .1 .1),
+      (ap₂ lent (e .1 .0) n, (e .1 .1, (records-demand, never-refused))),
     )
 
 pub dxl-feed-spec : {M : Type 1} → statement M

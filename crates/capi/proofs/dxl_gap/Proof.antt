@@ -1,4 +1,6 @@
-use mathlib.Core.Path.{_∙_}
+use mathlib.Core.Path.{_∙_, ap₂}
+use Rattle.reading.specs.Calls.{call}
+use Rattle.reader.specs.Records.{lent, saidOn, leftBy, packetOn}
 use Rattle.numbers.proofs.Steps.{numbers-told, held-told}
 use borrow.Author.Needs.{needs}
 use Rattle.capi.proofs.dxl_gap.Statement.{statement}
@@ -11,11 +13,13 @@ told-requires : tie.Need-told-requires
 told-requires c κs = search needs
 
 returns : tie.Need-returns
+unfolding saidOn leftBy packetOn call
 returns c =
     let t = c .before .gap-into in
-    let e = t .ensures in (
+    let e = t .ensures in
+    let n = held-told (t .result .heard) (t .result .taken) (t .result .held) _ (e .0) in (
       c .told .ensures ∙ numbers-told (t .result .heard) (t .result .taken) (t .result .held) _ (e .0),
-      (held-told (t .result .heard) (t .result .taken) (t .result .held) _ (e .0), e .1 .0, e .1 .1),
+      (ap₂ lent (e .1 .0) n, e .1 .1),
     )
 
 pub dxl-gap-spec : {M : Type 1} → statement M

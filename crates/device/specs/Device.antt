@@ -5,7 +5,7 @@ use mathlib.Core.List.{List}
 use Prim.Native.Nat.{ℕ}
 use lib.Dec.{leb, eqb}
 use lib.ListN.{getD}
-use Rattle.registers.specs.Registers.{statusReturnLevel}
+use Rattle.registers.specs.Registers.{statusReturnLevel, hardwareError}
 use Rattle.status.specs.Status.{status, silence, errorByte}
 use Rattle.instructions.specs.Instructions.{Effect}
 use Rattle.instructions.specs.declared.RegisteredWrite.{RegisteredWrite}
@@ -13,12 +13,15 @@ use Rattle.status.specs.declared.Reply.{Reply}
 use Rattle.reactions.specs.declared.Heard.{Heard}
 use Rattle.reactions.specs.Reactions.{ownId, Voice, silent, speaks, Reaction, reaction}
 
+abbrev pub hardwareErrorIn : List ℕ → ℕ
+hardwareErrorIn table = getD table (hardwareError .address) 0
+
 -- ID and status return level are those before the instruction, the alert is that after it
 abbrev pub replyBy : Voice → List ℕ → Effect → Reply
 replyBy silent table e = silence
 replyBy (speaks least slot) table e =
     cond (leb least (getD table (statusReturnLevel .address) 0))
-    (status (ownId table) (errorByte (e .error) (e .table)) (e .bytes) slot) silence
+    (status (ownId table) (errorByte (e .error) (hardwareErrorIn (e .table))) (e .bytes) slot) silence
 
 pub record Carried : Type 0 where
   pub table : List ℕ

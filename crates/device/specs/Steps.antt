@@ -5,7 +5,7 @@ use Prim.Native.Nat.{ℕ}
 use lib.Dec.{leb}
 use Rattle.status.specs.Status.{silence, errorByte}
 use Rattle.reactions.specs.declared.Reacted.{Reacted}
-use Rattle.device.specs.Device.{Carried}
+use Rattle.device.specs.Device.{Carried, hardwareErrorIn}
 use Rattle.device.specs.declared.CarriedOut.{CarriedOut}
 use Rattle.status.specs.declared.Reply.{Reply}
 
@@ -16,7 +16,7 @@ replyTo after own level r =
     (record {
       speaks = true;
       id = own;
-      error = errorByte (r .done .error) after;
+      error = errorByte (r .done .error) (hardwareErrorIn after);
       count = r .done .count;
       bytes = r .done .bytes;
       slot = r .slot;

@@ -3,6 +3,7 @@ use instructions::RegisteredWrite;
 use reactions::Heard;
 use reactions::Reacted;
 use status::Reply;
+use status::Sent;
 ghost use mathlib.Core.Path.{_≡_};
 ghost use Prim.Native.Nat.{_≤_};
 ghost use lib.ListN.{length};
@@ -29,7 +30,7 @@ fn reply_to(table: &[u8], own: u8, level: u8, reacted: Reacted) -> Reply
     Reply {
         speaks: true,
         id: own,
-        error: status::error_byte(done.error, table),
+        error: status::error_byte(done.error, table[70]),
         count: done.count,
         bytes,
         slot: reacted.slot,
@@ -148,7 +149,12 @@ pub fn hear(
     let reply = carried.reply;
     let kept = carried.registered;
     let slot = reply.slot;
-    let n = status::send(reply, out);
+    let Sent::Count(n) = status::send(reply, out) else {
+        return Response {
+            replied: Replied::NoRoom,
+            registered: kept,
+        };
+    };
     Response {
         replied: Replied::Sent(n, slot),
         registered: kept,

@@ -1,15 +1,15 @@
--- A status always goes out: its ID is good, it is short, and 32 bytes are room enough.
+-- When a reply is refused, and that a status otherwise always goes out: its ID is good, it is short, and 32 bytes are room enough.
 use mathlib.Core.Path.{_≡_, sym, ap, _∙_}
 use mathlib.Core.Bool.{Bool, true, false, cond}
 use mathlib.Core.List.{List, [], _∷_}
-use mathlib.Core.Option.{Option, none}
+use mathlib.Core.Option.{Option, none, some}
 use Prim.Native.Nat.{ℕ, suc, _+_, _≤_, _<_}
 use native.Mathlib.Nat.{le-of-eq}
 use native.Mathlib.Numerals.{add-one}
 use native.Mathlib.Omega.{arith}
 use lib.ListN.{length, take, drop, getD, length-take, drop-of-length-le}
 use lib.Seq.{drop-cons}
-use borrow.Author.Tests.{le-leb}
+use borrow.Author.Tests.{le-leb, lt-leb}
 use Rattle.lists.specs.Answer.{count, answered, unlessRefused}
 use Rattle.lists.specs.Write.{overwritten, placed}
 use Rattle.stuffing.specs.Stuffing.{mark, stuff, marksAfter}
@@ -19,6 +19,44 @@ use Rattle.encoder.proofs.Writing.{packet-length}
 use Rattle.encoder.specs.Encoding.{encodedAnswer, encodeRefusal, encodeAnswer, encodeOut}
 use Rattle.encoder.specs.declared.Encoded.{Encoded}
 use Rattle.encoder.specs.declared.Encoded.the-variants.{Count, BadId, TooLong, NoRoom}
+use Rattle.status.specs.declared.Reply.{Reply}
+use Rattle.status.specs.declared.Sent.{Sent}
+use Rattle.status.specs.declared.Sent.the-variants.{Count as Sent·Count, BadId as Sent·BadId, TooLong as Sent·TooLong, NoRoom as Sent·NoRoom}
+use Rattle.status.specs.Status.{replyBytes}
+use Rattle.status.specs.Sending.{sendRefusal, sentAnswer, sendAnswer, sendOut}
+
+module _ (r : Reply) (out : List ℕ) where
+  pub refuses-id : 252 < r .id → sendRefusal r out ≡ some 11
+  unfolding sendRefusal
+  refuses-id h = rw (lt-leb (r .id) 252 h)
+
+  module _ (known : r .id ≤ 252) where
+    pub refuses-data : 8 < r .count → sendRefusal r out ≡ some 12
+    unfolding sendRefusal
+    refuses-data h = rw (le-leb (r .id) 252 known, lt-leb (r .count) 8 h)
+
+    module _ (short : r .count ≤ 8) where
+      pub refuses-room : length out < 32 → sendRefusal r out ≡ some 24
+      unfolding sendRefusal
+      refuses-room h = rw (le-leb (r .id) 252 known, le-leb (r .count) 8 short, lt-leb 32 (length out) h)
+
+      pub accepts : 32 ≤ length out → sendRefusal r out ≡ none
+      unfolding sendRefusal
+      accepts h = rw (le-leb (r .id) 252 known, le-leb (r .count) 8 short, le-leb 32 (length out) h)
+
+      -- then it goes out
+      module _ (room : 32 ≤ length out) where
+        pub goes-out : (s : Sent) → sentAnswer s ≡ sendAnswer r out → s ≡ Sent·Count (length (replyBytes r))
+        goes-out s e = by-case s (e ∙ ap (λ (o : Option ℕ). answered o (length (replyBytes r))) (accepts room))
+          where
+            by-case : (s : Sent) → sentAnswer s ≡ count (length (replyBytes r)) → s ≡ Sent·Count (length (replyBytes r))
+            by-case (Sent·Count k) h = cc
+            by-case Sent·BadId h = let z : _≡_ {A = ℕ} 0 1 = cc in absurd (omega arith)
+            by-case Sent·TooLong h = let z : _≡_ {A = ℕ} 0 1 = cc in absurd (omega arith)
+            by-case Sent·NoRoom h = let z : _≡_ {A = ℕ} 0 1 = cc in absurd (omega arith)
+
+        pub out-is : sendOut r out ≡ overwritten out (replyBytes r)
+        out-is = ap (λ (o : Option ℕ). unlessRefused o out (overwritten out (replyBytes r))) (accepts room)
 
 marks-le : (a b : ℕ) (s : List ℕ) → marksAfter a b s ≤ length s
 unfolding marksAfter

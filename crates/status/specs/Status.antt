@@ -2,12 +2,11 @@
 use mathlib.Core.Bool.{true, false, cond}
 use mathlib.Core.List.{List, [], _∷_}
 use Prim.Native.Nat.{ℕ, _+_, _%_}
-use lib.ListN.{length, take, replicate, getD}
-use Rattle.status.specs.declared.Reply.{Reply}
 use lib.Dec.{eqb}
-use Rattle.registers.specs.Registers.{hardwareError}
+use lib.ListN.{length, take, replicate}
 use Rattle.instructions.specs.Registered.{padded}
 use Rattle.encoder.specs.Writing.{packetOf}
+use Rattle.status.specs.declared.Reply.{Reply}
 
 abbrev pub status : ℕ → ℕ → List ℕ → ℕ → Reply
 status id error bytes slot =
@@ -17,8 +16,8 @@ abbrev pub silence : Reply
 silence = record { speaks = false; id = 0; error = 0; count = 0; bytes = replicate 8 0; slot = 0 }
 
 -- bit 7, the alert, is set where the hardware error is not 0
-abbrev pub errorByte : ℕ → List ℕ → ℕ
-errorByte error table = cond (eqb (getD table (hardwareError .address) 0) 0) error (error % 128 + 128)
+abbrev pub errorByte : ℕ → ℕ → ℕ
+errorByte error hardware = cond (eqb hardware 0) error (error % 128 + 128)
 
 -- instruction 55, error byte, data
 abbrev pub statusPacket : Reply → List ℕ

@@ -23,12 +23,15 @@ returns-2 c =
     let a = k .before .before .before .args in
     rw (not-false (a .reacted .speaks) (k .if1 .left), lt-leb (a .reacted .level) (a .level) (c .before .if2 .taken)) (c .silence2 .ensures)
 
+shared-slice-read-error-byte : tie.Need-shared-slice-read-error-byte
+shared-slice-read-error-byte c = search needs
+
 error-byte-requires : tie.Need-error-byte-requires
 error-byte-requires c κs = search needs
 
 returns-3 : tie.Need-returns-3
 returns-3 c =
-    let k = c .before .before .before in
+    let k = c .before .before .before .before in
     let s = k .before .before in
     let a = s .before .before .before .args in
     rw (not-false (a .reacted .speaks) (s .if1 .left), le-leb (a .reacted .level) (a .level) (k .if2 .left))
@@ -37,4 +40,4 @@ returns-3 c =
 pub reply-to-spec : {M : Type 1} → statement M
 reply-to-spec =
     tie.close
-    (tie.spec silence-requires returns silence-requires-2 returns-2 error-byte-requires returns-3)
+    (tie.spec silence-requires returns silence-requires-2 returns-2 shared-slice-read-error-byte error-byte-requires returns-3)

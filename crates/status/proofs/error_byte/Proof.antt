@@ -3,9 +3,6 @@ use borrow.Author.Needs.{needs}
 use Rattle.status.proofs.error_byte.Statement.{statement}
 use Rattle.status.proofs.error_byte.Tie as tie
 
-shared-slice-read-if1 : tie.Need-shared-slice-read-if1
-shared-slice-read-if1 c = search needs
-
 returns : tie.Need-returns
 returns c = rw (eq-eqb _ _ (c .if1 .taken))
 
@@ -16,4 +13,4 @@ returns-2 : tie.Need-returns-2
 returns-2 c = rw (ne-eqb _ _ (c .if1 .left))
 
 pub error-byte-spec : {M : Type 1} → statement M
-error-byte-spec = tie.close (tie.spec shared-slice-read-if1 returns add-result returns-2)
+error-byte-spec = tie.close (tie.spec returns add-result returns-2)

@@ -181,12 +181,12 @@ build/c/memory build/c/stack: build/c/%: tests/bench/%.c include/mednukals.h bui
 	@mkdir -p $(@D)
 	@$(CC) $(WARNINGS) -O2 -Iinclude -o $@ $< build/lib/libmednukals.a || $(call failed,compiling $<)
 
-# Long: some seconds for each change. MOST=N tries N of them, picked by SEED.
+# Long: some seconds for each change. MOST=N tries N of them, picked by SEED; SINCE=REV only those in lines that are new since REV.
 mutants:
 	@$(call need,rt)
 	@$(call need,python3)
-	@[ -n '$(CRATE)' ] || { echo 'mednukals: make mutants CRATE=NAME [DEFINITIONS=1] [MOST=N] [SEED=S]' >&2; exit 1; }
-	@python3 tools/mutants.py $(CRATE) $(if $(DEFINITIONS),--definitions) $(if $(MOST),--most $(MOST)) $(if $(SEED),--seed $(SEED))
+	@[ -n '$(CRATE)' ] || { echo 'mednukals: make mutants CRATE=NAME [DEFINITIONS=1] [SINCE=REV] [MOST=N] [SEED=S]' >&2; exit 1; }
+	@python3 tools/mutants.py $(CRATE) $(if $(DEFINITIONS),--definitions) $(if $(SINCE),--since '$(SINCE)') $(if $(MOST),--most $(MOST)) $(if $(SEED),--seed $(SEED))
 
 fmt:
 	@$(call need,rt)

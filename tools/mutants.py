@@ -1,7 +1,7 @@
 #!/usr/bin/env python3
 """Changes the source of a crate in one place at a time and sorts what the checker says of each change.
 
-  mutants.py CRATE [--definitions] [--most N] [--seed S] [--list]
+  mutants.py CRATE [--definitions] [--since REV] [--most N] [--seed S] [--list]
 
 accepted    the crate is still proved: the change is equal in meaning, or a promise is too weak
 fact        a statement no longer holds: what one hopes for
@@ -10,6 +10,8 @@ no program  the compiler refuses the change, or the changed definition is none
 
 With --definitions the files of specs/ are changed and the code is not: an accepted change is one that no code and no law of the
 crate notices. It tells of changes that in the code are refused for shape only, such as a sum made a difference.
+
+With --since only lines are changed that are new since that commit, so that after a change a crate need not be gone through again.
 
 Each change is checked in a copy under target/mutants/, by the quick check; an accepted one is checked again from nothing.
 """
@@ -123,6 +125,15 @@ def reordered(text):
             yield i, "\n".join(lines[:i] + two + one + lines[i + 6:])
 
 
+def new_lines(path, since):
+    """The numbers of the lines, from 0, that the file has not had at the commit `since`."""
+    diff = subprocess.run(["git", "diff", "--unified=0", since, "--", str(path)], cwd=ROOT, capture_output=True, text=True)
+    if diff.returncode != 0:
+        sys.exit(f"mutants: {diff.stderr.strip()}")
+    parts = [(int(first), int(count or 1)) for first, count in re.findall(r"^@@ \S+ \+(\d+)(?:,(\d+))? @@", diff.stdout, flags=re.M)]
+    return {first - 1 + k for first, count in parts for k in range(count)}
+
+
 def check(command, crate):
     run = subprocess.run(["rt", command, crate], cwd=PLACE, capture_output=True, text=True)
     return run.returncode, run.stdout + run.stderr
@@ -153,6 +164,7 @@ def main():
     parser = argparse.ArgumentParser(description=__doc__, formatter_class=argparse.RawDescriptionHelpFormatter)
     parser.add_argument("crate")
     parser.add_argument("--definitions", action="store_true", help="change specs/ and not src/")
+    parser.add_argument("--since", metavar="REV", help="change only lines that are new since that commit")
     parser.add_argument("--most", type=int, default=0, help="as many at the most, picked at random (0: all)")
     parser.add_argument("--seed", type=int, default=1)
     parser.add_argument("--list", action="store_true", help="only list the changes")
@@ -162,6 +174,9 @@ def main():
     if not sources:
         sys.exit(f"mutants: there is no crate {asked.crate} with {folder}/")
     found = [(path, number, new) for path in sources for number, new in changes(path.read_text())]
+    if asked.since:
+        new = {path: new_lines(path, asked.since) for path in sources}
+        found = [change for change in found if change[1] in new[change[0]]]
     if asked.most and asked.most < len(found):
         picked = sorted(random.Random(asked.seed).sample(range(len(found)), asked.most))
         found = [found[k] for k in picked]
@@ -185,7 +200,8 @@ def main():
         print(f"[{k}/{len(found)}, {time.time() - began:.0f} s] {kind}: {place}: {old}  =>  {after}", flush=True)
         if kind == "shape":
             print(f"    {why[:160]}", flush=True)
-    print(", ".join(f"{counts.get(kind, 0)} {kind}" for kind in ("accepted", "fact", "shape", "no program")))
+    if not asked.list:
+        print(", ".join(f"{counts.get(kind, 0)} {kind}" for kind in ("accepted", "fact", "shape", "no program")))
 
 
 if __name__ == "__main__":

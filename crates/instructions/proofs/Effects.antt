@@ -8,6 +8,7 @@ use native.Mathlib.Omega.{arith}
 use lib.ListN.{length, take, drop, set, length-take, length-drop}
 use borrow.Author.Tests.{eq-eqb, ne-eqb}
 use Rattle.lists.specs.Answer.{unlessRefused}
+use Rattle.lists.specs.Write.{padded}
 use Rattle.registers.specs.Registers.{tableSize, registeredInstruction}
 use Rattle.table_rules.specs.Rules.{stored, readRule, writeRule}
 use Rattle.table_rules.specs.Outcomes.{isDone, refusalOf, inTable}
@@ -17,7 +18,7 @@ use Rattle.table_rules.proofs.Judged.{done-none, GoodRead, good-read, GoodWrite
 use Rattle.control_table.specs.Answers.{readBytes, writeOut}
 use Rattle.control_table.proofs.Theorems.{read-inside}
 use Rattle.control_table.proofs.Put.{put-byte}
-use Rattle.instructions.specs.Registered.{padded, registering}
+use Rattle.instructions.specs.Registered.{registering}
 use Rattle.instructions.specs.Instructions.{Effect, errorOf, read, write, regWrite}
 use Rattle.instructions.specs.Steps.{doneWith, doneOf, sized}
 use Rattle.instructions.proofs.Sized.{of-size, by-size}
@@ -66,7 +67,7 @@ module _ (table : List ℕ) (w : RegisteredWrite) (address : ℕ) where
         let i = read-inside table address n (sym e ∙ done-none o d) in
         let l : n ≡ length (take n (drop address table)) = simp (length-take, length-drop) (omega arith) in
         rw (g) (ap (λ (b : List ℕ). record { error = 0; count = n; bytes = b; registered = w }) (b ∙ rw (in-table table (readRule address n) s, g))
-        ∙ ap (λ (k : ℕ). record { error = 0; count = k; bytes = padded (take n (drop address table)); registered = w }) l)
+        ∙ ap (λ (k : ℕ). record { error = 0; count = k; bytes = padded 8 (take n (drop address table)); registered = w }) l)
         ∙ ap doneOf (sym (of-size table w (read table w address n) s))
 
   module _ (bytes : List ℕ) where

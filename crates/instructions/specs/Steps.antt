@@ -4,14 +4,14 @@ use mathlib.Core.List.{List}
 use Prim.Native.Nat.{ℕ}
 use lib.Dec.{eqb}
 use lib.ListN.{length}
+use Rattle.lists.specs.Write.{padded}
 use Rattle.registers.specs.Registers.{tableSize}
-use Rattle.instructions.specs.Registered.{padded}
 use Rattle.instructions.specs.Instructions.{Effect, refusing}
 use Rattle.instructions.specs.declared.RegisteredWrite.{RegisteredWrite}
 use Rattle.instructions.specs.declared.Done.{Done}
 
 abbrev pub doneWith : ℕ → List ℕ → RegisteredWrite → Done
-doneWith error bytes w = record { error = error; count = length bytes; bytes = padded bytes; registered = w }
+doneWith error bytes w = record { error = error; count = length bytes; bytes = padded 8 bytes; registered = w }
 
 abbrev pub doneOf : Effect → Done
 doneOf e = doneWith (e .error) (e .bytes) (e .registered)

@@ -4,11 +4,8 @@ use table_rules::Outcome;
 ghost use mathlib.Core.Path.{_≡_};
 ghost use mathlib.Core.Bool.{cond};
 ghost use mathlib.Core.List.{[]};
-ghost use Prim.Native.Nat.{_≤_};
 ghost use lib.Dec.{leb};
-ghost use lib.ListN.{length};
 ghost use Rattle.table_rules.specs.Outcomes.{refusalOf};
-ghost use Rattle.instructions.specs.Registered.{padded};
 ghost use Rattle.instructions.specs.Registered.{dropped as Registered·dropped};
 ghost use Rattle.instructions.specs.Instructions.{errorOf, regWrite, factoryReset};
 ghost use Rattle.instructions.specs.Instructions.{ping as Instructions·ping};
@@ -69,16 +66,6 @@ fn error_of(outcome: Outcome) -> u8
     }
 }
 
-// At most 8 bytes, with 0 after them.
-fn padded_bytes(bytes: &[u8]) -> [u8; 8]
-    requires { ⌜ length (now bytes) ≤ 8 ⌝ }
-    ensures { λ r. ⌜ r ≡ padded (now (bytes .entry)) ⌝ }
-{
-    let mut out = [0u8; 8];
-    buffers::place(&mut out, 0, bytes);
-    out
-}
-
 pub fn read(table: &[u8], registered: RegisteredWrite, address: u16, count: u16) -> Done
     ensures { λ r. ⌜ r ≡ doneOf (sized (now (table .entry)) registered (Instructions·read (now (table .entry)) registered address count)) ⌝ }
 {
@@ -117,7 +104,7 @@ pub fn reg_write(table: &mut [u8], registered: RegisteredWrite, address: u16, by
     let kept = RegisteredWrite {
         address,
         count: bytes.len() as u8,
-        bytes: padded_bytes(bytes),
+        bytes: buffers::first_eight(bytes),
     };
     without_data(0, kept)
 }

@@ -4,7 +4,9 @@ use mathlib.Core.List.{List, []}
 use Prim.Native.Nat.{ℕ, _≤_}
 use native.Mathlib.Omega.{arith}
 use lib.ListN.{length}
+use lib.Seq.{take-all}
 use borrow.Author.Tests.{not-true, not-false}
+use Rattle.lists.specs.Write.{padded}
 use Rattle.registers.specs.Registers.{tableSize}
 use Rattle.table_rules.specs.Outcomes.{isDone}
 use Rattle.table_rules.proofs.Judged.{done-none}
@@ -66,8 +68,8 @@ short c =
 cast-t14 : tie.Need-cast-t14
 cast-t14 c = omega (arith, short c)
 
-padded-bytes-requires : tie.Need-padded-bytes-requires
-padded-bytes-requires c κs = short c
+first-eight-requires : tie.Need-first-eight-requires
+first-eight-requires c κs = search needs
 
 without-data-requires-2 : tie.Need-without-data-requires-2
 without-data-requires-2 c κs = search needs
@@ -83,7 +85,7 @@ returns-2 c =
     let a = j .before .before .before .before .args in
     done (a .table .now) (a .registered) (regWrite (a .table .now) (a .registered) (a .address) (a .bytes .now)) _ _ (right-size k)
     (c .without-data2 .ensures
-    ∙ ap (λ (b : List ℕ). doneWith 0 [] (record { address = a .address; count = length (a .bytes .now); bytes = b })) (p .padded-bytes .ensures)
+    ∙ ap (λ (b : List ℕ). doneWith 0 [] (record { address = a .address; count = length (a .bytes .now); bytes = b })) (p .first-eight .ensures ∙ ap (λ (b : List ℕ). padded 8 b) (take-all 8 (a .bytes .now) (short k)))
     ∙ reg-write-done (a .table .now) (a .registered) (a .address) (a .bytes .now) (j .judge .result) (j .judge .ensures) (good k))
     (reg-write-table (a .table .now) (a .registered) (a .address) (a .bytes .now) (j .judge .result) (j .judge .ensures) (good k))
 
@@ -99,7 +101,7 @@ reg-write-spec =
     returns
     slice-write-table
     cast-t14
-    padded-bytes-requires
+    first-eight-requires
     without-data-requires-2
     same-length-2
     returns-2)

@@ -3,7 +3,7 @@ ghost use mathlib.Core.Path.{_≡_};
 ghost use mathlib.Core.List.{_++_};
 ghost use Prim.Native.Nat.{_+_, _-_, _≤_};
 ghost use lib.ListN.{length, take, drop, replicate};
-ghost use Rattle.lists.specs.Write.{overwritten, placed};
+ghost use Rattle.lists.specs.Write.{overwritten, placed, padded};
 
 // The bytes of src go to buffer from `at` on.
 pub fn place(buffer: &mut [u8], at: usize, src: &[u8])
@@ -59,4 +59,20 @@ pub fn clear(buffer: &mut [u8], from: usize)
         buffer[i] = 0;
         i += 1;
     }
+}
+
+// The first 8 bytes, with 0 for those that are missing.
+pub fn first_eight(bytes: &[u8]) -> [u8; 8]
+    ensures { λ r. ⌜ r ≡ padded 8 (take 8 (now (bytes .entry))) ⌝ }
+{
+    let mut out = [0u8; 8];
+    let mut i = 0;
+    while i < 8 {
+        if i == bytes.len() {
+            return out;
+        }
+        out[i] = bytes[i];
+        i += 1;
+    }
+    out
 }

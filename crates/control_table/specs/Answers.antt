@@ -5,7 +5,7 @@ use Prim.Native.Nat.{ℕ}
 use lib.IntN.{ℤ}
 use lib.ListN.{take, drop, replicate}
 use Rattle.lists.specs.Answer.{unlessRefused}
-use Rattle.lists.specs.Write.{overwritten}
+use Rattle.lists.specs.Write.{padded}
 use Rattle.table_rules.specs.Rules.{stored, readRule, writeRule}
 use Rattle.table_rules.specs.Outcomes.{inTable}
 use Rattle.control_table.specs.Fresh.{freshTable, measured}
@@ -19,7 +19,7 @@ measureOut table position error = unlessRefused (inTable table none) table (meas
 -- the bytes that were read, and 0 after them; all 0 beside a refusal
 abbrev pub readBytes : List ℕ → ℕ → ℕ → List ℕ
 readBytes table address n =
-    unlessRefused (inTable table (readRule address n)) (replicate 8 0) (overwritten (replicate 8 0) (take n (drop address table)))
+    unlessRefused (inTable table (readRule address n)) (replicate 8 0) (padded 8 (take n (drop address table)))
 
 -- a refused write leaves every byte
 abbrev pub writeOut : List ℕ → ℕ → List ℕ → List ℕ

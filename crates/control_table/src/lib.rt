@@ -3,8 +3,8 @@ use table_rules::Outcome;
 ghost use mathlib.Core.Path.{_≡_};
 ghost use mathlib.Core.Option.{none};
 ghost use Prim.Native.Nat.{_+_, _≤_};
-ghost use lib.ListN.{length, take, drop, replicate};
-ghost use Rattle.lists.specs.Write.{overwritten};
+ghost use lib.ListN.{length, take, drop};
+ghost use Rattle.lists.specs.Write.{padded};
 ghost use Rattle.table_rules.specs.Rules.{readRule, writeRule};
 ghost use Rattle.table_rules.specs.Outcomes.{refusalOf, inTable};
 ghost use Rattle.control_table.specs.Answers.{freshOut, measureOut, readBytes, writeOut};
@@ -31,11 +31,9 @@ pub fn write(table: &mut [u8], address: u16, bytes: &[u8]) -> Outcome
 // n bytes of the table, with 0 after them.
 fn bytes_from(table: &[u8], at: usize, n: usize) -> [u8; 8]
     requires { ⌜ (at + n ≤ length (now table)) × (n ≤ 8) ⌝ }
-    ensures { λ r. ⌜ r ≡ overwritten (replicate 8 0) (take n (drop at (now (table .entry)))) ⌝ }
+    ensures { λ r. ⌜ r ≡ padded 8 (take n (drop at (now (table .entry)))) ⌝ }
 {
-    let mut out = [0u8; 8];
-    buffers::place(&mut out, 0, &table[at..at + n]);
-    out
+    buffers::first_eight(&table[at..at + n])
 }
 
 // The read rule. A read that is not refused has at most 8 bytes.

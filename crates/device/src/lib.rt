@@ -5,7 +5,6 @@ use reactions::Reacted;
 use status::Reply;
 use status::Sent;
 ghost use mathlib.Core.Path.{_≡_};
-ghost use Prim.Native.Nat.{_≤_};
 ghost use lib.ListN.{length};
 ghost use Rattle.registers.specs.Registers.{tableSize};
 ghost use Rattle.status.specs.Status.{silence as Status·silence};
@@ -51,7 +50,7 @@ fn heed(
     all: bool,
     body: &[u8],
 ) -> CarriedOut
-    requires { ⌜ (length (now table) ≡ tableSize) × (registered .count ≤ 8) ⌝ }
+    requires { ⌜ length (now table) ≡ tableSize ⌝ }
     ensures { λ r. ⌜ r ≡ carriedOf (carried (now (table .entry)) (Reactions·reaction heard all (now (table .entry)) registered (now (body .entry)))) ⌝ }
     ensures { λ _. ⌜ now (table .exit) ≡ Reactions·reaction heard all (now (table .entry)) registered (now (body .entry)) .effect .table ⌝ }
 {
@@ -74,7 +73,7 @@ fn carry_out(
     id: u8,
     body: &[u8],
 ) -> CarriedOut
-    requires { ⌜ (length (now table) ≡ tableSize) × (registered .count ≤ 8) ⌝ }
+    requires { ⌜ length (now table) ≡ tableSize ⌝ }
     ensures { λ r. ⌜ r ≡ carriedOf (carryOut (now (table .entry)) registered heard id (now (body .entry))) ⌝ }
     ensures { λ _. ⌜ now (table .exit) ≡ carryOut (now (table .entry)) registered heard id (now (body .entry)) .table ⌝ }
 {

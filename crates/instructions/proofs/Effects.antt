@@ -1,4 +1,4 @@
--- What the calls of the control table come to in an effect, where the table has its size.
+-- What the calls of the control table come to in an effect.
 use mathlib.Core.Path.{_≡_, refl, sym, ap, _∙_}
 use mathlib.Core.Bool.{true, false, true≢false}
 use mathlib.Core.List.{List, []}
@@ -6,20 +6,22 @@ use mathlib.Core.Option.{Option, none, some}
 use Prim.Native.Nat.{ℕ}
 use native.Mathlib.Omega.{arith}
 use lib.ListN.{length, take, drop, set, length-take, length-drop}
-use borrow.Author.Tests.{eq-eqb}
+use borrow.Author.Tests.{eq-eqb, ne-eqb}
 use Rattle.lists.specs.Answer.{unlessRefused}
+use Rattle.lists.specs.Write.{padded}
 use Rattle.registers.specs.Registers.{tableSize, registeredInstruction}
 use Rattle.table_rules.specs.Rules.{stored, readRule, writeRule}
 use Rattle.table_rules.specs.Outcomes.{isDone, refusalOf, inTable}
 use Rattle.table_rules.specs.declared.Outcome.{Outcome}
 use Rattle.table_rules.specs.declared.Outcome.the-variants.{Done, DataRange, DataLength, DataLimit, NoAccess, NotTable}
-use Rattle.table_rules.proofs.Judged.{done-none}
+use Rattle.table_rules.proofs.Judged.{done-none, GoodRead, good-read, GoodWrite, good-write}
 use Rattle.control_table.specs.Answers.{readBytes, writeOut}
 use Rattle.control_table.proofs.Theorems.{read-inside}
 use Rattle.control_table.proofs.Put.{put-byte}
-use Rattle.instructions.specs.Registered.{padded, registering}
-use Rattle.instructions.specs.Instructions.{errorOf, read, write, regWrite}
-use Rattle.instructions.specs.Steps.{doneWith, doneOf}
+use Rattle.instructions.specs.Registered.{registering}
+use Rattle.instructions.specs.Instructions.{Effect, errorOf, read, write, regWrite}
+use Rattle.instructions.specs.Steps.{doneWith, doneOf, sized}
+use Rattle.instructions.proofs.Sized.{of-size, by-size}
 use Rattle.instructions.specs.declared.Done.{Done as DoneRecord}
 use Rattle.instructions.specs.declared.RegisteredWrite.{RegisteredWrite}
 
@@ -31,59 +33,83 @@ refused-some DataLimit e = refl
 refused-some NoAccess e = refl
 refused-some NotTable e = refl
 
-module _ (table : List ℕ) (sized : length table ≡ tableSize) (rule : Option ℕ) where
-  in-table : inTable table rule ≡ rule
-  in-table = rw (eq-eqb (length table) tableSize sized)
+module _ (table : List ℕ) (rule : Option ℕ) where
+  in-table : length table ≡ tableSize → inTable table rule ≡ rule
+  in-table s = rw (eq-eqb (length table) tableSize s)
+
+  not-in-table : (length table ≡ tableSize → ⊥) → inTable table rule ≡ some 21
+  not-in-table n = rw (ne-eqb (length table) tableSize n)
 
   module _ (o : Outcome) (e : refusalOf o ≡ inTable table rule) where
-    refused-rule : isDone o ≡ false → rule ≡ some (errorOf (refusalOf o))
-    refused-rule d = sym in-table ∙ sym e ∙ refused-some o d
+    refused-rule : length table ≡ tableSize → isDone o ≡ false → rule ≡ some (errorOf (refusalOf o))
+    refused-rule s d = sym (in-table s) ∙ sym e ∙ refused-some o d
 
-    good-rule : isDone o ≡ true → rule ≡ none
-    good-rule d = sym in-table ∙ sym e ∙ done-none o d
+    good-rule : length table ≡ tableSize → isDone o ≡ true → rule ≡ none
+    good-rule s d = sym (in-table s) ∙ sym e ∙ done-none o d
 
-module _ (table : List ℕ) (w : RegisteredWrite) (address : ℕ) (sized : length table ≡ tableSize) where
+    error-21 : (w : RegisteredWrite) → (length table ≡ tableSize → ⊥) → doneWith (errorOf (refusalOf o)) [] w ≡ doneWith 21 [] w
+    error-21 w n = ap (λ (r : Option ℕ). doneWith (errorOf r) [] w) (e ∙ not-in-table n)
+
+module _ (table : List ℕ) (w : RegisteredWrite) (address : ℕ) where
   module _ (n : ℕ) (o : Outcome) (e : refusalOf o ≡ inTable table (readRule address n)) where
-    pub read-refused : isDone o ≡ false → doneWith (errorOf (refusalOf o)) [] w ≡ doneOf (read table w address n)
+    pub read-refused : isDone o ≡ false → doneWith (errorOf (refusalOf o)) [] w ≡ doneOf (sized table w (read table w address n))
     unfolding read
-    read-refused d = rw (refused-rule table sized (readRule address n) o e d)
+    read-refused d =
+        by-size table w (read table w address n) (λ (f : Effect). doneWith (errorOf (refusalOf o)) [] w ≡ doneOf f)
+        (λ s. rw (refused-rule table (readRule address n) o e s d)) (error-21 table (readRule address n) o e w)
 
     pub read-done : isDone o ≡ true → (bytes : List ℕ) → bytes ≡ readBytes table address n
-        → _≡_ {A = DoneRecord} (record { error = 0; count = n; bytes = bytes; registered = w }) (doneOf (read table w address n))
+        → _≡_ {A = DoneRecord} (record { error = 0; count = n; bytes = bytes; registered = w }) (doneOf (sized table w (read table w address n)))
     unfolding read
     read-done d bytes b =
-        let g = good-rule table sized (readRule address n) o e d in
+        let s = good-read table address n (sym e ∙ done-none o d) .sized in
+        let g = good-rule table (readRule address n) o e s d in
         let i = read-inside table address n (sym e ∙ done-none o d) in
         let l : n ≡ length (take n (drop address table)) = simp (length-take, length-drop) (omega arith) in
-        rw (g) (ap (λ (b : List ℕ). record { error = 0; count = n; bytes = b; registered = w }) (b ∙ rw (in-table table sized (readRule address n), g))
-        ∙ ap (λ (k : ℕ). record { error = 0; count = k; bytes = padded (take n (drop address table)); registered = w }) l)
+        rw (g) (ap (λ (b : List ℕ). record { error = 0; count = n; bytes = b; registered = w }) (b ∙ rw (in-table table (readRule address n) s, g))
+        ∙ ap (λ (k : ℕ). record { error = 0; count = k; bytes = padded 8 (take n (drop address table)); registered = w }) l)
+        ∙ ap doneOf (sym (of-size table w (read table w address n) s))
 
   module _ (bytes : List ℕ) where
     pub write-done : (o : Outcome) → refusalOf o ≡ inTable table (writeRule table address bytes)
-        → doneWith (errorOf (refusalOf o)) [] w ≡ doneOf (write table w address bytes)
+        → doneWith (errorOf (refusalOf o)) [] w ≡ doneOf (sized table w (write table w address bytes))
     unfolding write
-    write-done o e = ap (λ (r : Option ℕ). doneWith (errorOf r) [] w) (e ∙ in-table table sized (writeRule table address bytes))
+    write-done o e =
+        by-size table w (write table w address bytes) (λ (f : Effect). doneWith (errorOf (refusalOf o)) [] w ≡ doneOf f)
+        (λ s. ap (λ (r : Option ℕ). doneWith (errorOf r) [] w) (e ∙ in-table table (writeRule table address bytes) s))
+        (error-21 table (writeRule table address bytes) o e w)
 
-    pub write-table : writeOut table address bytes ≡ write table w address bytes .table
+    pub write-table : writeOut table address bytes ≡ sized table w (write table w address bytes) .table
     unfolding write
     write-table =
-        ap (λ (r : Option ℕ). unlessRefused r table (stored table address bytes)) (in-table table sized (writeRule table address bytes))
+        by-size table w (write table w address bytes) (λ (f : Effect). writeOut table address bytes ≡ f .table)
+        (λ s. ap (λ (r : Option ℕ). unlessRefused r table (stored table address bytes)) (in-table table (writeRule table address bytes) s))
+        (λ n. ap (λ (r : Option ℕ). unlessRefused r table (stored table address bytes)) (not-in-table table (writeRule table address bytes) n))
 
     module _ (o : Outcome) (e : refusalOf o ≡ inTable table (writeRule table address bytes)) where
-      pub reg-write-refused : isDone o ≡ false → doneWith (errorOf (refusalOf o)) [] w ≡ doneOf (regWrite table w address bytes)
+      pub reg-write-refused : isDone o ≡ false → doneWith (errorOf (refusalOf o)) [] w ≡ doneOf (sized table w (regWrite table w address bytes))
       unfolding regWrite
-      reg-write-refused d = rw (refused-rule table sized (writeRule table address bytes) o e d)
+      reg-write-refused d =
+          by-size table w (regWrite table w address bytes) (λ (f : Effect). doneWith (errorOf (refusalOf o)) [] w ≡ doneOf f)
+          (λ s. rw (refused-rule table (writeRule table address bytes) o e s d)) (error-21 table (writeRule table address bytes) o e w)
 
-      pub reg-write-stays : isDone o ≡ false → table ≡ regWrite table w address bytes .table
+      pub reg-write-stays : isDone o ≡ false → table ≡ sized table w (regWrite table w address bytes) .table
       unfolding regWrite
-      reg-write-stays d = rw (refused-rule table sized (writeRule table address bytes) o e d)
+      reg-write-stays d =
+          by-size table w (regWrite table w address bytes) (λ (f : Effect). table ≡ f .table)
+          (λ s. rw (refused-rule table (writeRule table address bytes) o e s d)) (λ n. refl)
+
+      -- a good one is on a table of its size
+      pub reg-write-sized : isDone o ≡ true → length table ≡ tableSize
+      reg-write-sized d = good-write table address bytes (sym e ∙ done-none o d) .sized
 
       pub reg-write-done : isDone o ≡ true → doneWith 0 [] (registering address bytes) ≡ doneOf (regWrite table w address bytes)
       unfolding regWrite
-      reg-write-done d = rw (good-rule table sized (writeRule table address bytes) o e d)
+      reg-write-done d = rw (good-rule table (writeRule table address bytes) o e (reg-write-sized d) d)
 
       pub reg-write-table : isDone o ≡ true → set table 69 1 ≡ regWrite table w address bytes .table
       unfolding regWrite
       reg-write-table d =
-          rw (good-rule table sized (writeRule table address bytes) o e d)
+          let s = reg-write-sized d in
+          rw (good-rule table (writeRule table address bytes) o e s d)
           (sym (put-byte table registeredInstruction 1 refl (omega arith) (omega arith)))

@@ -1,2 +1,4 @@
+pub mod Sized
 pub mod Effects
 pub mod Options
+pub mod Acting

@@ -10,7 +10,11 @@ use Rattle.registers.specs.Registers.{tableSize, modelNumber, firmwareVersion}
 use Rattle.items.specs.Items.{itemBytes}
 use Rattle.instructions.specs.declared.RegisteredWrite.{RegisteredWrite}
 use Rattle.instructions.specs.Instructions.{refusing, reboot, factoryReset}
+use Rattle.instructions.specs.Steps.{sized}
+use Rattle.instructions.proofs.Sized.{of-size}
 use Rattle.resets.specs.Resets.{resetRom, keepsNone, keepsId, keepsIdAndBaud}
+use Rattle.resets.specs.Steps.{onTable}
+use Rattle.resets.proofs.Resets.{on-table}
 
 pub identity-bytes : (table : List ℕ) → length table ≡ tableSize
     → getD table 0 0 ∷ getD table 1 0 ∷ getD table 6 0 ∷ [] ≡ itemBytes modelNumber table ++ itemBytes firmwareVersion table
@@ -20,19 +24,25 @@ identity-bytes table sized =
     ∙ ap (λ (l : List ℕ). itemBytes modelNumber table ++ take 1 l) (sym (drop-cons table 6 0 (omega arith)))
 
 -- the options of Factory Reset
-module _ (table : List ℕ) (w : RegisteredWrite) (option : ℕ) where
-  pub option-all : option ≡ 0xFF → reboot (resetRom keepsNone table) w ≡ factoryReset table w option
-  unfolding factoryReset
-  option-all e = rw e
+module _ (table : List ℕ) (w : RegisteredWrite) (s : length table ≡ tableSize) where
+  -- as Reboot goes on, on the table that a reset has left
+  then-reboot : (new left : List ℕ) → length left ≡ length table → left ≡ onTable table new → sized left w (reboot left w) ≡ reboot new w
+  then-reboot new left l e = of-size left w (reboot left w) (l ∙ s) ∙ ap (λ (t : List ℕ). reboot t w) (e ∙ on-table table new s)
 
-  pub option-id : option ≡ 0x01 → reboot (resetRom keepsId table) w ≡ factoryReset table w option
-  unfolding factoryReset
-  option-id e = rw e
+  module _ (option : ℕ) (left : List ℕ) (l : length left ≡ length table) where
+    pub option-all : option ≡ 0xFF → left ≡ onTable table (resetRom keepsNone table) → sized left w (reboot left w) ≡ factoryReset table w option
+    unfolding factoryReset
+    option-all o e = rw o (then-reboot _ left l e)
 
-  pub option-baud : option ≡ 0x02 → reboot (resetRom keepsIdAndBaud table) w ≡ factoryReset table w option
-  unfolding factoryReset
-  option-baud e = rw e
+    pub option-id : option ≡ 0x01 → left ≡ onTable table (resetRom keepsId table) → sized left w (reboot left w) ≡ factoryReset table w option
+    unfolding factoryReset
+    option-id o e = rw o (then-reboot _ left l e)
 
-  pub option-other : (option ≡ 0xFF → ⊥) → (option ≡ 0x01 → ⊥) → (option ≡ 0x02 → ⊥) → refusing table w 0x04 ≡ factoryReset table w option
+    pub option-baud : option ≡ 0x02 → left ≡ onTable table (resetRom keepsIdAndBaud table) → sized left w (reboot left w) ≡ factoryReset table w option
+    unfolding factoryReset
+    option-baud o e = rw o (then-reboot _ left l e)
+
+  pub option-other : (option : ℕ) → (option ≡ 0xFF → ⊥) → (option ≡ 0x01 → ⊥) → (option ≡ 0x02 → ⊥)
+      → refusing table w 0x04 ≡ factoryReset table w option
   unfolding factoryReset
-  option-other a b c = rw (ne-eqb option 0xFF a, ne-eqb option 0x01 b, ne-eqb option 0x02 c)
+  option-other option a b c = rw (ne-eqb option 0xFF a, ne-eqb option 0x01 b, ne-eqb option 0x02 c)

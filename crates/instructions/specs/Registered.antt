@@ -3,15 +3,11 @@ use mathlib.Core.List.{List}
 use mathlib.Core.Option.{Option, none, some}
 use Prim.Native.Nat.{ℕ}
 use lib.ListN.{length, take, replicate}
-use Rattle.lists.specs.Write.{overwritten}
+use Rattle.lists.specs.Write.{padded}
 use Rattle.instructions.specs.declared.RegisteredWrite.{RegisteredWrite}
 
--- bytes in room for 8, with 0 after them
-abbrev pub padded : List ℕ → List ℕ
-padded bytes = overwritten (replicate 8 0) bytes
-
 abbrev pub registering : ℕ → List ℕ → RegisteredWrite
-registering address bytes = record { address = address; count = length bytes; bytes = padded bytes }
+registering address bytes = record { address = address; count = length bytes; bytes = padded 8 bytes }
 
 -- a dropped one is all 0
 abbrev pub dropped : RegisteredWrite

@@ -1,21 +1,19 @@
-// What each instruction does to the control table and the registered write. Inside the device: its callers are held to what the
-// functions require.
+// What each instruction does to the control table and the registered write. On a table of another size nothing is done, and the
+// error is 21.
 use table_rules::Outcome;
 ghost use mathlib.Core.Path.{_≡_};
+ghost use mathlib.Core.Bool.{cond};
 ghost use mathlib.Core.List.{[]};
-ghost use Prim.Native.Nat.{_≤_};
-ghost use lib.ListN.{length};
-ghost use Rattle.registers.specs.Registers.{tableSize};
+ghost use lib.Dec.{leb};
 ghost use Rattle.table_rules.specs.Outcomes.{refusalOf};
-ghost use Rattle.instructions.specs.Registered.{padded};
 ghost use Rattle.instructions.specs.Registered.{dropped as Registered·dropped};
 ghost use Rattle.instructions.specs.Instructions.{errorOf, regWrite, factoryReset};
-ghost use Rattle.resets.specs.Resets.{rebooted};
 ghost use Rattle.instructions.specs.Instructions.{ping as Instructions·ping};
 ghost use Rattle.instructions.specs.Instructions.{read as Instructions·read};
 ghost use Rattle.instructions.specs.Instructions.{write as Instructions·write};
 ghost use Rattle.instructions.specs.Instructions.{action as Instructions·action};
-ghost use Rattle.instructions.specs.Steps.{doneWith, doneOf};
+ghost use Rattle.instructions.specs.Instructions.{reboot as Instructions·reboot};
+ghost use Rattle.instructions.specs.Steps.{doneWith, doneOf, sized};
 
 // A write that waits for Action (the paper's held turn): count 0 means none.
 #[repr(C)]
@@ -68,19 +66,8 @@ fn error_of(outcome: Outcome) -> u8
     }
 }
 
-// At most 8 bytes, with 0 after them.
-fn padded_bytes(bytes: &[u8]) -> [u8; 8]
-    requires { ⌜ length (now bytes) ≤ 8 ⌝ }
-    ensures { λ r. ⌜ r ≡ padded (now (bytes .entry)) ⌝ }
-{
-    let mut out = [0u8; 8];
-    buffers::place(&mut out, 0, bytes);
-    out
-}
-
 pub fn read(table: &[u8], registered: RegisteredWrite, address: u16, count: u16) -> Done
-    requires { ⌜ length (now table) ≡ tableSize ⌝ }
-    ensures { λ r. ⌜ r ≡ doneOf (Instructions·read (now (table .entry)) registered address count) ⌝ }
+    ensures { λ r. ⌜ r ≡ doneOf (sized (now (table .entry)) registered (Instructions·read (now (table .entry)) registered address count)) ⌝ }
 {
     let reading = control_table::read(table, address, count);
     let outcome = reading.outcome;
@@ -97,9 +84,8 @@ pub fn read(table: &[u8], registered: RegisteredWrite, address: u16, count: u16)
 }
 
 pub fn write(table: &mut [u8], registered: RegisteredWrite, address: u16, bytes: &[u8]) -> Done
-    requires { ⌜ length (now table) ≡ tableSize ⌝ }
-    ensures { λ r. ⌜ r ≡ doneOf (Instructions·write (now (table .entry)) registered address (now (bytes .entry))) ⌝ }
-    ensures { λ _. ⌜ now (table .exit) ≡ Instructions·write (now (table .entry)) registered address (now (bytes .entry)) .table ⌝ }
+    ensures { λ r. ⌜ r ≡ doneOf (sized (now (table .entry)) registered (Instructions·write (now (table .entry)) registered address (now (bytes .entry)))) ⌝ }
+    ensures { λ _. ⌜ now (table .exit) ≡ sized (now (table .entry)) registered (Instructions·write (now (table .entry)) registered address (now (bytes .entry))) .table ⌝ }
 {
     let outcome = control_table::write(table, address, bytes);
     without_data(error_of(outcome), registered)
@@ -107,9 +93,8 @@ pub fn write(table: &mut [u8], registered: RegisteredWrite, address: u16, bytes:
 
 // A good write is kept for Action.
 pub fn reg_write(table: &mut [u8], registered: RegisteredWrite, address: u16, bytes: &[u8]) -> Done
-    requires { ⌜ length (now table) ≡ tableSize ⌝ }
-    ensures { λ r. ⌜ r ≡ doneOf (regWrite (now (table .entry)) registered address (now (bytes .entry))) ⌝ }
-    ensures { λ _. ⌜ now (table .exit) ≡ regWrite (now (table .entry)) registered address (now (bytes .entry)) .table ⌝ }
+    ensures { λ r. ⌜ r ≡ doneOf (sized (now (table .entry)) registered (regWrite (now (table .entry)) registered address (now (bytes .entry)))) ⌝ }
+    ensures { λ _. ⌜ now (table .exit) ≡ sized (now (table .entry)) registered (regWrite (now (table .entry)) registered address (now (bytes .entry))) .table ⌝ }
 {
     let outcome = table_rules::judge(&table[..], address, bytes);
     if !table_rules::is_done(outcome) {
@@ -119,61 +104,79 @@ pub fn reg_write(table: &mut [u8], registered: RegisteredWrite, address: u16, by
     let kept = RegisteredWrite {
         address,
         count: bytes.len() as u8,
-        bytes: padded_bytes(bytes),
+        bytes: buffers::first_eight(bytes),
     };
     without_data(0, kept)
 }
 
+// Of a registered write, which has no more than 8.
+fn byte_count(count: u8) -> usize
+    ensures { λ r. ⌜ r ≡ cond (leb count 8) count 8 ⌝ }
+{
+    if count <= 8 {
+        return count as usize;
+    }
+    8
+}
+
 // The registered write is dropped, and then judged on the table as it is now.
 pub fn action(table: &mut [u8], registered: RegisteredWrite) -> Done
-    requires { ⌜ (length (now table) ≡ tableSize) × (registered .count ≤ 8) ⌝ }
-    ensures { λ r. ⌜ r ≡ doneOf (Instructions·action (now (table .entry)) registered) ⌝ }
-    ensures { λ _. ⌜ now (table .exit) ≡ Instructions·action (now (table .entry)) registered .table ⌝ }
+    ensures { λ r. ⌜ r ≡ doneOf (sized (now (table .entry)) registered (Instructions·action (now (table .entry)) registered)) ⌝ }
+    ensures { λ _. ⌜ now (table .exit) ≡ sized (now (table .entry)) registered (Instructions·action (now (table .entry)) registered) .table ⌝ }
 {
-    let n = registered.count as usize;
-    if n == 0 {
+    if table.len() != 136 {
+        return without_data(21, registered);
+    }
+    if registered.count == 0 {
         return without_data(2, registered);
     }
     table[69] = 0;
+    let n = byte_count(registered.count);
     let held = registered.bytes;
     let address = registered.address;
     write(table, dropped(), address, &held[..n])
 }
 
 // The registered write is dropped.
-pub fn reboot(table: &mut [u8]) -> Done
-    requires { ⌜ length (now table) ≡ tableSize ⌝ }
-    ensures { λ r. ⌜ r ≡ doneWith 0 [] Registered·dropped ⌝ }
-    ensures { λ _. ⌜ now (table .exit) ≡ rebooted (now (table .entry)) ⌝ }
+pub fn reboot(table: &mut [u8], registered: RegisteredWrite) -> Done
+    ensures { λ r. ⌜ r ≡ doneOf (sized (now (table .entry)) registered (Instructions·reboot (now (table .entry)) registered)) ⌝ }
+    ensures { λ _. ⌜ now (table .exit) ≡ sized (now (table .entry)) registered (Instructions·reboot (now (table .entry)) registered) .table ⌝ }
 {
+    if table.len() != 136 {
+        return without_data(21, registered);
+    }
     resets::reboot(table);
     without_data(0, dropped())
 }
 
 pub fn factory_reset(table: &mut [u8], registered: RegisteredWrite, option: u8) -> Done
-    requires { ⌜ length (now table) ≡ tableSize ⌝ }
-    ensures { λ r. ⌜ r ≡ doneOf (factoryReset (now (table .entry)) registered option) ⌝ }
-    ensures { λ _. ⌜ now (table .exit) ≡ factoryReset (now (table .entry)) registered option .table ⌝ }
+    ensures { λ r. ⌜ r ≡ doneOf (sized (now (table .entry)) registered (factoryReset (now (table .entry)) registered option)) ⌝ }
+    ensures { λ _. ⌜ now (table .exit) ≡ sized (now (table .entry)) registered (factoryReset (now (table .entry)) registered option) .table ⌝ }
 {
+    if table.len() != 136 {
+        return without_data(21, registered);
+    }
     if option == 0xFF {
         resets::reset_all(table);
-        return reboot(table);
+        return reboot(table, registered);
     }
     if option == 1 {
         resets::reset_but_id(table);
-        return reboot(table);
+        return reboot(table, registered);
     }
     if option == 2 {
         resets::reset_but_id_and_baud(table);
-        return reboot(table);
+        return reboot(table, registered);
     }
     without_data(4, registered)
 }
 
 pub fn ping(table: &[u8], registered: RegisteredWrite) -> Done
-    requires { ⌜ length (now table) ≡ tableSize ⌝ }
-    ensures { λ r. ⌜ r ≡ doneOf (Instructions·ping (now (table .entry)) registered) ⌝ }
+    ensures { λ r. ⌜ r ≡ doneOf (sized (now (table .entry)) registered (Instructions·ping (now (table .entry)) registered)) ⌝ }
 {
+    if table.len() != 136 {
+        return without_data(21, registered);
+    }
     let bytes = [table[0], table[1], table[6], 0, 0, 0, 0, 0];
     Done {
         error: 0,

@@ -1,12 +1,12 @@
 -- Writing into a borrowed buffer: part by part, and through its tail.
 use mathlib.Core.Path.{_≡_, refl, sym, ap, _∙_}
 use mathlib.Core.List.{List, [], _++_, append-nil, append-assoc}
-use Prim.Native.Nat.{ℕ, _+_, _-_, _≤_}
+use Prim.Native.Nat.{ℕ, zero, suc, _+_, _-_, _≤_}
 use native.Mathlib.Omega.{arith}
-use lib.ListN.{length, take, drop, length-append, length-drop}
+use lib.ListN.{length, take, drop, replicate, length-append, length-drop}
 use lib.Seq.{take-all, drop-length, drop-drop, take-append-seam, drop-append-seam, drop-append-add}
 use borrow.Rule.Slice.PartMut.{putMid, midOf, postOf, post-is}
-use Rattle.lists.specs.Write.{overwritten, placed}
+use Rattle.lists.specs.Write.{overwritten, placed, padded}
 
 -- the tail `&mut s[a..]`: what is lent, and the whole when it is back
 pub tail-lent : (a : ℕ) (xs : List ℕ) → a ≤ length xs → midOf a (length xs - a) xs ≡ drop a xs
@@ -53,3 +53,12 @@ module _ (old x : List ℕ) where
       ∙ ap (λ (l : List ℕ). (x ++ y) ++ l)
       (drop-append-add x (drop (length x) old) (length y) ∙ drop-drop (length y) (length x) old
       ∙ ap (λ (n : ℕ). drop n old) (sym (length-append x y)))
+
+-- a buffer of zeros
+drop-zeros : (k n m : ℕ) → m ≡ n - k → drop {A = ℕ} k (replicate n 0) ≡ replicate m 0
+drop-zeros zero n m e = let d : n ≡ m = omega arith in ap (λ (j : ℕ). replicate j 0) d
+drop-zeros (suc k) zero m e = let d : 0 ≡ m = omega arith in ap (λ (j : ℕ). replicate j 0) d
+drop-zeros (suc k) (suc n) m e = drop-zeros k n m (omega arith)
+
+pub overwritten-zeros : (n : ℕ) (s : List ℕ) → overwritten (replicate n 0) s ≡ padded n s
+overwritten-zeros n s = ap (λ (l : List ℕ). s ++ l) (drop-zeros (length s) n (n - length s) refl)

@@ -1,8 +1,6 @@
-// The parameters of an instruction: words, and the own entry in the list of a Sync instruction. Inside the device: its callers
-// are held to what the functions require.
+// The parameters of an instruction: words, and the own entry in the list of a Sync instruction.
 ghost use mathlib.Core.Path.{_≡_};
-ghost use Prim.Native.Nat.{_+_, _≤_, _<_};
-ghost use lib.ListN.{length};
+ghost use Prim.Native.Nat.{_+_, _≤_};
 ghost use Rattle.parameters.specs.Entries.{search as Entries·search};
 ghost use Rattle.parameters.specs.Parameters.{wordAt, syncSearch};
 
@@ -12,12 +10,18 @@ pub enum Found {
     Nothing,
 }
 
-// Two bytes of the parameters, low byte first.
+// Two bytes of the parameters, low byte first. One that is missing counts as 0.
 pub fn word_at(params: &[u8], i: usize) -> u16
-    requires { ⌜ i + 1 < length (now params) ⌝ }
     ensures { λ r. ⌜ r ≡ wordAt (now (params .entry)) i ⌝ }
 {
-    (params[i] as u16) + (params[i + 1] as u16) * 256
+    if params.len() <= i {
+        return 0;
+    }
+    let low = params[i] as u16;
+    if params.len() - i == 1 {
+        return low;
+    }
+    low + (params[i + 1] as u16) * 256
 }
 
 // The own entry among entries of `size` bytes from offset 4 on. The list is judged to its end: an entry that is cut short, an
@@ -52,13 +56,15 @@ fn search(params: &[u8], size: usize, own: u8) -> Found
     found
 }
 
-// The own entry of a Sync list; without a length there is no list.
-pub fn sync_search(params: &[u8], size: usize, own: u8) -> Found
-    requires { ⌜ (1 ≤ size) × (4 ≤ length (now params)) ⌝ }
-    ensures { λ r. ⌜ r ≡ syncSearch size own (now (params .entry)) ⌝ }
+// The own entry of a Sync list, whose entries are an ID and n bytes; without a length there is no list.
+pub fn sync_search(params: &[u8], n: u16, own: u8) -> Found
+    ensures { λ r. ⌜ r ≡ syncSearch (1 + n) own (now (params .entry)) ⌝ }
 {
+    if params.len() < 4 {
+        return Found::Nothing;
+    }
     if word_at(params, 2) == 0 {
         return Found::Nothing;
     }
-    search(params, size, own)
+    search(params, 1 + n as usize, own)
 }

@@ -8,15 +8,17 @@ use lib.Dec.{leb, eqb}
 use lib.ListN.{length, getD, take, drop, length-drop}
 use lib.Seq.{take-all}
 use borrow.Author.Tests.{eq-eqb, ne-eqb, le-leb, lt-leb}
+use Rattle.registers.specs.Registers.{tableSize}
 use Rattle.instructions.specs.Instructions.{Effect, refusing, ping, read}
 use Rattle.parameters.specs.Parameters.{wordAt, syncSearch}
-use Rattle.reactions.specs.Reactions.{Voice, silent, speaks, ownOnly, reaction, Reaction, reacting, counted, ownId, heardPing, heardRead, heardUndefined, syncReadBy, heardSyncRead, heardInstruction}
+use Rattle.reactions.specs.Reactions.{Voice, silent, speaks, ownOnly, reaction, Reaction, reacting, counted, ownId, unchanged, heardPing, heardRead, heardUndefined, syncReadBy, heardSyncRead, heardInstruction}
 use Rattle.reactions.specs.declared.Heard.{Heard}
 use Rattle.reactions.specs.declared.Heard.the-variants.{Packet, BadChecksum}
 use Rattle.parameters.specs.declared.Found.{Found}
 use Rattle.parameters.specs.declared.Found.the-variants.{At, Nothing}
-use Rattle.instructions.specs.Steps.{doneWith, doneOf}
-use Rattle.reactions.specs.Steps.{reactedBy, reactedOf}
+use Rattle.instructions.specs.Steps.{doneWith, doneOf, sized}
+use Rattle.instructions.proofs.Sized.{of-size}
+use Rattle.reactions.specs.Steps.{reactedBy, reactedOf, sizedReaction}
 use Rattle.instructions.specs.declared.Done.{Done}
 use Rattle.reactions.specs.declared.Reacted.{Reacted}
 use Rattle.instructions.specs.declared.RegisteredWrite.{RegisteredWrite}
@@ -48,11 +50,14 @@ module _ (all : Bool) (table : List ℕ) (w : RegisteredWrite) (params : List �
         × (table ≡ counted (eqb (length params) 0) table w e .table)
     some-parameters n = wrong (ownOnly all 2) table w e (eqb (length params) 0) (ne-eqb (length params) 0 n)
 
-    pub no-parameters : length params ≡ 0 → (r : Reacted) (d : Done) (t : List ℕ) → r ≡ reactedBy (ownOnly all 2) d → d ≡ doneOf e
-        → t ≡ e .table
+    pub no-parameters : length table ≡ tableSize → length params ≡ 0 → (r : Reacted) (d : Done) (t : List ℕ)
+        → r ≡ reactedBy (ownOnly all 2) d → d ≡ doneOf (sized table w e) → t ≡ sized table w e .table
         → (r ≡ reactedOf (reacting (counted (eqb (length params) 0) table w e) (ownOnly all 2)))
         × (t ≡ counted (eqb (length params) 0) table w e .table)
-    no-parameters n = fitting (ownOnly all 2) table w e (eqb (length params) 0) (eq-eqb (length params) 0 n)
+    no-parameters s n r d t a b f =
+        let p = of-size table w e s in
+        fitting (ownOnly all 2) table w e (eqb (length params) 0) (eq-eqb (length params) 0 n) r d t a (b ∙ ap doneOf p)
+        (f ∙ ap (λ (x : Effect). x .table) p)
 
   module _ (f : ℕ → List ℕ → Effect) where
     abbrev toAddress : Effect
@@ -63,12 +68,13 @@ module _ (all : Bool) (table : List ℕ) (w : RegisteredWrite) (params : List �
     no-address l = wrong (ownOnly all 2) table w _ (leb 2 (length params)) (lt-leb 2 (length params) l)
 
     -- the data as the code lends them
-    pub with-address : 2 ≤ length params → (address : ℕ) → address ≡ wordAt params 0 → (r : Reacted) (d : Done) (t : List ℕ)
-        → r ≡ reactedBy (ownOnly all 2) d → d ≡ doneOf (f address (take (length params - 2) (drop 2 params)))
-        → t ≡ f address (take (length params - 2) (drop 2 params)) .table
+    pub with-address : length table ≡ tableSize → 2 ≤ length params → (address : ℕ) → address ≡ wordAt params 0
+        → (r : Reacted) (d : Done) (t : List ℕ) → r ≡ reactedBy (ownOnly all 2) d
+        → d ≡ doneOf (sized table w (f address (take (length params - 2) (drop 2 params))))
+        → t ≡ sized table w (f address (take (length params - 2) (drop 2 params))) .table
         → (r ≡ reactedOf (reacting toAddress (ownOnly all 2))) × (t ≡ toAddress .table)
-    with-address l address is r d t a b g =
-        let p = ap₂ f is (take-all (length params - 2) (drop 2 params) (simp length-drop (omega arith))) in
+    with-address s l address is r d t a b g =
+        let p = of-size table w (f address (take (length params - 2) (drop 2 params))) s ∙ ap₂ f is (take-all (length params - 2) (drop 2 params) (simp length-drop (omega arith))) in
         fitting (ownOnly all 2) table w _ (leb 2 (length params)) (le-leb 2 (length params) l) r d t a (b ∙ ap doneOf p)
         (g ∙ ap (λ (x : Effect). x .table) p)
 
@@ -126,6 +132,29 @@ module _ (all : Bool) (table : List ℕ) (w : RegisteredWrite) (heard : Heard) w
       → heardInstruction (getD body 0 0) all table w (drop 1 body) ≡ reaction heard all table w body
   some-body [] e h = absurd (h refl)
   some-body (x ∷ xs) e h = rw e
+
+-- ---- the size of the table
+
+module _ (table : List ℕ) (w : RegisteredWrite) (q : Reaction) where
+  -- for a caller whose table has its size
+  pub reaction-of-size : length table ≡ tableSize → sizedReaction table w q ≡ q
+  reaction-of-size s = rw (eq-eqb (length table) tableSize s)
+
+  no-reaction : (length table ≡ tableSize → ⊥) → sizedReaction table w q ≡ reacting (unchanged table w) silent
+  no-reaction n = rw (ne-eqb (length table) tableSize n)
+
+  -- the two promises of `reaction`, by the reaction that the code shows
+  reacted-as : (p : Reaction) → p ≡ sizedReaction table w q → (r : Reacted) (t : List ℕ) → r ≡ reactedOf p → t ≡ p .effect .table
+      → (r ≡ reactedOf (sizedReaction table w q)) × (t ≡ sizedReaction table w q .effect .table)
+  reacted-as p e r t a b = (a ∙ ap reactedOf e, b ∙ ap (λ (x : Reaction). x .effect .table) e)
+
+  pub reacted-of-size : length table ≡ tableSize → (p : Reaction) → p ≡ q → (r : Reacted) (t : List ℕ) → r ≡ reactedOf p → t ≡ p .effect .table
+      → (r ≡ reactedOf (sizedReaction table w q)) × (t ≡ sizedReaction table w q .effect .table)
+  reacted-of-size s p e = reacted-as p (e ∙ sym (reaction-of-size s))
+
+  pub not-reacted : (length table ≡ tableSize → ⊥) → (r : Reacted) (t : List ℕ) → r ≡ reactedBy silent (doneWith 0 [] w) → t ≡ table
+      → (r ≡ reactedOf (sizedReaction table w q)) × (t ≡ sizedReaction table w q .effect .table)
+  not-reacted n = reacted-as (reacting (unchanged table w) silent) (sym (no-reaction n))
 
 -- ---- the reply
 

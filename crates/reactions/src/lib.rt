@@ -1,19 +1,18 @@
-// What the device makes of what it hears: which instruction is carried out, and how that is answered. Inside the device: its
-// callers are held to what the functions require.
+// What the device makes of what it hears: which instruction is carried out, and how that is answered. On a table of another size
+// nothing is done, and nothing is answered.
 use instructions::Done;
 use instructions::RegisteredWrite;
 use parameters::Found;
 ghost use mathlib.Core.Path.{_≡_};
 ghost use mathlib.Core.Bool.{_&&_};
 ghost use mathlib.Core.List.{[]};
-ghost use Prim.Native.Nat.{_≤_};
 ghost use lib.Dec.{eqb};
 ghost use lib.ListN.{length};
 ghost use Rattle.registers.specs.Registers.{tableSize};
 ghost use Rattle.reactions.specs.Reactions.{silent, ownOnly, heardPing, heardRead, heardWrite, heardRegWrite, heardAction, heardReboot, heardFactoryReset, heardSyncRead, heardSyncWrite, heardInstruction};
 ghost use Rattle.reactions.specs.Reactions.{reaction as Reactions·reaction};
 ghost use Rattle.instructions.specs.Steps.{doneWith};
-ghost use Rattle.reactions.specs.Steps.{reactedBy, reactedOf};
+ghost use Rattle.reactions.specs.Steps.{reactedBy, reactedOf, sizedReaction};
 
 // What the device hears: a packet with its unstuffed body, or one whose checksum is wrong, which has no body.
 pub enum Heard {
@@ -29,17 +28,24 @@ pub struct Reacted {
     pub slot: usize,
 }
 
+// No answer.
+fn unanswered(done: Done) -> Reacted
+    ensures { λ r. ⌜ r ≡ reactedBy silent done ⌝ }
+{
+    Reacted {
+        done,
+        speaks: false,
+        level: 0,
+        slot: 0,
+    }
+}
+
 // An answer to the own ID only.
 fn own_only(done: Done, all: bool, level: u8) -> Reacted
     ensures { λ r. ⌜ r ≡ reactedBy (ownOnly all level) done ⌝ }
 {
     if all {
-        return Reacted {
-            done,
-            speaks: false,
-            level: 0,
-            slot: 0,
-        };
+        return unanswered(done);
     }
     Reacted {
         done,
@@ -53,7 +59,7 @@ fn own_only(done: Done, all: bool, level: u8) -> Reacted
 fn quiet(registered: RegisteredWrite) -> Reacted
     ensures { λ r. ⌜ r ≡ reactedBy silent (doneWith 0 [] registered) ⌝ }
 {
-    own_only(instructions::without_data(0, registered), true, 0)
+    unanswered(instructions::without_data(0, registered))
 }
 
 // What each instruction does and how it is answered. A wrong count of parameters comes first.
@@ -133,7 +139,7 @@ fn heard_reg_write(
 }
 
 fn heard_action(table: &mut [u8], registered: RegisteredWrite, all: bool, params: &[u8]) -> Reacted
-    requires { ⌜ (length (now table) ≡ tableSize) × (registered .count ≤ 8) ⌝ }
+    requires { ⌜ length (now table) ≡ tableSize ⌝ }
     ensures { λ r. ⌜ r ≡ reactedOf (heardAction all (now (table .entry)) registered (now (params .entry))) ⌝ }
     ensures { λ _. ⌜ now (table .exit) ≡ heardAction all (now (table .entry)) registered (now (params .entry)) .effect .table ⌝ }
 {
@@ -152,7 +158,7 @@ fn heard_reboot(table: &mut [u8], registered: RegisteredWrite, all: bool, params
     if params.len() != 0 {
         return own_only(instructions::without_data(5, registered), all, 2);
     }
-    let done = instructions::reboot(table);
+    let done = instructions::reboot(table, registered);
     own_only(done, all, 2)
 }
 
@@ -194,10 +200,7 @@ fn heard_sync_read(table: &[u8], registered: RegisteredWrite, all: bool, params:
     if !all {
         return own_only(instructions::without_data(2, registered), false, 1);
     }
-    if params.len() < 4 {
-        return quiet(registered);
-    }
-    let Found::At(slot, _) = parameters::sync_search(params, 1, table[7]) else {
+    let Found::At(slot, _) = parameters::sync_search(params, 0, table[7]) else {
         return quiet(registered);
     };
     let done = instructions::read(
@@ -227,22 +230,19 @@ fn heard_sync_write(
     if !all {
         return own_only(instructions::without_data(2, registered), false, 2);
     }
-    if params.len() < 4 {
-        return quiet(registered);
-    }
-    let n = parameters::word_at(params, 2) as usize;
-    let Found::At(_, at) = parameters::sync_search(params, 1 + n, table[7]) else {
+    let n = parameters::word_at(params, 2);
+    let Found::At(_, at) = parameters::sync_search(params, n, table[7]) else {
         return quiet(registered);
     };
     let from = at + 1;
-    let to = from + n;
+    let to = from + n as usize;
     let done = instructions::write(
         table,
         registered,
         parameters::word_at(params, 0),
         &params[from..to],
     );
-    own_only(done, true, 0)
+    unanswered(done)
 }
 
 fn react(
@@ -252,7 +252,7 @@ fn react(
     instruction: u8,
     params: &[u8],
 ) -> Reacted
-    requires { ⌜ (length (now table) ≡ tableSize) × (registered .count ≤ 8) ⌝ }
+    requires { ⌜ length (now table) ≡ tableSize ⌝ }
     ensures { λ r. ⌜ r ≡ reactedOf (heardInstruction instruction all (now (table .entry)) registered (now (params .entry))) ⌝ }
     ensures { λ _. ⌜ now (table .exit) ≡ heardInstruction instruction all (now (table .entry)) registered (now (params .entry)) .effect .table ⌝ }
 {
@@ -279,10 +279,12 @@ pub fn reaction(
     all: bool,
     body: &[u8],
 ) -> Reacted
-    requires { ⌜ (length (now table) ≡ tableSize) × (registered .count ≤ 8) ⌝ }
-    ensures { λ r. ⌜ r ≡ reactedOf (Reactions·reaction heard all (now (table .entry)) registered (now (body .entry))) ⌝ }
-    ensures { λ _. ⌜ now (table .exit) ≡ Reactions·reaction heard all (now (table .entry)) registered (now (body .entry)) .effect .table ⌝ }
+    ensures { λ r. ⌜ r ≡ reactedOf (sizedReaction (now (table .entry)) registered (Reactions·reaction heard all (now (table .entry)) registered (now (body .entry)))) ⌝ }
+    ensures { λ _. ⌜ now (table .exit) ≡ sizedReaction (now (table .entry)) registered (Reactions·reaction heard all (now (table .entry)) registered (now (body .entry))) .effect .table ⌝ }
 {
+    if table.len() != 136 {
+        return quiet(registered);
+    }
     let Heard::Packet = heard else {
         return own_only(instructions::without_data(3, registered), all, 2);
     };

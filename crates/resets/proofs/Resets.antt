@@ -5,7 +5,7 @@ use mathlib.Core.List.{List, [], _∷_}
 use Prim.Native.Nat.{ℕ, suc, _+_, _≤_}
 use native.Mathlib.Omega.{arith}
 use lib.Dec.{T, leb}
-use borrow.Author.Tests.{leb-true}
+use borrow.Author.Tests.{leb-true, eq-eqb, ne-eqb}
 use lib.ListN.{length, take, drop, getD, set, length-set}
 use lib.Seq.{drop-cons, sets}
 use Rattle.registers.specs.Registers.{Register, registers, tableSize, endOf, deviceId, baudCode, writable}
@@ -15,6 +15,14 @@ use Rattle.table_rules.specs.Rules.{stored}
 use Rattle.control_table.proofs.Put.{put-sets, put-length, put-byte}
 use Rattle.table_rules.proofs.Stored.{stored-sets}
 use Rattle.resets.specs.Resets.{only, isRom, resetAtReboot, rebooted, resetRom, keepsNone, keepsId, keepsIdAndBaud}
+use Rattle.resets.specs.Steps.{onTable}
+
+-- for a caller: what a reset leaves of a table, and of one of another size
+pub on-table : (table new : List ℕ) → length table ≡ tableSize → onTable table new ≡ new
+on-table table new e = rw (eq-eqb (length table) tableSize e)
+
+pub off-table : (table new : List ℕ) → (length table ≡ tableSize → ⊥) → onTable table new ≡ table
+off-table table new n = rw (ne-eqb (length table) tableSize n)
 
 -- on a list that is written out this computes to the stores themselves, those of the last register first
 abbrev stores : List Register → List ℕ → List ℕ
@@ -68,7 +76,7 @@ module _ (table : List ℕ) (sized : length table ≡ tableSize) where
   pub reboot-stores :
       sets (set (set (set (set (set (sets table 104 (0 ∷ 0 ∷ 0 ∷ 0 ∷ [])) 70 0) 69 0) 68 2) 65 0) 64 0) 116
       (getD table 52 0 ∷ getD table 53 0 ∷ getD table 54 0 ∷ getD table 55 0 ∷ [])
-      ≡ rebooted table
+      ≡ onTable table (rebooted table)
   unfolding registers bytesOf rebooted
   reboot-stores =
       let rs = only resetAtReboot registers in
@@ -76,13 +84,15 @@ module _ (table : List ℕ) (sized : length table ≡ tableSize) where
       ap (λ (t : List ℕ). sets t 116 (getD table 52 0 ∷ getD table 53 0 ∷ getD table 54 0 ∷ getD table 55 0 ∷ [])) (freshened-stores rs tt)
       ∙ stored-sets (freshened rs table) 116 (getD table 52 0 ∷ getD table 53 0 ∷ getD table 54 0 ∷ getD table 55 0 ∷ []) (omega arith)
       ∙ ap (λ (b : List ℕ). stored (freshened rs table) 116 b) (sym (four 52 (omega arith)))
+      ∙ sym (on-table table _ sized)
 
   romBut : (Register → Bool) → List Register
   romBut keeps = only (λ r. isRom (r .area) && (writable (r .access) && not (keeps r))) registers
 
-  pub positions-stores : sets (sets (sets table 52 (0 ∷ 0 ∷ 0 ∷ 0 ∷ [])) 48 (255 ∷ 15 ∷ 0 ∷ 0 ∷ [])) 20 (0 ∷ 0 ∷ 0 ∷ 0 ∷ []) ≡ resetRom keepsIdAndBaud table
+  pub positions-stores : sets (sets (sets table 52 (0 ∷ 0 ∷ 0 ∷ 0 ∷ [])) 48 (255 ∷ 15 ∷ 0 ∷ 0 ∷ [])) 20 (0 ∷ 0 ∷ 0 ∷ 0 ∷ [])
+      ≡ onTable table (resetRom keepsIdAndBaud table)
   unfolding registers bytesOf resetRom romBut
-  positions-stores = freshened-stores (romBut keepsIdAndBaud) tt
+  positions-stores = freshened-stores (romBut keepsIdAndBaud) tt ∙ sym (on-table table _ sized)
 
   but-id-and-baud-length : length (resetRom keepsIdAndBaud table) ≡ tableSize
   unfolding registers resetRom romBut
@@ -92,14 +102,14 @@ module _ (table : List ℕ) (sized : length table ≡ tableSize) where
   unfolding registers resetRom romBut
   but-id-length = freshened-length (romBut keepsId) tt
 
-  pub baud-stores : set (resetRom keepsIdAndBaud table) 8 1 ≡ resetRom keepsId table
+  pub baud-stores : set (onTable table (resetRom keepsIdAndBaud table)) 8 1 ≡ onTable table (resetRom keepsId table)
   unfolding registers freshened resetRom
   baud-stores =
       let l = but-id-and-baud-length in
-      sym (put-byte (resetRom keepsIdAndBaud table) baudCode 1 refl (omega arith) (omega arith))
+      rw (eq-eqb (length table) tableSize sized) (sym (put-byte (resetRom keepsIdAndBaud table) baudCode 1 refl (omega arith) (omega arith)))
 
-  pub id-stores : set (resetRom keepsId table) 7 1 ≡ resetRom keepsNone table
+  pub id-stores : set (onTable table (resetRom keepsId table)) 7 1 ≡ onTable table (resetRom keepsNone table)
   unfolding registers freshened resetRom
   id-stores =
       let l = but-id-length in
-      sym (put-byte (resetRom keepsId table) deviceId 1 refl (omega arith) (omega arith))
+      rw (eq-eqb (length table) tableSize sized) (sym (put-byte (resetRom keepsId table) deviceId 1 refl (omega arith) (omega arith)))

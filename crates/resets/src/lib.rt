@@ -1,14 +1,15 @@
-// Reboot and Factory Reset, on the table. Inside the device: its callers are held to what the functions require.
+// Reboot and Factory Reset, on the table. A table of another size is left as it is.
 ghost use mathlib.Core.Path.{_≡_};
-ghost use lib.ListN.{length};
-ghost use Rattle.registers.specs.Registers.{tableSize};
 ghost use Rattle.resets.specs.Resets.{rebooted, resetRom, keepsIdAndBaud, keepsId, keepsNone};
+ghost use Rattle.resets.specs.Steps.{onTable};
 
 // RAM items fresh, present position as it was, min position as the goal.
 pub fn reboot(table: &mut [u8])
-    requires { ⌜ length (now table) ≡ tableSize ⌝ }
-    ensures { λ _. ⌜ now (table .exit) ≡ rebooted (now (table .entry)) ⌝ }
+    ensures { λ _. ⌜ now (table .exit) ≡ onTable (now (table .entry)) (rebooted (now (table .entry))) ⌝ }
 {
+    if table.len() != 136 {
+        return;
+    }
     let a = table[52];
     let b = table[53];
     let c = table[54];
@@ -30,9 +31,11 @@ pub fn reboot(table: &mut [u8])
 
 // Factory Reset 02: homing offset and both limits fresh.
 pub fn reset_but_id_and_baud(table: &mut [u8])
-    requires { ⌜ length (now table) ≡ tableSize ⌝ }
-    ensures { λ _. ⌜ now (table .exit) ≡ resetRom keepsIdAndBaud (now (table .entry)) ⌝ }
+    ensures { λ _. ⌜ now (table .exit) ≡ onTable (now (table .entry)) (resetRom keepsIdAndBaud (now (table .entry))) ⌝ }
 {
+    if table.len() != 136 {
+        return;
+    }
     table[52] = 0;
     table[53] = 0;
     table[54] = 0;
@@ -49,18 +52,22 @@ pub fn reset_but_id_and_baud(table: &mut [u8])
 
 // Factory Reset 01: the baud code too.
 pub fn reset_but_id(table: &mut [u8])
-    requires { ⌜ length (now table) ≡ tableSize ⌝ }
-    ensures { λ _. ⌜ now (table .exit) ≡ resetRom keepsId (now (table .entry)) ⌝ }
+    ensures { λ _. ⌜ now (table .exit) ≡ onTable (now (table .entry)) (resetRom keepsId (now (table .entry))) ⌝ }
 {
+    if table.len() != 136 {
+        return;
+    }
     reset_but_id_and_baud(table);
     table[8] = 1;
 }
 
 // Factory Reset FF: the ID too.
 pub fn reset_all(table: &mut [u8])
-    requires { ⌜ length (now table) ≡ tableSize ⌝ }
-    ensures { λ _. ⌜ now (table .exit) ≡ resetRom keepsNone (now (table .entry)) ⌝ }
+    ensures { λ _. ⌜ now (table .exit) ≡ onTable (now (table .entry)) (resetRom keepsNone (now (table .entry))) ⌝ }
 {
+    if table.len() != 136 {
+        return;
+    }
     reset_but_id(table);
     table[7] = 1;
 }

@@ -4,13 +4,13 @@ use mathlib.Core.List.{List, [], _∷_}
 use Prim.Native.Nat.{ℕ, _+_, _%_}
 use lib.Dec.{eqb}
 use lib.ListN.{length, take, replicate}
-use Rattle.instructions.specs.Registered.{padded}
+use Rattle.lists.specs.Write.{padded}
 use Rattle.encoder.specs.Writing.{packetOf}
 use Rattle.status.specs.declared.Reply.{Reply}
 
 abbrev pub status : ℕ → ℕ → List ℕ → ℕ → Reply
 status id error bytes slot =
-    record { speaks = true; id = id; error = error; count = length bytes; bytes = padded bytes; slot = slot }
+    record { speaks = true; id = id; error = error; count = length bytes; bytes = padded 8 bytes; slot = slot }
 
 abbrev pub silence : Reply
 silence = record { speaks = false; id = 0; error = 0; count = 0; bytes = replicate 8 0; slot = 0 }

@@ -1,45 +1,44 @@
 use mathlib.Core.Path.{_≡_, ap, _∙_}
+use mathlib.Core.List.{List}
 use Prim.Native.Nat.{ℕ, _+_, _-_}
 use native.Mathlib.Omega.{arith}
-use lib.ListN.{take, drop, replicate}
-use Rattle.lists.specs.Write.{overwritten}
+use lib.ListN.{take, drop, length-take}
+use lib.Seq.{take-all}
+use Rattle.lists.specs.Write.{padded}
 use borrow.Author.Needs.{needs}
 use Rattle.control_table.proofs.bytes_from.Statement.{statement}
 use Rattle.control_table.proofs.bytes_from.Tie as tie
 
-slice-aggregate-place : tie.Need-slice-aggregate-place
-slice-aggregate-place c = search needs
+add-first-eight : tie.Need-add-first-eight
+add-first-eight c = search needs
 
-add-place : tie.Need-add-place
-add-place c = search needs
+sub-first-eight : tie.Need-sub-first-eight
+sub-first-eight c = search needs
 
-sub-place : tie.Need-sub-place
-sub-place c = search needs
+part-first-eight-start : tie.Need-part-first-eight-start
+part-first-eight-start c = search needs
 
-part-place-start : tie.Need-part-place-start
-part-place-start c = search needs
+part-first-eight-end : tie.Need-part-first-eight-end
+part-first-eight-end c = search needs
 
-part-place-end : tie.Need-part-place-end
-part-place-end c = search needs
-
-place-requires : tie.Need-place-requires
-place-requires c κs = search needs
+first-eight-requires : tie.Need-first-eight-requires
+first-eight-requires c κs = search needs
 
 returns : tie.Need-returns
 returns c =
-    let p = c .before in
-    let a = c .before .before .before .before .before .args in
+    let a = c .before .before .before .args in
     let e : a .at + a .n - a .at ≡ a .n = omega arith in
-    p .place .ensures ∙ ap (λ (k : ℕ). overwritten (replicate 8 0) (take k (drop (a .at) (a .table .now)))) e
+    c .first-eight .ensures
+    ∙ ap (λ (k : ℕ). padded 8 (take 8 (take k (drop (a .at) (a .table .now))))) e
+    ∙ ap (λ (s : List ℕ). padded 8 s) (take-all 8 (take (a .n) (drop (a .at) (a .table .now))) (simp length-take (omega arith)))
 
 pub bytes-from-spec : {M : Type 1} → statement M
 bytes-from-spec =
     tie.close
     (tie.spec
-    slice-aggregate-place
-    add-place
-    sub-place
-    part-place-start
-    part-place-end
-    place-requires
+    add-first-eight
+    sub-first-eight
+    part-first-eight-start
+    part-first-eight-end
+    first-eight-requires
     returns)

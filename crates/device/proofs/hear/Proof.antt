@@ -46,7 +46,7 @@ accepts t =
     idle-accepted (a .table .now) (a .registered) (a .out .now) (i .result) (i .ensures) _ _ (t .enum-told .given .1)
 
 carry-out-requires : tie.Need-carry-out-requires
-carry-out-requires c κs = let q = accepts (c .before) in (q .sized, q .short)
+carry-out-requires c κs = accepts (c .before) .sized
 
 -- the reply as the definition has it
 reply-is : (r : tie.After-carry-out)

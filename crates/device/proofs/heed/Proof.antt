@@ -5,10 +5,11 @@ use lib.ListN.{getD}
 use Rattle.instructions.specs.declared.Done.{Done}
 use Rattle.reactions.specs.declared.Reacted.{Reacted}
 use Rattle.status.specs.declared.Reply.{Reply}
-use Rattle.reactions.specs.Reactions.{reaction}
+use Rattle.reactions.specs.Reactions.{Reaction, reaction}
+use Rattle.reactions.specs.Steps.{reactedOf}
 use Rattle.device.specs.Device.{replyBy}
 use Rattle.device.specs.Steps.{replyTo}
-use Rattle.reactions.proofs.Reactions.{reacted-done}
+use Rattle.reactions.proofs.Reactions.{reaction-of-size, reacted-done}
 use Rattle.device.proofs.Replies.{reply-of}
 use borrow.Author.Needs.{needs}
 use Rattle.device.proofs.heed.Statement.{statement}
@@ -32,17 +33,21 @@ same-length c = search needs
 returns : tie.Need-returns
 returns c =
     let r = c .before .before .before .before .before .before in
-    let a = r .before .before .before .before .before .before .args in
+    let s = r .before .before .before .before .before .before in
+    let a = s .args in
     let q = reaction (a .heard) (a .all) (a .table .now) (a .registered) (a .body .now) in
+    let e = reaction-of-size (a .table .now) (a .registered) q (s .pre) in
+    let reacted = r .reaction .ensures .0 ∙ ap reactedOf e in
+    let left = r .reaction .ensures .1 ∙ ap (λ (x : Reaction). x .effect .table) e in
     let own = getD (a .table .now) 7 0 in
     let level = getD (a .table .now) 68 0 in (
       ap (λ (x : Reply). record { reply = x; registered = r .reaction .result .done .registered })
           (c .reply-to .ensures
-          ∙ ap (λ (t : List ℕ). replyTo t own level (r .reaction .result)) (r .reaction .ensures .1)
-          ∙ ap (replyTo (q .effect .table) own level) (r .reaction .ensures .0)
+          ∙ ap (λ (t : List ℕ). replyTo t own level (r .reaction .result)) left
+          ∙ ap (replyTo (q .effect .table) own level) reacted
           ∙ reply-of (a .table .now) q)
-          ∙ ap (λ (x : Done). record { reply = replyBy (q .voice) (a .table .now) (q .effect); registered = x .registered }) (ap (λ (x : Reacted). x .done) (r .reaction .ensures .0) ∙ reacted-done q),
-      r .reaction .ensures .1,
+          ∙ ap (λ (x : Done). record { reply = replyBy (q .voice) (a .table .now) (q .effect); registered = x .registered }) (ap (λ (x : Reacted). x .done) reacted ∙ reacted-done q),
+      left,
     )
 
 pub heed-spec : {M : Type 1} → statement M

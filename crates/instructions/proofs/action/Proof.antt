@@ -1,50 +1,60 @@
-use mathlib.Core.Path.{_≡_, refl, sym, ap, _∙_}
-use mathlib.Core.List.{List}
-use Prim.Native.Nat.{ℕ}
+use mathlib.Core.Path.{_≡_, refl, ap, _∙_}
+use Prim.Native.Nat.{_≤_}
 use native.Mathlib.Omega.{arith}
 use lib.ListN.{length, length-set, length-take}
-use borrow.Author.Tests.{eq-eqb, ne-eqb}
-use Rattle.registers.specs.Registers.{registeredInstruction}
-use Rattle.control_table.proofs.Put.{put-byte}
-use Rattle.instructions.specs.Registered.{dropped, bytesToWrite}
-use Rattle.instructions.specs.Instructions.{write, action}
+use borrow.Author.Tests.{eq-eqb}
+use Rattle.instructions.specs.Instructions.{Effect, action}
 use Rattle.instructions.specs.Steps.{doneOf}
+use Rattle.instructions.proofs.Sized.{done, not-done}
+use Rattle.instructions.proofs.Acting.{eight, acted}
 use borrow.Author.Needs.{needs}
 use Rattle.instructions.proofs.action.Statement.{statement}
 use Rattle.instructions.proofs.action.Tie as tie
-
-cast-n : tie.Need-cast-n
-cast-n c = search needs
 
 without-data-requires : tie.Need-without-data-requires
 without-data-requires c κs = search needs
 
 returns : tie.Need-returns
-unfolding action
 returns c =
-    let a = c .before .before .before .before in
-    let e = eq-eqb (a .args .registered .count) 0 (c .before .if1 .taken) in
-    (rw e (c .without-data .ensures), rw e)
+    let k = c .before in
+    let a = k .before .before .args in
+    not-done (a .table .now) (a .registered) (action (a .table .now) (a .registered)) _ _ (k .if1 .taken) (c .without-data .ensures) refl
+
+without-data-requires-2 : tie.Need-without-data-requires-2
+without-data-requires-2 c κs = search needs
+
+returns-2 : tie.Need-returns-2
+unfolding action
+returns-2 c =
+    let i = c .before in
+    let k = i .before .before in
+    let a = k .before .before .args in
+    let e = eq-eqb (a .registered .count) 0 (i .if2 .taken) in
+    done (a .table .now) (a .registered) (action (a .table .now) (a .registered)) _ _ (k .if1 .left) (rw e (c .without-data2 .ensures)) (rw e)
 
 slice-write-table : tie.Need-slice-write-table
 slice-write-table c = search needs
 
+byte-count-requires : tie.Need-byte-count-requires
+byte-count-requires c κs = search needs
+
 dropped-requires : tie.Need-dropped-requires
 dropped-requires c κs = search needs
 
-array-share-prefix-held : tie.Need-array-share-prefix-held
-array-share-prefix-held c =
-    let a = c .before .before .before .before .before .before in
-    let e : length (a .args .registered .bytes) ≡ 8 = search needs in
-    let p = a .pre .1 in
+has-eight : (b : tie.After-byte-count) → length (b .before .before .before .before .before .args .registered .bytes) ≡ 8
+has-eight b = search needs
+
+within : (b : tie.After-byte-count) → b .byte-count .result ≤ length (b .before .before .before .before .before .args .registered .bytes)
+within b =
+    let l = has-eight b in
+    let h = eight (b .before .before .before .before .before .args .registered .count) (b .byte-count .result) (b .byte-count .ensures) in
     omega arith
 
+array-share-prefix-held : tie.Need-array-share-prefix-held
+array-share-prefix-held c = within (c .before .before .before)
+
 slice-aggregate-write : tie.Need-slice-aggregate-write
-slice-aggregate-write c =
-    let a = c .before .before .before .before .before .before .before in
-    let e : length (a .args .registered .bytes) ≡ 8 = search needs in
-    let p = a .pre .1 in
-    simp length-take (omega arith)
+slice-aggregate-write c = let h = within (c .before .before .before .before) in simp length-take (omega arith)
 
 write-requires : tie.Need-write-requires
 write-requires c κs = search needs
@@ -52,29 +62,31 @@ write-requires c κs = search needs
 same-length : tie.Need-same-length
 same-length c = simp length-set at (c .before .before .write .kept .0)
 
-returns-2 : tie.Need-returns-2
-unfolding action
-returns-2 c =
+returns-3 : tie.Need-returns-3
+returns-3 c =
     let r = c .before .before in
-    let k = r .before .before in
-    let a = k .before .before .before .before .before .before in
-    let n = ne-eqb (a .args .registered .count) 0 (k .before .before .before .if1 .left) in
-    let w = a .args .registered in
-    let p = sym (put-byte (a .args .table .now) registeredInstruction 0 refl (omega arith) (omega arith)) in (
-      rw n ((rw (k .dropped .ensures) at (r .write .ensures .0)) ∙ ap (λ (t : List ℕ). doneOf (write t dropped (w .address) (bytesToWrite w))) p),
-      rw n ((rw (k .dropped .ensures) at (r .write .ensures .1)) ∙ ap (λ (t : List ℕ). write t dropped (w .address) (bytesToWrite w) .table) p),
-    )
+    let d = r .before .before in
+    let b = d .before .before .before in
+    let i = b .before in
+    let k = i .before .before in
+    let a = k .before .before .args in
+    let e = acted (a .table .now) (a .registered) (b .byte-count .result) (k .if1 .left) (has-eight b) (i .if2 .left) (b .byte-count .ensures) in
+    done (a .table .now) (a .registered) (action (a .table .now) (a .registered)) _ _ (k .if1 .left) ((rw (d .dropped .ensures) at (r .write .ensures .0)) ∙ ap doneOf e)
+    ((rw (d .dropped .ensures) at (r .write .ensures .1)) ∙ ap (λ (f : Effect). f .table) e)
 
 pub action-spec : {M : Type 1} → statement M
 action-spec =
     tie.close
     (tie.spec
-    cast-n
     without-data-requires
     returns
+    without-data-requires-2
+    returns-2
     slice-write-table
-    dropped-requires array-share-prefix-held
+    byte-count-requires
+    dropped-requires
+    array-share-prefix-held
     slice-aggregate-write
     write-requires
     same-length
-    returns-2)
+    returns-3)

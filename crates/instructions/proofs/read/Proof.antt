@@ -28,7 +28,7 @@ returns c =
     let a = r .before .before in
     c .without-data .ensures
     ∙ ap (λ (error : ℕ). doneWith error [] (a .args .registered)) (c .before .error-of .ensures)
-    ∙ read-refused (a .args .table .now) (a .args .registered) (a .args .address) (a .pre) (a .args .count) (r .read .result .outcome) (r .read .ensures .0)
+    ∙ read-refused (a .args .table .now) (a .args .registered) (a .args .address) (a .args .count) (r .read .result .outcome) (r .read .ensures .0)
     (sym (d .is-done .ensures) ∙ not-true _ (k .if1 .taken))
 
 returns-2 : tie.Need-returns-2
@@ -37,7 +37,7 @@ returns-2 c =
     let d = k .before in
     let r = d .before in
     let a = r .before .before in
-    read-done (a .args .table .now) (a .args .registered) (a .args .address) (a .pre) (a .args .count) (r .read .result .outcome) (r .read .ensures .0)
+    read-done (a .args .table .now) (a .args .registered) (a .args .address) (a .args .count) (r .read .result .outcome) (r .read .ensures .0)
     (sym (d .is-done .ensures) ∙ not-false _ (k .if1 .left)) (r .read .result .bytes) (r .read .ensures .1)
 
 pub read-spec : {M : Type 1} → statement M

@@ -1,13 +1,20 @@
-use mathlib.Core.Path.{sym, ap, _∙_}
+use mathlib.Core.Path.{_≡_, sym, ap, _∙_}
+use mathlib.Core.Bool.{true}
 use mathlib.Core.List.{List, []}
 use Prim.Native.Nat.{ℕ, _≤_}
 use native.Mathlib.Omega.{arith}
 use lib.ListN.{length}
+use lib.Seq.{take-all}
 use borrow.Author.Tests.{not-true, not-false}
+use Rattle.lists.specs.Write.{padded}
+use Rattle.registers.specs.Registers.{tableSize}
+use Rattle.table_rules.specs.Outcomes.{isDone}
 use Rattle.table_rules.proofs.Judged.{done-none}
 use Rattle.control_table.proofs.Theorems.{write-short}
 use Rattle.instructions.specs.Steps.{doneWith}
-use Rattle.instructions.proofs.Effects.{reg-write-refused, reg-write-stays, reg-write-done, reg-write-table}
+use Rattle.instructions.specs.Instructions.{regWrite}
+use Rattle.instructions.proofs.Sized.{done}
+use Rattle.instructions.proofs.Effects.{reg-write-refused, reg-write-stays, reg-write-sized, reg-write-done, reg-write-table}
 use borrow.Author.Needs.{needs}
 use Rattle.instructions.proofs.reg_write.Statement.{statement}
 use Rattle.instructions.proofs.reg_write.Tie as tie
@@ -36,26 +43,33 @@ returns c =
     let bad = sym (d .is-done .ensures) ∙ not-true _ (k .if1 .taken) in (
       c .without-data .ensures
           ∙ ap (λ (error : ℕ). doneWith error [] (a .args .registered)) (c .before .error-of .ensures)
-          ∙ reg-write-refused (a .args .table .now) (a .args .registered) (a .args .address) (a .pre) (a .args .bytes .now) (j .judge .result) (j .judge .ensures) bad,
-      reg-write-stays (a .args .table .now) (a .args .registered) (a .args .address) (a .pre) (a .args .bytes .now) (j .judge .result) (j .judge .ensures) bad,
+          ∙ reg-write-refused (a .args .table .now) (a .args .registered) (a .args .address) (a .args .bytes .now) (j .judge .result) (j .judge .ensures) bad,
+      reg-write-stays (a .args .table .now) (a .args .registered) (a .args .address) (a .args .bytes .now) (j .judge .result) (j .judge .ensures) bad,
     )
 
+good : (c : tie.Else1) → isDone (c .before .before .judge .result) ≡ true
+good c = sym (c .before .is-done .ensures) ∙ not-false _ (c .if1 .left)
+
+right-size : (c : tie.Else1) → length (c .before .before .before .before .before .before .args .table .now) ≡ tableSize
+right-size c =
+    let j = c .before .before in
+    let a = j .before .before .before .before .args in
+    reg-write-sized (a .table .now) (a .registered) (a .address) (a .bytes .now) (j .judge .result) (j .judge .ensures) (good c)
+
 slice-write-table : tie.Need-slice-write-table
-slice-write-table c = search needs
+slice-write-table c = let s = right-size c in omega arith
 
 short : (c : tie.Else1) → length (c .before .before .before .before .before .before .args .bytes .now) ≤ 8
 short c =
-    let d = c .before in
-    let j = d .before in
-    let a = j .before .before .before .before in
-    write-short (a .args .table .now) (a .args .address) (a .args .bytes .now)
-    (sym (j .judge .ensures) ∙ done-none (j .judge .result) (sym (d .is-done .ensures) ∙ not-false _ (c .if1 .left)))
+    let j = c .before .before in
+    let a = j .before .before .before .before .args in
+    write-short (a .table .now) (a .address) (a .bytes .now) (sym (j .judge .ensures) ∙ done-none (j .judge .result) (good c))
 
 cast-t14 : tie.Need-cast-t14
 cast-t14 c = omega (arith, short c)
 
-padded-bytes-requires : tie.Need-padded-bytes-requires
-padded-bytes-requires c κs = short c
+first-eight-requires : tie.Need-first-eight-requires
+first-eight-requires c κs = search needs
 
 without-data-requires-2 : tie.Need-without-data-requires-2
 without-data-requires-2 c κs = search needs
@@ -67,15 +81,13 @@ returns-2 : tie.Need-returns-2
 returns-2 c =
     let p = c .before in
     let k = p .before in
-    let d = k .before in
-    let j = d .before in
-    let a = j .before .before .before .before in
-    let good = sym (d .is-done .ensures) ∙ not-false _ (k .if1 .left) in (
-      c .without-data2 .ensures
-          ∙ ap (λ (b : List ℕ). doneWith 0 [] (record { address = a .args .address; count = length (a .args .bytes .now); bytes = b })) (p .padded-bytes .ensures)
-          ∙ reg-write-done (a .args .table .now) (a .args .registered) (a .args .address) (a .pre) (a .args .bytes .now) (j .judge .result) (j .judge .ensures) good,
-      reg-write-table (a .args .table .now) (a .args .registered) (a .args .address) (a .pre) (a .args .bytes .now) (j .judge .result) (j .judge .ensures) good,
-    )
+    let j = k .before .before in
+    let a = j .before .before .before .before .args in
+    done (a .table .now) (a .registered) (regWrite (a .table .now) (a .registered) (a .address) (a .bytes .now)) _ _ (right-size k)
+    (c .without-data2 .ensures
+    ∙ ap (λ (b : List ℕ). doneWith 0 [] (record { address = a .address; count = length (a .bytes .now); bytes = b })) (p .first-eight .ensures ∙ ap (λ (b : List ℕ). padded 8 b) (take-all 8 (a .bytes .now) (short k)))
+    ∙ reg-write-done (a .table .now) (a .registered) (a .address) (a .bytes .now) (j .judge .result) (j .judge .ensures) (good k))
+    (reg-write-table (a .table .now) (a .registered) (a .address) (a .bytes .now) (j .judge .result) (j .judge .ensures) (good k))
 
 pub reg-write-spec : {M : Type 1} → statement M
 reg-write-spec =
@@ -89,7 +101,7 @@ reg-write-spec =
     returns
     slice-write-table
     cast-t14
-    padded-bytes-requires
+    first-eight-requires
     without-data-requires-2
     same-length-2
     returns-2)

@@ -25,8 +25,8 @@ returns c =
     let a = r .before .before .before .before in (
       c .without-data .ensures
           ∙ ap (λ (error : ℕ). doneWith error [] (a .args .registered)) (c .before .error-of .ensures)
-          ∙ write-done (a .args .table .now) (a .args .registered) (a .args .address) (a .pre) (a .args .bytes .now) (r .write .result) (r .write .ensures .0),
-      r .write .ensures .1 ∙ write-table (a .args .table .now) (a .args .registered) (a .args .address) (a .pre) (a .args .bytes .now),
+          ∙ write-done (a .args .table .now) (a .args .registered) (a .args .address) (a .args .bytes .now) (r .write .result) (r .write .ensures .0),
+      r .write .ensures .1 ∙ write-table (a .args .table .now) (a .args .registered) (a .args .address) (a .args .bytes .now),
     )
 
 pub write-spec : {M : Type 1} → statement M

@@ -8,6 +8,7 @@ use borrow.Author.Tests.{eq-eqb, ne-eqb}
 use Rattle.instructions.specs.Instructions.{Effect, factoryReset}
 use Rattle.reactions.specs.Reactions.{ownOnly, unchanged}
 use Rattle.instructions.specs.Steps.{doneOf}
+use Rattle.instructions.proofs.Sized.{of-size}
 use Rattle.instructions.specs.declared.RegisteredWrite.{RegisteredWrite}
 use Rattle.reactions.proofs.Reactions.{wrong, fitting}
 use borrow.Author.Needs.{needs}
@@ -69,11 +70,13 @@ returns-3 c =
     let r = c .before .before .before in
     let i = r .before .before .before in
     let k = i .before .before in
-    let a = k .before .before .before .args in
+    let s = k .before .before .before in
+    let a = s .args in
+    let p = of-size (a .table .now) (a .registered) (factoryReset (a .table .now) (a .registered) (getD (a .params .now) 0 0)) (s .pre) in
     let every = sym (i .resets-every-id .ensures) ∙ r .before .before .if2 .left in
     fitting (ownOnly (a .all) 2) (a .table .now) (a .registered) (effect (a .all) (a .table .now) (a .registered) (a .params .now))
-    (eqb (length (a .params .now)) 1) (eq-eqb _ _ (k .if1 .left)) _ _ _ (c .own-only3 .ensures) (r .factory-reset .ensures .0 ∙ ap (λ (b : Bool). doneOf (chosen b (a .table .now) (a .registered) (a .params .now))) (sym every))
-    (r .factory-reset .ensures .1 ∙ ap (λ (b : Bool). chosen b (a .table .now) (a .registered) (a .params .now) .table) (sym every))
+    (eqb (length (a .params .now)) 1) (eq-eqb _ _ (k .if1 .left)) _ _ _ (c .own-only3 .ensures) (r .factory-reset .ensures .0 ∙ ap doneOf p ∙ ap (λ (b : Bool). doneOf (chosen b (a .table .now) (a .registered) (a .params .now))) (sym every))
+    (r .factory-reset .ensures .1 ∙ ap (λ (x : Effect). x .table) p ∙ ap (λ (b : Bool). chosen b (a .table .now) (a .registered) (a .params .now) .table) (sym every))
 
 pub heard-factory-reset-spec : {M : Type 1} → statement M
 heard-factory-reset-spec =

@@ -3,6 +3,8 @@ use native.Mathlib.Omega.{arith}
 use lib.ListN.{length, getD}
 use borrow.Author.Tests.{eq-eqb, ne-eqb}
 use Rattle.instructions.specs.Instructions.{ping}
+use Rattle.instructions.specs.Steps.{doneOf}
+use Rattle.instructions.proofs.Sized.{of-size}
 use Rattle.reactions.specs.Reactions.{ownOnly}
 use Rattle.reactions.specs.Steps.{reactedBy}
 use Rattle.reactions.specs.Reactions.{speaks}
@@ -33,8 +35,9 @@ cast-t11 c = omega (arith, c .shared-slice-known3 .given 7)
 returns-2 : tie.Need-returns-2
 returns-2 c =
     let p = c .before .before in
-    let a = p .before .before .before .before .args in
-    rw (eq-eqb (length (a .params .now)) 0 (p .before .if1 .left), c .before .if2 .taken) (ap (reactedBy (speaks 0 (getD (a .table .now) 7 0))) (p .ping .ensures))
+    let s = p .before .before .before .before in
+    let a = s .args in
+    rw (eq-eqb (length (a .params .now)) 0 (p .before .if1 .left), c .before .if2 .taken) (ap (reactedBy (speaks 0 (getD (a .table .now) 7 0))) (p .ping .ensures ∙ ap doneOf (of-size (a .table .now) (a .registered) (ping (a .table .now) (a .registered)) (s .pre))))
 
 own-only-requires-2 : tie.Need-own-only-requires-2
 own-only-requires-2 c κs = search needs
@@ -42,9 +45,10 @@ own-only-requires-2 c κs = search needs
 returns-3 : tie.Need-returns-3
 returns-3 c =
     let p = c .before .before in
-    let a = p .before .before .before .before .args in
+    let s = p .before .before .before .before in
+    let a = s .args in
     rw (eq-eqb (length (a .params .now)) 0 (p .before .if1 .left), c .before .if2 .left)
-    ((rw (c .before .if2 .left) at (c .own-only2 .ensures)) ∙ ap (reactedBy (speaks 0 0)) (p .ping .ensures))
+    ((rw (c .before .if2 .left) at (c .own-only2 .ensures)) ∙ ap (reactedBy (speaks 0 0)) (p .ping .ensures ∙ ap doneOf (of-size (a .table .now) (a .registered) (ping (a .table .now) (a .registered)) (s .pre))))
 
 pub heard-ping-spec : {M : Type 1} → statement M
 heard-ping-spec =

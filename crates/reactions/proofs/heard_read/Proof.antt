@@ -1,8 +1,11 @@
+use mathlib.Core.Path.{ap, _∙_}
 use lib.Dec.{eqb}
 use lib.ListN.{length}
 use borrow.Author.Tests.{eq-eqb, ne-eqb}
 use Rattle.parameters.specs.Parameters.{wordAt}
 use Rattle.instructions.specs.Instructions.{read}
+use Rattle.instructions.specs.Steps.{doneOf}
+use Rattle.instructions.proofs.Sized.{of-size}
 use Rattle.reactions.specs.Reactions.{ownOnly}
 use Rattle.reactions.proofs.Reactions.{wrong-count, right-count}
 use borrow.Author.Needs.{needs}
@@ -37,9 +40,10 @@ returns-2 c =
     let r = c .before in
     let w₂ = r .before in
     let w₁ = w₂ .before in
-    let a = w₁ .before .before .before .before .args in
+    let s = w₁ .before .before .before .before in
+    let a = s .args in
     right-count (ownOnly (a .all) 1) (a .table .now) (a .registered) (read (a .table .now) (a .registered) (wordAt (a .params .now) 0) (wordAt (a .params .now) 2)) (eqb (length (a .params .now)) 4) (eq-eqb _ _ (w₁ .before .if1 .left)) _ _ (c .own-only2 .ensures)
-    (rw (w₁ .word-at .ensures, w₂ .word-at2 .ensures) at (r .read .ensures))
+    ((rw (w₁ .word-at .ensures, w₂ .word-at2 .ensures) at (r .read .ensures)) ∙ ap doneOf (of-size (a .table .now) (a .registered) _ (s .pre)))
 
 pub heard-read-spec : {M : Type 1} → statement M
 heard-read-spec =

@@ -43,8 +43,9 @@ returns-2 c =
     let r = c .before .before .before in
     let w = r .before .before in
     let k = w .before .before in
-    let a = k .before .before .before .args in
-    with-address (a .all) (a .table .now) (a .registered) (a .params .now) (regWrite (a .table .now) (a .registered)) (k .if1 .left) _
+    let b = k .before .before .before in
+    let a = b .args in
+    with-address (a .all) (a .table .now) (a .registered) (a .params .now) (regWrite (a .table .now) (a .registered)) (b .pre) (k .if1 .left) _
     (w .word-at .ensures) _ _ _ (c .own-only2 .ensures) (r .reg-write .ensures .0) (r .reg-write .ensures .1)
 
 pub heard-reg-write-spec : {M : Type 1} → statement M

@@ -1,7 +1,9 @@
 use mathlib.Core.Path.{sym, ap, _∙_}
-use Prim.Native.Nat.{_-_}
-use lib.ListN.{length}
-use borrow.Author.Tests.{lt-leb, not-true, not-false}
+use borrow.Author.Tests.{not-true, not-false}
+use Rattle.parameters.specs.Parameters.{wordAt}
+use Rattle.instructions.specs.Instructions.{read}
+use Rattle.instructions.specs.Steps.{doneOf}
+use Rattle.instructions.proofs.Sized.{of-size}
 use Rattle.reactions.specs.Reactions.{speaks}
 use Rattle.reactions.specs.Steps.{reactedBy}
 use borrow.Author.Needs.{needs}
@@ -20,15 +22,6 @@ returns c =
     let a = k .before .before .before .args in
     rw (not-true (a .all) (k .if1 .taken)) (c .own-only .ensures ∙ ap (reactedBy (speaks 1 0)) (c .before .without-data .ensures))
 
-quiet-requires : tie.Need-quiet-requires
-quiet-requires c κs = search needs
-
-returns-2 : tie.Need-returns-2
-returns-2 c =
-    let k = c .before .before in
-    let a = k .before .before .before .args in
-    rw (not-false (a .all) (k .if1 .left), lt-leb 4 (length (a .params .now)) (c .before .if2 .taken)) (c .quiet .ensures)
-
 shared-slice-read-sync-search : tie.Need-shared-slice-read-sync-search
 shared-slice-read-sync-search c = search needs
 
@@ -41,16 +34,16 @@ enum-known-slot c = search needs
 enum-told : tie.Need-enum-told
 enum-told c = search needs
 
-quiet-requires-2 : tie.Need-quiet-requires-2
-quiet-requires-2 c κs = search needs
+quiet-requires : tie.Need-quiet-requires
+quiet-requires c κs = search needs
 
-returns-3 : tie.Need-returns-3
-returns-3 c =
+returns-2 : tie.Need-returns-2
+returns-2 c =
     let t = c .before in
     let f = t .before .before in
-    let k = f .before .before .before in
+    let k = f .before .before in
     let a = k .before .before .before .args in
-    rw (not-false (a .all) (k .if1 .left), sym (f .sync-search .ensures) ∙ t .enum-told .given .1) (c .quiet2 .ensures)
+    rw (not-false (a .all) (k .if1 .left), sym (f .sync-search .ensures) ∙ t .enum-told .given .1) (c .quiet .ensures)
 
 word-at-requires : tie.Need-word-at-requires
 word-at-requires c κs = search needs
@@ -61,16 +54,18 @@ word-at-requires-2 c κs = search needs
 read-requires : tie.Need-read-requires
 read-requires c κs = search needs
 
-returns-4 : tie.Need-returns-4
-returns-4 c =
+returns-3 : tie.Need-returns-3
+returns-3 c =
     let w₂ = c .before in
     let w₁ = w₂ .before in
     let t = w₁ .before .before in
     let f = t .before .before in
-    let k = f .before .before .before in
-    let a = k .before .before .before .args in
+    let k = f .before .before in
+    let s = k .before .before .before in
+    let a = s .args in
+    let p = of-size (a .table .now) (a .registered) (read (a .table .now) (a .registered) (wordAt (a .params .now) 0) (wordAt (a .params .now) 2)) (s .pre) in
     rw (not-false (a .all) (k .if1 .left), sym (f .sync-search .ensures) ∙ t .slot .given .1)
-    (ap (reactedBy (speaks 1 (t .slot .given .0 .0))) (rw (w₁ .word-at .ensures, w₂ .word-at2 .ensures) at (c .read .ensures)))
+    (ap (reactedBy (speaks 1 (t .slot .given .0 .0))) ((rw (w₁ .word-at .ensures, w₂ .word-at2 .ensures) at (c .read .ensures)) ∙ ap doneOf p))
 
 pub heard-sync-read-spec : {M : Type 1} → statement M
 heard-sync-read-spec =
@@ -79,15 +74,13 @@ heard-sync-read-spec =
     without-data-requires
     own-only-requires
     returns
-    quiet-requires
-    returns-2
     shared-slice-read-sync-search
     sync-search-requires
     enum-known-slot
     enum-told
-    quiet-requires-2
-    returns-3
+    quiet-requires
+    returns-2
     word-at-requires
     word-at-requires-2
     read-requires
-    returns-4)
+    returns-3)

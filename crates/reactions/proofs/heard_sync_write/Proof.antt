@@ -1,13 +1,15 @@
 use mathlib.Core.Path.{_≡_, sym, ap, _∙_}
 use Prim.Native.Nat.{_+_, _-_, _≤_}
 use native.Mathlib.Omega.{arith}
-use lib.ListN.{length, getD}
-use borrow.Author.Tests.{lt-leb, not-true, not-false}
-use Rattle.parameters.specs.Parameters.{wordAt}
-use Rattle.reactions.specs.Reactions.{silent, speaks}
-use Rattle.parameters.specs.Parameters.{syncSearch}
-use Rattle.reactions.specs.Steps.{reactedBy}
+use lib.ListN.{length, take, drop, getD}
+use borrow.Author.Tests.{not-true, not-false}
+use Rattle.parameters.specs.Parameters.{wordAt, syncSearch}
 use Rattle.parameters.proofs.Searching.{sync-whole}
+use Rattle.instructions.specs.Instructions.{Effect, write}
+use Rattle.instructions.specs.Steps.{doneOf}
+use Rattle.instructions.proofs.Sized.{of-size}
+use Rattle.reactions.specs.Reactions.{silent, speaks}
+use Rattle.reactions.specs.Steps.{reactedBy}
 use borrow.Author.Needs.{needs}
 use Rattle.reactions.proofs.heard_sync_write.Statement.{statement}
 use Rattle.reactions.proofs.heard_sync_write.Tie as tie
@@ -25,25 +27,8 @@ returns c =
     let own = not-true (a .all) (k .if1 .taken) in
     (rw own (c .own-only .ensures ∙ ap (reactedBy (speaks 2 0)) (c .before .without-data .ensures)), rw own)
 
-quiet-requires : tie.Need-quiet-requires
-quiet-requires c κs = search needs
-
-returns-2 : tie.Need-returns-2
-returns-2 c =
-    let k = c .before .before in
-    let a = k .before .before .before .args in
-    let all = not-false (a .all) (k .if1 .left) in
-    let short = lt-leb 4 (length (a .params .now)) (c .before .if2 .taken) in
-    (rw (all, short) (c .quiet .ensures), rw (all, short))
-
 word-at-requires : tie.Need-word-at-requires
 word-at-requires c κs = search needs
-
-cast-n : tie.Need-cast-n
-cast-n c = search needs
-
-add-sync-search : tie.Need-add-sync-search
-add-sync-search c = search needs
 
 slice-read-sync-search : tie.Need-slice-read-sync-search
 slice-read-sync-search c = search needs
@@ -57,35 +42,38 @@ enum-known-at c = search needs
 enum-told : tie.Need-enum-told
 enum-told c = search needs
 
-quiet-requires-2 : tie.Need-quiet-requires-2
-quiet-requires-2 c κs = search needs
+quiet-requires : tie.Need-quiet-requires
+quiet-requires c κs = search needs
 
 -- the search, with the length as the definition has it
 searched : (f : tie.After-sync-search)
-    → let a = f .before .before .before .before .before .before .before .args in
+    → let a = f .before .before .before .before .before .before .args in
     syncSearch (1 + wordAt (a .params .now) 2) (getD (a .table .now) 7 0) (a .params .now) ≡ f .sync-search .result
 searched f = sym (rw (f .before .before .word-at .ensures) at (f .sync-search .ensures))
 
 whole : (t : tie.After-known-told)
-    → let a = t .before .before .before .before .before .before .before .before .before .before .args in
+    → let a = t .before .before .before .before .before .before .before .before .before .args in
     t .before .at .given .0 .1 .0 + (1 + wordAt (a .params .now) 2) ≤ length (a .params .now)
 whole t =
     let f = t .before .before .before in
-    let a = f .before .before .before .before .before .before .before .args in
+    let a = f .before .before .before .before .before .before .args in
     sync-whole (1 + wordAt (a .params .now) 2) (getD (a .table .now) 7 0) (a .params .now) _ _ (searched f ∙ t .before .at .given .1)
 
-returns-3 : tie.Need-returns-3
-returns-3 c =
+returns-2 : tie.Need-returns-2
+returns-2 c =
     let t = c .before in
     let f = t .before .before in
-    let k = f .before .before .before .before in
+    let k = f .before .before .before in
     let a = k .before .before .before .args in
     let all = not-false (a .all) (k .if1 .left) in
     let none = searched f ∙ t .enum-told .given .1 in
-    (rw (all, none) (c .quiet2 .ensures), rw (all, none))
+    (rw (all, none) (c .quiet .ensures), rw (all, none))
 
 add-from : tie.Need-add-from
 add-from c = omega (arith, whole c)
+
+cast-to : tie.Need-cast-to
+cast-to c = search needs
 
 add-to : tie.Need-add-to
 add-to c =
@@ -110,28 +98,31 @@ part-write-end c =
 write-requires : tie.Need-write-requires
 write-requires c κs = search needs
 
-own-only-requires-2 : tie.Need-own-only-requires-2
-own-only-requires-2 c κs = search needs
+unanswered-requires : tie.Need-unanswered-requires
+unanswered-requires c κs = search needs
 
 same-length : tie.Need-same-length
 same-length c = search needs
 
-returns-4 : tie.Need-returns-4
-returns-4 c =
+returns-3 : tie.Need-returns-3
+returns-3 c =
     let r = c .before .before .before in
     let w = r .before .before in
     let t = w .before .before in
     let f = t .before .before .before in
     let n = f .before .before in
-    let k = n .before .before in
-    let a = k .before .before .before .args in
+    let k = n .before in
+    let s = k .before .before .before in
+    let a = s .args in
     let all = not-false (a .all) (k .if1 .left) in
     let some = searched f ∙ t .before .at .given .1 in
     let at = t .before .at .given .0 .1 .0 in
     let e = n .word-at .ensures in
-    let len : at + 1 + n .word-at .result - (at + 1) ≡ wordAt (a .params .now) 2 = omega arith in (
-      rw (all, some) (c .own-only2 .ensures ∙ ap (reactedBy silent) (rw (w .word-at2 .ensures, len) at (r .write .ensures .0))),
-      rw (all, some) (rw (w .word-at2 .ensures, len) at (r .write .ensures .1)),
+    let len : at + 1 + n .word-at .result - (at + 1) ≡ wordAt (a .params .now) 2 = omega arith in
+    let written = write (a .table .now) (a .registered) (wordAt (a .params .now) 0) (take (wordAt (a .params .now) 2) (drop (at + 1) (a .params .now))) in
+    let p = of-size (a .table .now) (a .registered) written (s .pre) in (
+      rw (all, some) (c .unanswered .ensures ∙ ap (reactedBy silent) ((rw (w .word-at2 .ensures, len) at (r .write .ensures .0)) ∙ ap doneOf p)),
+      rw (all, some) ((rw (w .word-at2 .ensures, len) at (r .write .ensures .1)) ∙ ap (λ (x : Effect). x .table) p),
     )
 
 pub heard-sync-write-spec : {M : Type 1} → statement M
@@ -141,24 +132,21 @@ heard-sync-write-spec =
     without-data-requires
     own-only-requires
     returns
-    quiet-requires
-    returns-2
     word-at-requires
-    cast-n
-    add-sync-search
     slice-read-sync-search
     sync-search-requires
     enum-known-at
     enum-told
-    quiet-requires-2
-    returns-3
+    quiet-requires
+    returns-2
     add-from
+    cast-to
     add-to
     word-at-requires-2
     sub-write
     part-write-start
     part-write-end
     write-requires
-    own-only-requires-2
+    unanswered-requires
     same-length
-    returns-4)
+    returns-3)

@@ -8,11 +8,11 @@ use Rattle.reactions.proofs.quiet.Tie as tie
 without-data-requires : tie.Need-without-data-requires
 without-data-requires c κs = search needs
 
-own-only-requires : tie.Need-own-only-requires
-own-only-requires c κs = search needs
+unanswered-requires : tie.Need-unanswered-requires
+unanswered-requires c κs = search needs
 
 returns : tie.Need-returns
-returns c = c .own-only .ensures ∙ ap (reactedBy silent) (c .before .without-data .ensures)
+returns c = c .unanswered .ensures ∙ ap (reactedBy silent) (c .before .without-data .ensures)
 
 pub quiet-spec : {M : Type 1} → statement M
-quiet-spec = tie.close (tie.spec without-data-requires own-only-requires returns)
+quiet-spec = tie.close (tie.spec without-data-requires unanswered-requires returns)

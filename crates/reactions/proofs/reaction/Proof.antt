@@ -1,14 +1,24 @@
-use mathlib.Core.Path.{ap, _∙_}
+use mathlib.Core.Path.{refl, ap, _∙_}
 use Prim.Native.Nat.{_-_}
 use native.Mathlib.Omega.{arith}
 use lib.ListN.{length, drop, length-drop}
 use lib.Seq.{take-all}
-use Rattle.reactions.specs.Reactions.{Reaction, ownOnly}
-use Rattle.reactions.specs.Steps.{reactedBy, reactedOf}
-use Rattle.reactions.proofs.Reactions.{bad-checksum, empty-body, some-body}
+use Rattle.reactions.specs.Reactions.{ownOnly, reaction}
+use Rattle.reactions.specs.Steps.{reactedBy}
+use Rattle.reactions.proofs.Reactions.{bad-checksum, empty-body, some-body, reacted-of-size, not-reacted}
 use borrow.Author.Needs.{needs}
 use Rattle.reactions.proofs.reaction.Statement.{statement}
 use Rattle.reactions.proofs.reaction.Tie as tie
+
+quiet-requires : tie.Need-quiet-requires
+quiet-requires c κs = search needs
+
+returns : tie.Need-returns
+returns c =
+    let k = c .before in
+    let a = k .before .before .before .args in
+    let q = reaction (a .heard) (a .all) (a .table .now) (a .registered) (a .body .now) in
+    not-reacted (a .table .now) (a .registered) q (k .if1 .taken) _ _ (c .quiet .ensures) refl
 
 enum-told : tie.Need-enum-told
 enum-told c = search needs
@@ -22,12 +32,15 @@ without-data-requires c κs = search needs
 own-only-requires : tie.Need-own-only-requires
 own-only-requires c κs = search needs
 
-returns : tie.Need-returns
-returns c =
-    let k = c .before .before in
-    let a = k .before .before .before .before .args in
-    let e = bad-checksum (a .all) (a .table .now) (a .registered) (a .heard) (a .body .now) (k .enum-told2 .given .1) in
-    (c .own-only .ensures ∙ ap (reactedBy (ownOnly (a .all) 2)) (c .before .without-data .ensures) ∙ ap reactedOf e, ap (λ (q : Reaction). q .effect .table) e)
+returns-2 : tie.Need-returns-2
+returns-2 c =
+    let t = c .before .before in
+    let k = t .before .before in
+    let a = k .before .before .before .args in
+    let q = reaction (a .heard) (a .all) (a .table .now) (a .registered) (a .body .now) in
+    let e = bad-checksum (a .all) (a .table .now) (a .registered) (a .heard) (a .body .now) (t .enum-told2 .given .1) in
+    reacted-of-size (a .table .now) (a .registered) q (k .if1 .left) _ e _ _
+    (c .own-only .ensures ∙ ap (reactedBy (ownOnly (a .all) 2)) (c .before .without-data .ensures)) refl
 
 without-data-requires-2 : tie.Need-without-data-requires-2
 without-data-requires-2 c κs = search needs
@@ -35,13 +48,16 @@ without-data-requires-2 c κs = search needs
 own-only-requires-2 : tie.Need-own-only-requires-2
 own-only-requires-2 c κs = search needs
 
-returns-2 : tie.Need-returns-2
-returns-2 c =
-    let k = c .before .before in
-    let t = k .before in
-    let a = t .before .before .before .before .args in
-    let e = empty-body (a .all) (a .table .now) (a .registered) (a .heard) (a .body .now) (t .enum-told .given .1) (k .if1 .taken) in
-    (c .own-only2 .ensures ∙ ap (reactedBy (ownOnly (a .all) 2)) (c .before .without-data2 .ensures) ∙ ap reactedOf e, ap (λ (q : Reaction). q .effect .table) e)
+returns-3 : tie.Need-returns-3
+returns-3 c =
+    let i = c .before .before in
+    let t = i .before in
+    let k = t .before .before in
+    let a = k .before .before .before .args in
+    let q = reaction (a .heard) (a .all) (a .table .now) (a .registered) (a .body .now) in
+    let e = empty-body (a .all) (a .table .now) (a .registered) (a .heard) (a .body .now) (t .enum-told .given .1) (i .if2 .taken) in
+    reacted-of-size (a .table .now) (a .registered) q (k .if1 .left) _ e _ _
+    (c .own-only2 .ensures ∙ ap (reactedBy (ownOnly (a .all) 2)) (c .before .without-data2 .ensures)) refl
 
 shared-slice-read-react : tie.Need-shared-slice-read-react
 shared-slice-read-react c = search needs
@@ -61,33 +77,38 @@ react-requires c κs = search needs
 same-length : tie.Need-same-length
 same-length c = search needs
 
-returns-3 : tie.Need-returns-3
-returns-3 c =
+returns-4 : tie.Need-returns-4
+returns-4 c =
     let r = c .before .before in
-    let k = r .before .before .before .before in
-    let t = k .before in
-    let a = t .before .before .before .before .args in
-    let n = k .if1 .left in
+    let i = r .before .before .before .before in
+    let t = i .before in
+    let k = t .before .before in
+    let a = k .before .before .before .args in
+    let q = reaction (a .heard) (a .all) (a .table .now) (a .registered) (a .body .now) in
+    let n = i .if2 .left in
     let rest = take-all (length (a .body .now) - 1) (drop 1 (a .body .now)) (simp length-drop (omega arith)) in
     let e = some-body (a .all) (a .table .now) (a .registered) (a .heard) (a .body .now) (t .enum-told .given .1) n in
-    ((rw rest at (r .react .ensures .0)) ∙ ap reactedOf e, (rw rest at (r .react .ensures .1)) ∙ ap (λ (q : Reaction). q .effect .table) e)
+    reacted-of-size (a .table .now) (a .registered) q (k .if1 .left) _ e _ _
+    (rw rest at (r .react .ensures .0)) (rw rest at (r .react .ensures .1))
 
 pub reaction-spec : {M : Type 1} → statement M
 reaction-spec =
     tie.close
     (tie.spec
+    quiet-requires
+    returns
     enum-told
     enum-told-2
     without-data-requires
     own-only-requires
-    returns
+    returns-2
     without-data-requires-2
     own-only-requires-2
-    returns-2
+    returns-3
     shared-slice-read-react
     sub-react
     part-react-start
     part-react-end
     react-requires
     same-length
-    returns-3)
+    returns-4)

@@ -1,9 +1,13 @@
+use mathlib.Core.Path.{sym}
 use native.Mathlib.Omega.{arith}
 use lib.ListN.{length-set}
-use Rattle.resets.proofs.Resets.{reboot-stores}
+use Rattle.resets.proofs.Resets.{off-table, reboot-stores}
 use borrow.Author.Needs.{needs}
 use Rattle.resets.proofs.reboot.Statement.{statement}
 use Rattle.resets.proofs.reboot.Tie as tie
+
+returns : tie.Need-returns
+returns c = sym (off-table _ _ (c .if1 .taken))
 
 slice-read-a : tie.Need-slice-read-a
 slice-read-a c = search needs
@@ -59,13 +63,16 @@ slice-write-table-13 c = simp length-set (omega arith)
 same-length : tie.Need-same-length
 same-length c = simp length-set
 
-returns : tie.Need-returns
-returns c = reboot-stores _ (c .before .before .before .before .pre)
+returns-2 : tie.Need-returns-2
+returns-2 c =
+    let k = c .before .before .before .before in
+    reboot-stores (k .before .args .table .now) (k .if1 .left)
 
 pub reboot-spec : {M : Type 1} → statement M
 reboot-spec =
     tie.close
     (tie.spec
+    returns
     slice-read-a
     slice-read-b
     slice-read-c
@@ -84,4 +91,4 @@ reboot-spec =
     slice-write-table-12
     slice-write-table-13
     same-length
-    returns)
+    returns-2)

@@ -1,11 +1,14 @@
-use mathlib.Core.Path.{ap, _∙_}
+use mathlib.Core.Path.{sym, ap, _∙_}
 use mathlib.Core.List.{List}
 use Prim.Native.Nat.{ℕ}
 use lib.ListN.{set}
-use Rattle.resets.proofs.Resets.{baud-stores}
+use Rattle.resets.proofs.Resets.{off-table, baud-stores}
 use borrow.Author.Needs.{needs}
 use Rattle.resets.proofs.reset_but_id.Statement.{statement}
 use Rattle.resets.proofs.reset_but_id.Tie as tie
+
+returns : tie.Need-returns
+returns c = sym (off-table _ _ (c .if1 .taken))
 
 reset-but-id-and-baud-requires : tie.Need-reset-but-id-and-baud-requires
 reset-but-id-and-baud-requires c κs = search needs
@@ -16,10 +19,12 @@ slice-write-table c = search needs
 same-length : tie.Need-same-length
 same-length c = search needs
 
-returns : tie.Need-returns
-returns c =
+returns-2 : tie.Need-returns-2
+returns-2 c =
     let r = c .before .before in
-    ap (λ (t : List ℕ). set t 8 1) (r .reset-but-id-and-baud .ensures) ∙ baud-stores _ (r .before .before .before .pre)
+    let k = r .before .before in
+    ap (λ (t : List ℕ). set t 8 1) (r .reset-but-id-and-baud .ensures) ∙ baud-stores (k .before .before .args .table .now) (k .if1 .left)
 
 pub reset-but-id-spec : {M : Type 1} → statement M
-reset-but-id-spec = tie.close (tie.spec reset-but-id-and-baud-requires slice-write-table same-length returns)
+reset-but-id-spec =
+    tie.close (tie.spec returns reset-but-id-and-baud-requires slice-write-table same-length returns-2)

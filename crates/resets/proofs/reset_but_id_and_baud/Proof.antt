@@ -1,9 +1,13 @@
+use mathlib.Core.Path.{sym}
 use native.Mathlib.Omega.{arith}
 use lib.ListN.{length-set}
-use Rattle.resets.proofs.Resets.{positions-stores}
+use Rattle.resets.proofs.Resets.{off-table, positions-stores}
 use borrow.Author.Needs.{needs}
 use Rattle.resets.proofs.reset_but_id_and_baud.Statement.{statement}
 use Rattle.resets.proofs.reset_but_id_and_baud.Tie as tie
+
+returns : tie.Need-returns
+returns c = sym (off-table _ _ (c .if1 .taken))
 
 slice-write-table : tie.Need-slice-write-table
 slice-write-table c = search needs
@@ -44,13 +48,14 @@ slice-write-table-12 c = simp length-set (omega arith)
 same-length : tie.Need-same-length
 same-length c = search needs
 
-returns : tie.Need-returns
-returns c = positions-stores _ (c .pre)
+returns-2 : tie.Need-returns-2
+returns-2 c = positions-stores (c .before .args .table .now) (c .if1 .left)
 
 pub reset-but-id-and-baud-spec : {M : Type 1} → statement M
 reset-but-id-and-baud-spec =
     tie.close
     (tie.spec
+    returns
     slice-write-table
     slice-write-table-2
     slice-write-table-3
@@ -64,4 +69,4 @@ reset-but-id-and-baud-spec =
     slice-write-table-11
     slice-write-table-12
     same-length
-    returns)
+    returns-2)

@@ -1,17 +1,30 @@
-// Bytes moved within and between buffers. An inner crate: its callers are held to what the functions require.
+// Bytes moved within and between buffers, as far as there is room.
 ghost use mathlib.Core.Path.{_≡_};
 ghost use mathlib.Core.List.{_++_};
-ghost use Prim.Native.Nat.{_+_, _-_, _≤_};
+ghost use Prim.Native.Nat.{_+_, _-_, _≤_, min};
 ghost use lib.ListN.{length, take, drop, replicate};
 ghost use Rattle.lists.specs.Write.{overwritten, placed};
 
-// The bytes of src go to buffer from `at` on.
-pub fn place(buffer: &mut [u8], at: usize, src: &[u8])
-    requires { ⌜ at + length (now src) ≤ length (now buffer) ⌝ }
-    ensures { λ _. ⌜ now (buffer .exit) ≡ placed (now (buffer .entry)) at (now (src .entry)) ⌝ }
+// How many of n bytes have room from `at` on in a buffer of `size` bytes.
+fn fitting(size: usize, at: usize, n: usize) -> usize
+    ensures { λ r. ⌜ r ≡ min (size - at) n ⌝ }
 {
+    if size < at {
+        return 0;
+    }
+    let room = size - at;
+    if room < n { room } else { n }
+}
+
+// The bytes of src go to buffer from `at` on, as many as there is room for. They are counted before the loop, which then has
+// one comparison for each of them.
+pub fn place(buffer: &mut [u8], at: usize, src: &[u8])
+    ensures { λ _. ⌜ now (buffer .exit)
+        ≡ placed (now (buffer .entry)) at (take (length (now (buffer .entry)) - at) (now (src .entry))) ⌝ }
+{
+    let n = fitting(buffer.len(), at, src.len());
     let mut i = 0;
-    while i < src.len() {
+    while i < n {
         buffer[at + i] = src[i];
         i += 1;
     }

@@ -1,8 +1,9 @@
 use mathlib.Core.Path.{_≡_, ap, _∙_}
 use Prim.Native.Nat.{ℕ, _+_, _-_}
 use native.Mathlib.Omega.{arith}
-use lib.ListN.{take, drop, replicate}
+use lib.ListN.{take, drop, replicate, length-take}
 use Rattle.lists.specs.Write.{overwritten}
+use Rattle.buffers.proofs.Parts.{placed-whole}
 use borrow.Author.Needs.{needs}
 use Rattle.control_table.proofs.bytes_from.Statement.{statement}
 use Rattle.control_table.proofs.bytes_from.Tie as tie
@@ -30,7 +31,8 @@ returns c =
     let p = c .before in
     let a = c .before .before .before .before .before .args in
     let e : a .at + a .n - a .at ≡ a .n = omega arith in
-    p .place .ensures ∙ ap (λ (k : ℕ). overwritten (replicate 8 0) (take k (drop (a .at) (a .table .now)))) e
+    p .place .ensures ∙ placed-whole (replicate 8 0) (take (a .at + a .n - a .at) (drop (a .at) (a .table .now))) 0 (simp length-take (omega arith))
+    ∙ ap (λ (k : ℕ). overwritten (replicate 8 0) (take k (drop (a .at) (a .table .now)))) e
 
 pub bytes-from-spec : {M : Type 1} → statement M
 bytes-from-spec =

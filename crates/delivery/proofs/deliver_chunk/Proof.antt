@@ -1,4 +1,8 @@
+use mathlib.Core.Path.{_∙_}
+use native.Mathlib.Omega.{arith}
+use lib.ListN.{length-take}
 use borrow.Author.Needs.{needs}
+use Rattle.buffers.proofs.Parts.{placed-whole}
 use Rattle.delivery.proofs.Replies.{replied}
 use Rattle.delivery.proofs.deliver_chunk.Statement.{statement}
 use Rattle.delivery.proofs.deliver_chunk.Tie as tie
@@ -38,7 +42,8 @@ returns c =
     let s = c .before .before .before .before .before .before .before .before .before .before .before .before .before .before in
     let t = c .before .before .before .before .before .before .before .before .before .tell .ensures in
     replied (s .args .chunk .now) _ _ _ _ _ _ (s .args .seen) _ _ (c .stepped .ensures) (c .before .before .before .before .before .before .on-from .ensures) (s .pre .0)
-    (s .pre .1) (t .0) (t .1) (c .before .before .before .place .ensures)
+    (s .pre .1) (t .0) (t .1)
+    (c .before .before .before .place .ensures ∙ placed-whole (s .args .held .now) _ 0 (simp length-take (omega (arith, s .pre .2))))
 
 pub deliver-chunk-spec : {M : Type 1} → statement M
 deliver-chunk-spec =

@@ -1,5 +1,5 @@
 -- Bytes moved within and between buffers: one turn of each loop, and what it comes to at the end.
-use mathlib.Core.Path.{_≡_, sym, ap, ap₂, _∙_}
+use mathlib.Core.Path.{_≡_, refl, sym, ap, ap₂, _∙_}
 use mathlib.Core.List.{List, [], _∷_, _++_, append-nil, append-assoc}
 use Prim.Native.Nat.{ℕ, suc, _+_, _-_, _≤_, _<_, min}
 use native.Mathlib.Nat.{add-comm}
@@ -55,21 +55,26 @@ shift-next old buffer from i e h =
     ∙ ap (λ (x : ℕ). set (shifted old from i) i x) (shift-read old from i h)
     ∙ store-next (drop from old) old i (simp length-drop (omega arith)) (omega arith))
 
-pub shift-done : (old : List ℕ) (from i n : ℕ) → i ≡ n → from + n ≤ length old
-    → shifted old from i ≡ overwritten old (take n (drop from old))
-shift-done old from i n e h =
-    rw e
-    (ap (λ (k : ℕ). take n (drop from old) ++ drop k old)
-    (sym (length-take-le n (drop from old) (simp length-drop (omega arith)))))
+-- k of them were asked for, and as many moved as there are
+pub shift-done : (old : List ℕ) (from i k : ℕ) → i ≡ min (length old - from) k
+    → shifted old from i ≡ overwritten old (take k (drop from old))
+shift-done old from i k e =
+    let m : i ≡ length (take k (drop from old)) = simp (length-take, length-drop) (omega arith) in
+    rw m (ap (λ (l : List ℕ). l ++ drop (length (take k (drop from old))) old) (take-counted k (drop from old)))
 
 -- they stand there already
-pub shift-none : (old : List ℕ) (from end : ℕ) → from ≡ 0 → end ≤ length old
-    → old ≡ overwritten old (take (end - from) (drop from old))
-shift-none old from end e h =
-    let z : end - from ≡ end = omega arith in
+pub shift-none : (old : List ℕ) (from end : ℕ) → from ≡ 0 → old ≡ overwritten old (take (end - from) (drop from old))
+shift-none old from end e =
     sym
-    (rw (z, e)
-    (ap (λ (n : ℕ). take end old ++ drop n old) (length-take-le end old h) ∙ take-append-drop end old))
+    (rw e
+    (ap (λ (l : List ℕ). l ++ drop (length (take (end - 0) old)) old) (sym (take-counted (end - 0) old))
+    ∙ take-append-drop (length (take (end - 0) old)) old))
+
+-- there are none
+pub shift-empty : (old : List ℕ) (from end : ℕ) → end < from → old ≡ overwritten old (take (end - from) (drop from old))
+shift-empty old from end h =
+    let z : end - from ≡ 0 = omega arith in
+    rw z refl
 
 -- ---- all bytes from `from` on become 0, i of them so far
 

@@ -1,7 +1,7 @@
 -- Parts of lists: one taken the other way round, what has room, and what was placed behind another.
 use mathlib.Core.Path.{_≡_, refl, sym, ap, _∙_}
 use mathlib.Core.List.{List, [], _∷_, _++_}
-use Prim.Native.Nat.{ℕ, zero, suc, _+_, _-_, _≤_}
+use Prim.Native.Nat.{ℕ, zero, suc, _+_, _-_, _≤_, min}
 use native.Mathlib.Omega.{arith}
 use lib.ListN.{length, take, drop, length-append, length-take, length-drop}
 use lib.Seq.{length-take-le, take-add, take-all, take-at, drop-at, drop-append-le, take-append-add, take-append-seam}
@@ -20,6 +20,9 @@ pub take-counted : (k : ℕ) (s : List ℕ) → take (length (take k s)) s ≡ t
 take-counted zero s = refl
 take-counted (suc k) [] = refl
 take-counted (suc k) (x ∷ s) = ap (λ (l : List ℕ). x ∷ l) (take-counted k s)
+
+pub take-least : (k n : ℕ) (s : List ℕ) → n ≡ min k (length s) → take n s ≡ take k s
+take-least k n s e = ap (λ (m : ℕ). take m s) (e ∙ sym (length-take k s)) ∙ take-counted k s
 
 -- what has room is placed whole
 pub placed-whole : (old new : List ℕ) (at : ℕ) → at + length new ≤ length old

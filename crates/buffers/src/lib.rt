@@ -1,7 +1,7 @@
 // Bytes moved within and between buffers, as far as there is room.
 ghost use mathlib.Core.Path.{_≡_};
 ghost use mathlib.Core.List.{_++_};
-ghost use Prim.Native.Nat.{_+_, _-_, _≤_, min};
+ghost use Prim.Native.Nat.{_-_, min};
 ghost use lib.ListN.{length, take, drop, replicate};
 ghost use Rattle.lists.specs.Write.{overwritten, placed};
 
@@ -30,37 +30,23 @@ pub fn place(buffer: &mut [u8], at: usize, src: &[u8])
     }
 }
 
-// The bytes from `from` up to `end` go to the start, unless they stand there already.
+// The bytes from `from` up to `end` or the buffer's end go to the start, unless they stand there already.
 pub fn shift(buffer: &mut [u8], from: usize, end: usize)
-    requires { ⌜ (from ≤ end) × (end ≤ length (now buffer)) ⌝ }
     ensures { λ _. ⌜ now (buffer .exit) ≡ overwritten (now (buffer .entry)) (take (end - from) (drop from (now (buffer .entry)))) ⌝ }
 {
     if from == 0 {
         return;
     }
+    if end < from {
+        return;
+    }
+    let n = fitting(buffer.len(), from, end - from);
     let mut i = 0;
-    while i < end - from {
+    while i < n {
         let b = buffer[from + i];
         buffer[i] = b;
         i += 1;
     }
-}
-
-// More bytes behind the window from `at` to `end`, which moves to the start where there is no room behind it. The answer is
-// where the window begins then.
-pub fn append(held: &mut [u8], at: usize, end: usize, bytes: &[u8]) -> usize
-    requires { ⌜ (at ≤ end) × (end ≤ length (now held)) × (end - at + length (now bytes) ≤ length (now held)) ⌝ }
-    ensures { λ r. ⌜ (r ≤ at) × (r + (end - at) + length (now (bytes .entry)) ≤ length (now (held .entry)))
-        × (drop r (take (r + (end - at) + length (now (bytes .entry))) (now (held .exit)))
-        ≡ drop at (take end (now (held .entry))) ++ now (bytes .entry)) ⌝ }
-{
-    if bytes.len() <= held.len() - end {
-        place(held, end, bytes);
-        return at;
-    }
-    shift(held, at, end);
-    place(held, end - at, bytes);
-    0
 }
 
 // All bytes from `from` on become 0.

@@ -2,7 +2,7 @@
 // to what the functions require.
 use windows::Sight;
 ghost use mathlib.Core.Path.{_≡_};
-ghost use Prim.Native.Nat.{_-_, _^_, _≤_, _<_};
+ghost use Prim.Native.Nat.{_+_, _-_, _^_, _≤_, _<_};
 ghost use lib.ListN.{length, take};
 ghost use Rattle.windows.specs.Scan.{onFrom, sizeOf, answerOf, replyOf};
 ghost use Rattle.delivery.specs.Step.{eventOf, bytesOf, Replied};
@@ -73,20 +73,21 @@ pub fn deliver(held: &mut [u8], seen: Sight, end: usize, taken: usize, packet: &
     stepped(taken, end - on, event)
 }
 
-// The event goes out, and the chunk's bytes from where reading goes on are held.
+// The event goes out, and the chunk's bytes from where reading goes on are held. `before` bytes were taken before the chunk.
 pub fn deliver_chunk(
     held: &mut [u8],
     chunk: &[u8],
     seen: Sight,
     end: usize,
+    before: usize,
     packet: &mut [u8],
 ) -> Step
     requires { ⌜ (onFrom seen ≤ end) × (end ≤ length (now chunk)) × (end - onFrom seen ≤ length (now held))
-        × (sizeOf seen ≤ length (now packet)) ⌝ }
-    ensures { λ r. ⌜ Replied (replyOf (take end (now (chunk .entry))) end seen) r (now (held .exit)) (now (packet .exit)) ⌝ }
+        × (sizeOf seen ≤ length (now packet)) × (before + end < 2 ^ 64) ⌝ }
+    ensures { λ r. ⌜ Replied (replyOf (take end (now (chunk .entry))) (before + end) seen) r (now (held .exit)) (now (packet .exit)) ⌝ }
 {
     let event = tell(chunk, seen, packet);
     let on = on_from(seen);
     buffers::place(held, 0, &chunk[on..end]);
-    stepped(end, end - on, event)
+    stepped(before + end, end - on, event)
 }

@@ -37,9 +37,9 @@ fn read_chunk(held: &mut [u8], chunk: &[u8], from: usize, packet: &mut [u8]) -> 
     ensures { λ r. ⌜ Replied (afterTaking from (fed protocol2 [] (drop from (now (chunk .entry))))) r
         (now (held .exit)) (now (packet .exit)) ⌝ }
 {
-    let ahead = windows::advance(chunk, from);
+    let ahead = windows::advance(&chunk[from..]);
     let seen = ahead.seen;
-    delivery::deliver_chunk(held, chunk, seen, ahead.end, packet)
+    delivery::deliver_chunk(held, &chunk[from..], seen, ahead.end, from, packet)
 }
 
 // The held bytes first, then the chunk's. A byte is taken past a full buffer by each turn.
@@ -51,15 +51,15 @@ fn feed_slices(held: &mut [u8], count: usize, chunk: &[u8], packet: &mut [u8]) -
     let mut n = count;
     let mut taken = 0;
     loop {
-        match windows::fill(held, n, chunk, taken) {
+        match windows::fill(held, n, &chunk[taken..]) {
             Stop::Done {
                 seen,
                 end,
-                taken: all,
-            } => return delivery::deliver(held, seen, end, all, packet),
-            Stop::Passed { taken: next } => return read_chunk(held, chunk, next, packet),
-            Stop::Full { taken: next } => {
-                taken = next;
+                taken: more,
+            } => return delivery::deliver(held, seen, end, taken + more, packet),
+            Stop::Passed { taken: more } => return read_chunk(held, chunk, taken + more, packet),
+            Stop::Full { taken: more } => {
+                taken += more;
             }
         }
         let byte = chunk[taken];
@@ -92,7 +92,7 @@ fn gap_slices(held: &mut [u8], count: usize, packet: &mut [u8]) -> Step
     ensures { λ r. ⌜ Replied (gapped (first protocol2 closed (take count (now (held .entry))))) r
         (now (held .exit)) (now (packet .exit)) ⌝ }
 {
-    let seen = windows::scan(&held[..count], 0, false);
+    let seen = windows::scan_closed(&held[..count]);
     if let Sight::Waiting { at: _, lacks: _ } = seen {
         return delivery::stepped(0, 0, Event::Silent);
     }

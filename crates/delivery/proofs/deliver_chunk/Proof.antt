@@ -25,6 +25,9 @@ part-place-end c = search needs
 place-requires : tie.Need-place-requires
 place-requires c κs = search needs
 
+add-stepped : tie.Need-add-stepped
+add-stepped c = search needs
+
 sub-stepped : tie.Need-sub-stepped
 sub-stepped c = search needs
 
@@ -55,6 +58,7 @@ deliver-chunk-spec =
     part-place-start
     part-place-end
     place-requires
+    add-stepped
     sub-stepped
     stepped-requires
     same-length

@@ -1,7 +1,7 @@
 use Rattle.buffers.proofs.Parts.{append-behind, append-moved}
 use borrow.Author.Needs.{needs}
-use Rattle.buffers.proofs.append.Statement.{statement}
-use Rattle.buffers.proofs.append.Tie as tie
+use Rattle.windows.proofs.append.Statement.{statement}
+use Rattle.windows.proofs.append.Tie as tie
 
 sub-if1 : tie.Need-sub-if1
 sub-if1 c = search needs

@@ -17,10 +17,10 @@ use Rattle.windows.specs.declared.Sight.{Sight}
 use Rattle.windows.specs.declared.Sight.the-variants.{Packet, BadChecksum, Waiting}
 use Rattle.windows.specs.declared.Stop.{Stop}
 use Rattle.windows.specs.declared.Stop.the-variants.{Done, Passed, Full}
-use Rattle.delivery.specs.declared.Step.{Step}
-use Rattle.delivery.specs.declared.Event.the-variants.{Packet as Gave·Packet, BadChecksum as Gave·BadChecksum}
+use Rattle.framer.specs.declared.Step.{Step}
+use Rattle.framer.specs.declared.Event.the-variants.{Packet as Gave·Packet, BadChecksum as Gave·BadChecksum}
 use Rattle.windows.specs.Scan.{onFrom, sizeOf, Seen, replyOf, Ends, Stops, Filled}
-use Rattle.delivery.specs.Step.{Replied}
+use Rattle.framer.specs.Step.{Replied}
 use Rattle.windows.proofs.Windows.{stops-take}
 
 pub room-for : (n m k : ℕ) → n ≤ m → k ≡ m → n ≤ k

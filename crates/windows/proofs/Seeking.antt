@@ -1,6 +1,6 @@
 -- Looking ahead in the chunk, where nothing is held: the offsets before `at` have been judged, and the bytes up to `end` settle
 -- them.
-use mathlib.Core.Path.{_≡_, refl, sym, ap, _∙_}
+use mathlib.Core.Path.{_≡_, refl, sym, _∙_}
 use mathlib.Core.List.{List, []}
 use mathlib.Core.Logic.{_⊎_, inl, inr}
 use Prim.Native.Nat.{ℕ, _+_, _≤_, _<_}

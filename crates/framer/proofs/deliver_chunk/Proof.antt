@@ -3,9 +3,9 @@ use native.Mathlib.Omega.{arith}
 use lib.ListN.{length-take}
 use borrow.Author.Needs.{needs}
 use Rattle.buffers.proofs.Parts.{placed-whole}
-use Rattle.delivery.proofs.Replies.{replied}
-use Rattle.delivery.proofs.deliver_chunk.Statement.{statement}
-use Rattle.delivery.proofs.deliver_chunk.Tie as tie
+use Rattle.framer.proofs.Replies.{replied}
+use Rattle.framer.proofs.deliver_chunk.Statement.{statement}
+use Rattle.framer.proofs.deliver_chunk.Tie as tie
 
 tell-requires : tie.Need-tell-requires
 tell-requires c κs = search needs

@@ -2,9 +2,9 @@ use native.Mathlib.Omega.{arith}
 use lib.ListN.{length}
 use Prim.Native.Nat.{_+_, _≤_}
 use borrow.Author.Needs.{needs}
-use Rattle.delivery.proofs.Replies.{on-packet, size-packet, told-packet, told-bad}
-use Rattle.delivery.proofs.tell.Statement.{statement}
-use Rattle.delivery.proofs.tell.Tie as tie
+use Rattle.framer.proofs.Replies.{on-packet, size-packet, told-packet, told-bad}
+use Rattle.framer.proofs.tell.Statement.{statement}
+use Rattle.framer.proofs.tell.Tie as tie
 
 -- what the call requires, where a packet was seen
 module _ (g : tie.After-seen) where

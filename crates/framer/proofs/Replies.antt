@@ -8,14 +8,14 @@ use lib.ListN.{length, take, drop, length-drop}
 use lib.Seq.{length-take-le, take-at, take-take}
 use Rattle.lists.specs.Write.{overwritten, placed}
 use Rattle.reading.specs.Reading.{packet}
-use Rattle.delivery.specs.declared.Event.{Event as Outcome}
-use Rattle.delivery.specs.declared.Event.the-variants.{Packet, BadChecksum}
+use Rattle.framer.specs.declared.Event.{Event as Outcome}
+use Rattle.framer.specs.declared.Event.the-variants.{Packet, BadChecksum}
 use Rattle.windows.specs.declared.Sight.{Sight}
 use Rattle.windows.specs.declared.Sight.the-variants.{Packet as Seen·Packet, BadChecksum as Seen·BadChecksum}
 use Rattle.windows.specs.declared.Sight.the-variants.{Waiting as Seen·Waiting}
-use Rattle.delivery.specs.declared.Step.{Step}
+use Rattle.framer.specs.declared.Step.{Step}
 use Rattle.windows.specs.Scan.{onFrom, sizeOf, answerOf, replyOf}
-use Rattle.delivery.specs.Step.{eventOf, bytesOf, Replied}
+use Rattle.framer.specs.Step.{eventOf, bytesOf, Replied}
 use Rattle.buffers.proofs.Parts.{part-is, placed-whole}
 
 -- ---- where reading goes on, and the packet's bytes

@@ -1,32 +1,35 @@
 -- Bytes moved within and between buffers: one turn of each loop, and what it comes to at the end.
-use mathlib.Core.Path.{_≡_, sym, ap, ap₂, _∙_}
+use mathlib.Core.Path.{_≡_, refl, sym, ap, ap₂, _∙_}
 use mathlib.Core.List.{List, [], _∷_, _++_, append-nil, append-assoc}
-use Prim.Native.Nat.{ℕ, suc, _+_, _-_, _≤_, _<_}
+use Prim.Native.Nat.{ℕ, suc, _+_, _-_, _≤_, _<_, min}
 use native.Mathlib.Nat.{add-comm}
 use native.Mathlib.Numerals.{add-one}
 use native.Mathlib.Omega.{arith}
-use lib.ListN.{length, take, drop, getD, set, replicate, length-append, length-drop, length-replicate}
+use lib.ListN.{length, take, drop, getD, set, replicate, length-append, length-take, length-drop, length-replicate}
 use lib.ListN.{getD-replicate}
 use lib.ListN.{drop-of-length-le, take-append-drop}
-use lib.Seq.{paste, paste-zero, paste-suc, take-all, take-at, take-length, length-take-le, drop-append-le}
+use lib.Seq.{paste, paste-zero, paste-suc, take-all, take-at, length-take-le, drop-append-le}
 use lib.Seq.{drop-drop}
 use lib.Seq.{set-split, getD-append-add}
 use lib.Seq.{getD-drop}
 use Rattle.lists.specs.Write.{overwritten, placed}
 use Rattle.lists.proofs.Filling.{store-next}
+use Rattle.buffers.proofs.Parts.{take-counted, placed-whole}
 
 -- ---- the bytes of src are copied to old from `at` on, i of them so far
 
-pub place-next : (old buffer src : List ℕ) (at i : ℕ) → buffer ≡ paste old at src i → at + length src ≤ length old
+pub place-next : (old buffer src : List ℕ) (at i : ℕ) → buffer ≡ paste old at src i → at + i < length old
     → i < length src → set buffer (at + i) (getD src i 0) ≡ paste old at src (i + 1)
 place-next old buffer src at i e h l =
-    rw (add-one) (ap (λ (b : List ℕ). set b (at + i) (getD src i 0)) e ∙ paste-suc old at src i 0 (omega arith) l)
+    rw (add-one) (ap (λ (b : List ℕ). set b (at + i) (getD src i 0)) e ∙ paste-suc old at src i 0 h l)
 
-pub place-done : (old src : List ℕ) (at i : ℕ) → i ≡ length src → paste old at src i ≡ placed old at src
-place-done old src at i e =
-    rw e
-    (append-assoc (take at old) (take (length src) src) (drop (at + length src) old)
-    ∙ rw (take-length src, ← drop-drop (length src) at old))
+-- k of them were asked for, and as many copied as there are
+pub place-done : (old src : List ℕ) (at i k : ℕ) → i ≡ min k (length src) → paste old at src i ≡ placed old at (take k src)
+place-done old src at i k e =
+    let m : i ≡ length (take k src) = e ∙ sym (length-take k src) in
+    rw m
+    (append-assoc (take at old) (take (length (take k src)) src) (drop (at + length (take k src)) old)
+    ∙ rw (take-counted k src, ← drop-drop (length (take k src)) at old))
 
 -- ---- the bytes from `from` on go to the start, i of them so far
 
@@ -52,21 +55,26 @@ shift-next old buffer from i e h =
     ∙ ap (λ (x : ℕ). set (shifted old from i) i x) (shift-read old from i h)
     ∙ store-next (drop from old) old i (simp length-drop (omega arith)) (omega arith))
 
-pub shift-done : (old : List ℕ) (from i n : ℕ) → i ≡ n → from + n ≤ length old
-    → shifted old from i ≡ overwritten old (take n (drop from old))
-shift-done old from i n e h =
-    rw e
-    (ap (λ (k : ℕ). take n (drop from old) ++ drop k old)
-    (sym (length-take-le n (drop from old) (simp length-drop (omega arith)))))
+-- k of them were asked for, and as many moved as there are
+pub shift-done : (old : List ℕ) (from i k : ℕ) → i ≡ min (length old - from) k
+    → shifted old from i ≡ overwritten old (take k (drop from old))
+shift-done old from i k e =
+    let m : i ≡ length (take k (drop from old)) = simp (length-take, length-drop) (omega arith) in
+    rw m (ap (λ (l : List ℕ). l ++ drop (length (take k (drop from old))) old) (take-counted k (drop from old)))
 
 -- they stand there already
-pub shift-none : (old : List ℕ) (from end : ℕ) → from ≡ 0 → end ≤ length old
-    → old ≡ overwritten old (take (end - from) (drop from old))
-shift-none old from end e h =
-    let z : end - from ≡ end = omega arith in
+pub shift-none : (old : List ℕ) (from end : ℕ) → from ≡ 0 → old ≡ overwritten old (take (end - from) (drop from old))
+shift-none old from end e =
     sym
-    (rw (z, e)
-    (ap (λ (n : ℕ). take end old ++ drop n old) (length-take-le end old h) ∙ take-append-drop end old))
+    (rw e
+    (ap (λ (l : List ℕ). l ++ drop (length (take (end - 0) old)) old) (sym (take-counted (end - 0) old))
+    ∙ take-append-drop (length (take (end - 0) old)) old))
+
+-- there are none
+pub shift-empty : (old : List ℕ) (from end : ℕ) → end < from → old ≡ overwritten old (take (end - from) (drop from old))
+shift-empty old from end h =
+    let z : end - from ≡ 0 = omega arith in
+    rw z refl
 
 -- ---- all bytes from `from` on become 0, i of them so far
 
@@ -93,7 +101,8 @@ pub clear-done : (old : List ℕ) (from i : ℕ) → i - from ≡ length old - f
     → paste old from (zeros old from) (i - from) ≡ take from old ++ zeros old from
 clear-done old from i e =
     let n = length-replicate {A = ℕ} (length old - from) 0 in
-    place-done old (zeros old from) from (i - from) (omega arith)
+    place-done old (zeros old from) from (i - from) (length old - from) (omega arith)
+    ∙ ap (λ (l : List ℕ). placed old from l) (take-all (length old - from) (zeros old from) (omega arith))
     ∙ ap (λ (l : List ℕ). take from old ++ (zeros old from ++ l))
     (drop-of-length-le (drop from old) {i = length (zeros old from)} (simp length-drop (omega arith)))
     ∙ ap (λ (l : List ℕ). take from old ++ l) (append-nil (zeros old from))
@@ -102,11 +111,12 @@ clear-done old from i e =
 
 module _ (held : List ℕ) (b : ℕ) (n : ℕ) (e : n ≡ length held) where
   -- in a buffer with room for it
-  pub longest-placed : (old placed′ : List ℕ) → placed′ ≡ placed old 0 (take n held) → length old ≡ length held + 1
-      → set placed′ n b ≡ held ++ b ∷ []
+  pub longest-placed : (old placed′ : List ℕ) → placed′ ≡ placed old 0 (take (length old - 0) (take n held))
+      → length old ≡ length held + 1 → set placed′ n b ≡ held ++ b ∷ []
   longest-placed old placed′ p l =
       let whole : take n held ≡ held = take-all n held (omega arith) in
-      let q : placed′ ≡ held ++ drop (length held) old = p ∙ ap (λ (s : List ℕ). s ++ drop (length s) old) whole in
+      let q : placed′ ≡ held ++ drop (length held) old =
+      p ∙ ap (λ (s : List ℕ). placed old 0 (take (length old - 0) s)) whole ∙ placed-whole old held 0 (omega arith) in
       let m : length placed′ ≡ n + 1 = ap length q ∙ simp (length-append, length-drop) (omega arith) in
       set-split placed′ n b (omega arith)
       ∙ ap₂ (λ (x y : List ℕ). x ++ b ∷ y) (ap (λ (s : List ℕ). take n s) q ∙ take-at held (drop (length held) old) n (sym e))

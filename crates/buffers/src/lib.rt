@@ -1,53 +1,52 @@
-// Bytes moved within and between buffers. An inner crate: its callers are held to what the functions require.
+// Bytes moved within and between buffers, as far as there is room.
 ghost use mathlib.Core.Path.{_≡_};
 ghost use mathlib.Core.List.{_++_};
-ghost use Prim.Native.Nat.{_+_, _-_, _≤_};
+ghost use Prim.Native.Nat.{_-_, min};
 ghost use lib.ListN.{length, take, drop, replicate};
 ghost use Rattle.lists.specs.Write.{overwritten, placed, padded};
 
-// The bytes of src go to buffer from `at` on.
-pub fn place(buffer: &mut [u8], at: usize, src: &[u8])
-    requires { ⌜ at + length (now src) ≤ length (now buffer) ⌝ }
-    ensures { λ _. ⌜ now (buffer .exit) ≡ placed (now (buffer .entry)) at (now (src .entry)) ⌝ }
+// How many of n bytes have room from `at` on in a buffer of `size` bytes.
+fn fitting(size: usize, at: usize, n: usize) -> usize
+    ensures { λ r. ⌜ r ≡ min (size - at) n ⌝ }
 {
+    if size < at {
+        return 0;
+    }
+    let room = size - at;
+    if room < n { room } else { n }
+}
+
+// The bytes of src go to buffer from `at` on, as many as there is room for. They are counted before the loop, which then has
+// one comparison for each of them.
+pub fn place(buffer: &mut [u8], at: usize, src: &[u8])
+    ensures { λ _. ⌜ now (buffer .exit)
+        ≡ placed (now (buffer .entry)) at (take (length (now (buffer .entry)) - at) (now (src .entry))) ⌝ }
+{
+    let n = fitting(buffer.len(), at, src.len());
     let mut i = 0;
-    while i < src.len() {
+    while i < n {
         buffer[at + i] = src[i];
         i += 1;
     }
 }
 
-// The bytes from `from` up to `end` go to the start, unless they stand there already.
+// The bytes from `from` up to `end` or the buffer's end go to the start, unless they stand there already.
 pub fn shift(buffer: &mut [u8], from: usize, end: usize)
-    requires { ⌜ (from ≤ end) × (end ≤ length (now buffer)) ⌝ }
     ensures { λ _. ⌜ now (buffer .exit) ≡ overwritten (now (buffer .entry)) (take (end - from) (drop from (now (buffer .entry)))) ⌝ }
 {
     if from == 0 {
         return;
     }
+    if end < from {
+        return;
+    }
+    let n = fitting(buffer.len(), from, end - from);
     let mut i = 0;
-    while i < end - from {
+    while i < n {
         let b = buffer[from + i];
         buffer[i] = b;
         i += 1;
     }
-}
-
-// More bytes behind the window from `at` to `end`, which moves to the start where there is no room behind it. The answer is
-// where the window begins then.
-pub fn append(held: &mut [u8], at: usize, end: usize, bytes: &[u8]) -> usize
-    requires { ⌜ (at ≤ end) × (end ≤ length (now held)) × (end - at + length (now bytes) ≤ length (now held)) ⌝ }
-    ensures { λ r. ⌜ (r ≤ at) × (r + (end - at) + length (now (bytes .entry)) ≤ length (now (held .entry)))
-        × (drop r (take (r + (end - at) + length (now (bytes .entry))) (now (held .exit)))
-        ≡ drop at (take end (now (held .entry))) ++ now (bytes .entry)) ⌝ }
-{
-    if bytes.len() <= held.len() - end {
-        place(held, end, bytes);
-        return at;
-    }
-    shift(held, at, end);
-    place(held, end - at, bytes);
-    0
 }
 
 // All bytes from `from` on become 0.

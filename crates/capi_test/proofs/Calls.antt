@@ -6,8 +6,8 @@ use native.Mathlib.Decide.{decLe}
 use native.Mathlib.Omega.{arith}
 use borrow.Author.Tests.{le-leb, lt-leb}
 use Rattle.reading.specs.Calls.{Reply}
-use Rattle.delivery.specs.declared.Event.{Event as Outcome}
-use Rattle.delivery.specs.declared.Step.{Step}
+use Rattle.framer.specs.declared.Event.{Event as Outcome}
+use Rattle.framer.specs.declared.Step.{Step}
 use Rattle.framer.specs.Core.{CoreCall}
 use Rattle.reader.specs.declared.Heard.{Heard}
 use Rattle.reader.specs.declared.Heard.the-variants.{Packet, BadChecksum, Silent, Refused}

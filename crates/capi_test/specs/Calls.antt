@@ -4,10 +4,10 @@ use Prim.Native.Nat.{ℕ}
 use lib.Dec.{leb}
 use lib.ListN.{length}
 use Rattle.reading.specs.Calls.{Reply}
-use Rattle.delivery.specs.declared.Event.{Event as Outcome}
-use Rattle.delivery.specs.declared.Event.the-variants.{Packet, BadChecksum, Silent, Refused}
-use Rattle.delivery.specs.declared.Step.{Step}
-use Rattle.delivery.specs.Step.{eventOf}
+use Rattle.framer.specs.declared.Event.{Event as Outcome}
+use Rattle.framer.specs.declared.Event.the-variants.{Packet, BadChecksum, Silent, Refused}
+use Rattle.framer.specs.declared.Step.{Step}
+use Rattle.framer.specs.Step.{eventOf}
 use Rattle.framer.specs.Core.{refusal}
 use Rattle.reader.specs.Answer.{Said}
 use Rattle.numbers.specs.Exported.{kindNumber}

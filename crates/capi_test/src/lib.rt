@@ -1,5 +1,5 @@
 // Exports that only the comparison tests and the benchmark call: parts that firmware has no use for by themselves.
-use delivery::Event;
+use framer::Event;
 use packet::Verdict;
 use reader::Told;
 use stuffing::Checked;

@@ -9,11 +9,11 @@ use Rattle.reading.specs.Rules.{Rules, Laws}
 use Rattle.reading.specs.Reading.{closed}
 use Rattle.reading.specs.Calls.{event, first, Reply, fed, gapped, feed, gap, call}
 use Rattle.reading.proofs.Held.{held-bound}
-use Rattle.delivery.specs.declared.Step.{Step}
-use Rattle.delivery.specs.declared.Event.the-variants.{Silent}
+use Rattle.framer.specs.declared.Step.{Step}
+use Rattle.framer.specs.declared.Event.the-variants.{Silent}
 use Rattle.windows.specs.Scan.{Waits}
 use Rattle.lists.specs.Write.{padded}
-use Rattle.delivery.specs.Step.{Replied}
+use Rattle.framer.specs.Step.{Replied}
 use Rattle.framer.specs.Core.{CoreCall, refusal}
 
 -- held bytes of a call that is not refused

@@ -11,21 +11,35 @@ use Rattle.reading.specs.Rules.{Verdict as Ruling}
 use Rattle.reading.specs.Reading.{packet, badChecksum, open′, closed}
 use Rattle.reading.specs.Calls.{event, first, Reply, fed, gapped, feed, call}
 use Rattle.reading.specs.Progress.{afterTaking, Reached}
-use Rattle.reading.proofs.Fewest.{same-reply}
 use Rattle.reading.proofs.Held.{held-bound}
 use Rattle.reading.proofs.Progress.{first-at, last-byte, reached-more, reached-event, reached-nothing}
 use Rattle.windows.specs.declared.Sight.{Sight}
 use Rattle.windows.specs.declared.Sight.the-variants.{Packet, BadChecksum, Waiting}
 use Rattle.windows.specs.declared.Stop.{Stop}
 use Rattle.windows.specs.declared.Stop.the-variants.{Done, Passed, Full}
-use Rattle.delivery.specs.declared.Step.{Step}
-use Rattle.delivery.specs.declared.Event.the-variants.{Packet as Gave·Packet, BadChecksum as Gave·BadChecksum}
+use Rattle.framer.specs.declared.Step.{Step}
+use Rattle.framer.specs.declared.Event.the-variants.{Packet as Gave·Packet, BadChecksum as Gave·BadChecksum}
 use Rattle.windows.specs.Scan.{onFrom, sizeOf, Seen, replyOf, Ends, Stops, Filled}
-use Rattle.delivery.specs.Step.{Replied}
+use Rattle.framer.specs.Step.{Replied}
 use Rattle.windows.proofs.Windows.{stops-take}
 
 pub room-for : (n m k : ℕ) → n ≤ m → k ≡ m → n ≤ k
 room-for n m k h e = rw e h
+
+-- ---- the rest of a chunk, as it is lent
+
+module _ (chunk : List ℕ) (from : ℕ) where
+  abbrev pub rest : List ℕ
+  rest = take (length chunk - from) (drop from chunk)
+
+  pub rest-is : rest ≡ drop from chunk
+  rest-is = take-all (length chunk - from) (drop from chunk) (simp length-drop (omega arith))
+
+  pub rest-within : (n : ℕ) → n ≤ length rest → from ≤ length chunk → from + n ≤ length chunk
+  rest-within n h l = omega (arith, ap length rest-is, length-drop from chunk)
+
+  pub rest-here : (n : ℕ) → n < length (drop from chunk) → from + n < length chunk
+  rest-here n h = omega (arith, length-drop from chunk)
 
 module _ (R : Rules) (L : Laws R) where
   -- ---- a call that has come to its end
@@ -44,22 +58,22 @@ module _ (R : Rules) (L : Laws R) where
         ∙ ap (λ (m : ℕ). m - onFrom v) (length-take-le end src within) in
         omega arith
 
-  pub ends-after : (h c s : List ℕ) (from end : ℕ) (v : Sight) → Ends R h c s (end - from) v → from ≤ end
-      → afterTaking from (fed R h c) ≡ replyOf s end v
-  ends-after h c s from end v w l =
-      ap (afterTaking from) (w .fed-is)
-      ∙ same-reply (afterTaking from (replyOf s (end - from) v)) (replyOf s end v) (omega arith) refl refl
+  pub ends-after : (h c s : List ℕ) (before n : ℕ) (v : Sight) → Ends R h c s n v
+      → afterTaking before (fed R h c) ≡ replyOf s (before + n) v
+  ends-after h c s before n v w = ap (afterTaking before) (w .fed-is)
 
-  pub ends-fed : (h₀ c₀ h s : List ℕ) (taken next : ℕ) (v : Sight) → Reached R h₀ c₀ h taken
-      → Ends R h (drop taken c₀) s (next - taken) v → taken ≤ next → fed R h₀ c₀ ≡ replyOf s next v
-  ends-fed h₀ c₀ h s taken next v a w l = a .same ∙ ends-after h (drop taken c₀) s taken next v w l
+  pub ends-fed : (h₀ c₀ h s : List ℕ) (taken n : ℕ) (v : Sight) → Reached R h₀ c₀ h taken → Ends R h (drop taken c₀) s n v
+      → fed R h₀ c₀ ≡ replyOf s (taken + n) v
+  ends-fed h₀ c₀ h s taken n v a w = a .same ∙ ends-after h (drop taken c₀) s taken n v w
+
+  pub ends-rest : (chunk s : List ℕ) (from n : ℕ) (v : Sight) → Ends R [] (rest chunk from) s n v
+      → afterTaking from (fed R [] (drop from chunk)) ≡ replyOf s (from + n) v
+  ends-rest chunk s from n v w = ends-after [] (drop from chunk) s from n v (rw (rest-is chunk from) at w)
 
   -- nothing is left of the held bytes
-  pub passed-fed : (h₀ c₀ h : List ℕ) (taken next : ℕ) → Reached R h₀ c₀ h taken → Reached R h (drop taken c₀) [] (next - taken)
-      → taken ≤ next → fed R h₀ c₀ ≡ afterTaking next (fed R [] (drop next c₀))
-  passed-fed h₀ c₀ h taken next a b l =
-      let z : taken + (next - taken) ≡ next = omega arith in
-      rw (z) at (reached-more R h₀ c₀ h [] taken (next - taken) a b .same)
+  pub passed-fed : (h₀ c₀ h : List ℕ) (taken n : ℕ) → Reached R h₀ c₀ h taken → Reached R h (drop taken c₀) [] n
+      → fed R h₀ c₀ ≡ afterTaking (taken + n) (fed R [] (drop (taken + n) c₀))
+  passed-fed h₀ c₀ h taken n a b = reached-more R h₀ c₀ h [] taken n a b .same
 
   -- a gap call whose scan found an event
   pub gap-decided : (s : List ℕ) (v : Sight) → ((at k : ℕ) → v ≡ Waiting at k → ⊥) → Seen R closed s 0 v
@@ -70,21 +84,27 @@ module _ (R : Rules) (L : Laws R) where
 
   -- ---- how the held bytes stopped
 
-  module _ (h chunk : List ℕ) (from : ℕ) (held : List ℕ) (stop : Stop) (f : Filled R h chunk from held stop) where
-    pub filled-done : (v : Sight) (end n : ℕ) → stop ≡ Done v end n → Filled R h chunk from held (Done v end n)
+  pub filled-rest : (h chunk held : List ℕ) (from : ℕ) (stop : Stop) → Filled R h (rest chunk from) held stop
+      → Filled R h (drop from chunk) held stop
+  filled-rest h chunk held from stop f = rw (rest-is chunk from) at f
+
+  module _ (h chunk held : List ℕ) (stop : Stop) (f : Filled R h chunk held stop) where
+    pub filled-done : (v : Sight) (end n : ℕ) → stop ≡ Done v end n → Filled R h chunk held (Done v end n)
     filled-done v end n e = rw e at f
 
-    pub filled-passed : (n : ℕ) → stop ≡ Passed n → Filled R h chunk from held (Passed n)
+    pub filled-passed : (n : ℕ) → stop ≡ Passed n → Filled R h chunk held (Passed n)
     filled-passed n e = rw e at f
 
-    pub filled-full : (n : ℕ) → stop ≡ Full n → Filled R h chunk from held (Full n)
+    pub filled-full : (n : ℕ) → stop ≡ Full n → Filled R h chunk held (Full n)
     filled-full n e = rw e at f
 
   -- ---- a full buffer and one byte more
 
-  module _ (h₀ c₀ h held : List ℕ) (taken next k : ℕ) (a : Reached R h₀ c₀ h taken)
-      (w : Stops R h (drop taken c₀) held (next - taken) 0 k) (start : taken ≤ next) (here : next < length c₀)
-      (full : R .longest ≡ length held + 1) where
+  module _ (h₀ c₀ h held : List ℕ) (taken past k : ℕ) (a : Reached R h₀ c₀ h taken)
+      (w : Stops R h (drop taken c₀) held past 0 k) (here : past < length (drop taken c₀)) (full : R .longest ≡ length held + 1) where
+    abbrev next : ℕ
+    next = taken + past
+
     abbrev more : List ℕ
     more = held ++ getD c₀ next 0 ∷ []
 
@@ -93,15 +113,12 @@ module _ (R : Rules) (L : Laws R) where
 
     more-reached : Reached R h₀ c₀ more (next + 1)
     more-reached =
-        let z : taken + (next - taken) ≡ next = omega arith in
-        let y : taken + (next - taken + 1) ≡ next + 1 = omega arith in
-        let one : take 1 (drop (next - taken) (drop taken c₀)) ≡ getD c₀ next 0 ∷ [] =
-        ap (λ (l : List ℕ). take 1 l) (drop-drop (next - taken) taken c₀ ∙ ap (λ (n : ℕ). drop n c₀) z
-        ∙ drop-cons c₀ next 0 here) in
+        let y : taken + (past + 1) ≡ next + 1 = omega arith in
+        let one : take 1 (drop past (drop taken c₀)) ≡ getD c₀ next 0 ∷ [] =
+        ap (λ (l : List ℕ). take 1 l) (drop-drop past taken c₀ ∙ drop-cons c₀ next 0 (omega (arith, length-drop taken c₀))) in
         let t =
-        stops-take R L h (drop taken c₀) held more (next - taken) 0 k 1 0 w (w .patient .some) (simp length-drop (omega arith))
-        (rw one) in
-        rw y at (reached-more R h₀ c₀ h more taken (next - taken + 1) a t)
+        stops-take R L h (drop taken c₀) held more past 0 k 1 0 w (w .patient .some) (omega arith) (rw one) in
+        rw y at (reached-more R h₀ c₀ h more taken (past + 1) a t)
 
     pub full-packet : (n : ℕ) (r : Step) (held′ bytes : List ℕ) → R .verdict more ≡ isPacket n
         → r ≡ record { taken = next + 1; count = 0; event = Gave·Packet n } → bytes ≡ more → Replied (fed R h₀ c₀) r held′ bytes

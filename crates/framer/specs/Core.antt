@@ -5,9 +5,9 @@ use Prim.Native.Nat.{ℕ, _≤_, _<_}
 use lib.ListN.{length}
 use Rattle.lists.specs.Write.{padded}
 use Rattle.reading.specs.Calls.{Reply}
-use Rattle.delivery.specs.declared.Event.the-variants.{Refused}
-use Rattle.delivery.specs.declared.Step.{Step}
-use Rattle.delivery.specs.Step.{Replied}
+use Rattle.framer.specs.declared.Event.the-variants.{Refused}
+use Rattle.framer.specs.declared.Step.{Step}
+use Rattle.framer.specs.Step.{Replied}
 
 -- what a count of held bytes above 1,030 is answered with
 abbrev pub refusal : ℕ → Step

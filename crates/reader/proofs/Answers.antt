@@ -9,12 +9,12 @@ use borrow.Author.Tests.{le-leb, lt-leb}
 use lib.ListN.{length, take, getD, replicate, length-replicate}
 use Rattle.reading.specs.Reading.{Event, packet, badChecksum}
 use Rattle.reading.specs.Calls.{Reply}
-use Rattle.delivery.specs.declared.Event.{Event as Outcome}
-use Rattle.delivery.specs.declared.Event.the-variants.{Packet, BadChecksum}
+use Rattle.framer.specs.declared.Event.{Event as Outcome}
+use Rattle.framer.specs.declared.Event.the-variants.{Packet, BadChecksum}
 use Rattle.reader.specs.declared.Heard.{Heard}
 use Rattle.reader.specs.declared.Heard.the-variants.{Packet as Heard·Packet, BadChecksum as Heard·BadChecksum, Silent, Refused}
-use Rattle.delivery.specs.declared.Step.{Step}
-use Rattle.delivery.specs.Step.{eventOf, bytesOf}
+use Rattle.framer.specs.declared.Step.{Step}
+use Rattle.framer.specs.Step.{eventOf, bytesOf}
 use Rattle.framer.specs.Core.{CoreCall}
 use Rattle.reader.specs.Answer.{Said, saidBy, toldBy, told, saidFor, leftFor, Tells, packetFor, sizeIn, heardAs}
 

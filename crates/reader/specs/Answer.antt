@@ -10,8 +10,8 @@ use Rattle.lists.specs.Write.{padded}
 use Rattle.reading.specs.Reading.{Event, packet, badChecksum}
 use Rattle.reading.specs.Calls.{Reply}
 use Rattle.packet_front.specs.Front.{idOf}
-use Rattle.delivery.specs.declared.Event.{Event as Outcome}
-use Rattle.delivery.specs.declared.Event.the-variants.{Packet, BadChecksum, Silent, Refused}
+use Rattle.framer.specs.declared.Event.{Event as Outcome}
+use Rattle.framer.specs.declared.Event.the-variants.{Packet, BadChecksum, Silent, Refused}
 use Rattle.reader.specs.declared.Heard.{Heard}
 use Rattle.reader.specs.declared.Heard.the-variants.{Packet as Heard·Packet, BadChecksum as Heard·BadChecksum}
 use Rattle.reader.specs.declared.Heard.the-variants.{Silent as Heard·Silent, Refused as Heard·Refused}

@@ -1,6 +1,6 @@
 // The streaming reader of Protocol 2.0: bytes go in as they come, in chunks of any size, and events come out. The work is done
 // in place by `framer`; here its answers get the packet's bytes, and the record gets its life.
-use delivery::Event;
+use framer::Event;
 ghost use mathlib.Core.Path.{_≡_};
 ghost use Prim.Native.Nat.{_<_};
 ghost use lib.ListN.{length, take, getD};

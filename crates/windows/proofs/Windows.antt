@@ -2,10 +2,11 @@
 use mathlib.Core.Path.{_≡_, refl, sym, ap, _∙_}
 use mathlib.Core.List.{List, [], _++_}
 use mathlib.Core.Option.{some}
-use Prim.Native.Nat.{ℕ, zero, suc, _+_, _-_, _≤_, _<_}
+use Prim.Native.Nat.{ℕ, zero, suc, _+_, _-_, _≤_, _<_, min}
 use native.Mathlib.Omega.{arith}
 use lib.ListN.{length, take, drop, length-take, length-drop, drop-of-length-le}
-use lib.Seq.{length-take-le, take-all, drop-drop}
+use lib.Seq.{length-take-le, take-all}
+use Rattle.buffers.proofs.Parts.{take-least}
 use Rattle.reading.specs.Rules.{Rules, Laws}
 use Rattle.reading.specs.Reading.{Event, packet, badChecksum, open′}
 use Rattle.reading.specs.Calls.{fed}
@@ -67,48 +68,41 @@ module _ (R : Rules) (L : Laws R) (h c : List ℕ) where
 
 -- ---- taking bytes of the chunk into the held ones: those from `at` up to `end` of a buffer of `most` bytes are to be looked at
 
-pub record Filling (R : Rules) (h chunk : List ℕ) (from most : ℕ) (held : List ℕ) (taken at end : ℕ) : Type 0 where
-  pub started : from ≤ taken
+pub record Filling (R : Rules) (h chunk : List ℕ) (most : ℕ) (held : List ℕ) (taken at end : ℕ) : Type 0 where
   pub taken-within : taken ≤ length chunk
   pub ordered : at ≤ end
   pub within : end ≤ most
   pub size : length held ≡ most
-  pub reached : Reached R h (drop from chunk) (drop at (take end held)) (taken - from)
+  pub reached : Reached R h chunk (drop at (take end held)) taken
 
-module _ (R : Rules) (L : Laws R) (chunk : List ℕ) (from most : ℕ) where
-  pub filling-start : (held : List ℕ) (count : ℕ) → from ≤ length chunk → count ≤ length held → length held ≡ most
-      → Filling R (take count held) chunk from most held from 0 count
-  filling-start held count f h s =
-      let z : from - from ≡ 0 = omega arith in
-      record {
-        started = omega arith;
-        taken-within = f;
-        ordered = omega arith;
-        within = omega arith;
-        size = s;
-        reached = rw z (reached-start R (take count held) (drop from chunk));
-      }
+module _ (R : Rules) (L : Laws R) (chunk : List ℕ) (most : ℕ) where
+  -- of those that count as held, as many as there are
+  module _ (held : List ℕ) (count n : ℕ) (e : n ≡ min count (length held)) where
+    pub filling-start : length held ≡ most → Filling R (take count held) chunk most held 0 0 n
+    filling-start s =
+        record {
+          taken-within = omega arith;
+          ordered = omega arith;
+          within = omega arith;
+          size = s;
+          reached = rw (take-least count n held e) (reached-start R (take count held) chunk);
+        }
 
-  -- none are held
-  pub filling-none : (held : List ℕ) (count : ℕ) → count ≡ 0 → Reached R (take count held) (drop from chunk) [] (from - from)
-  filling-none held count e =
-      let z : from - from ≡ 0 = omega arith in
-      rw (e, z) (reached-start R [] (drop from chunk))
+    pub filling-none : n ≡ 0 → Reached R (take count held) chunk [] 0
+    filling-none z =
+        rw (← take-least count n held e, z) (reached-start R [] chunk)
 
   pub part-length : (taken m : ℕ) → taken + m ≤ length chunk → length (take (taken + m - taken) (drop taken chunk)) ≡ m
   part-length taken m h =
       let i : taken + m - taken ≡ m = omega arith in
       rw i (length-take-le m (drop taken chunk) (simp length-drop (omega arith)))
 
-  pub fits-behind : (taken m : ℕ) → taken ≤ length chunk → m ≤ length chunk - taken → taken + m ≤ length chunk
-  fits-behind taken m h l = omega arith
-
   -- the window with m bytes more, where it begins now
   pub room-behind : (r waiting n m taken : ℕ) → taken + m ≤ length chunk → n ≡ most
       → r + waiting + length (take (taken + m - taken) (drop taken chunk)) ≤ n → r + waiting + m ≤ most
   room-behind r waiting n m taken t e h = omega (arith, part-length taken m t)
 
-  module _ (h held : List ℕ) (taken at end : ℕ) (w : Filling R h chunk from most held taken at end) where
+  module _ (h held : List ℕ) (taken at end : ℕ) (w : Filling R h chunk most held taken at end) where
     pub filling-fits : end ≤ length held
     filling-fits =
         let i = w .within in
@@ -123,30 +117,30 @@ module _ (R : Rules) (L : Laws R) (chunk : List ℕ) (from most : ℕ) where
 
     -- they decide an event
     pub filling-decided : (v : Sight) → ((at k : ℕ) → v ≡ Waiting at k → ⊥) → Seen R open′ (take end held) at v
-        → Ends R h (drop from chunk) (take end held) (taken - from) v
-    filling-decided v n d = ends-decided R L h (drop from chunk) (take end held) (taken - from) at v n d (w .reached)
+        → Ends R h chunk (take end held) taken v
+    filling-decided v n d = ends-decided R L h chunk (take end held) taken at v n d (w .reached)
 
     -- they wait, and the window begins at `start`
     module _ (start k : ℕ) (v : Waits R open′ (take end held) at start k) where
       pub window-fits : start ≤ end
       window-fits = let i = v .fits in omega (arith, whole)
 
-      window : Stops R h (drop from chunk) (take end held) (taken - from) start k
-      window = stops-seen R L h (drop from chunk) (take end held) (taken - from) at start k (w .reached) v
+      window : Stops R h chunk (take end held) taken start k
+      window = stops-seen R L h chunk (take end held) taken at start k (w .reached) v
 
-      pub window-end : length chunk - taken ≡ 0 → Ends R h (drop from chunk) (take end held) (taken - from) (Waiting start k)
+      pub window-end : length chunk - taken ≡ 0 → Ends R h chunk (take end held) taken (Waiting start k)
       window-end l =
           let i = w .taken-within in
-          ends-stopped R L h (drop from chunk) (take end held) (taken - from) start k window (simp length-drop (omega arith))
+          ends-stopped R L h chunk (take end held) taken start k window (omega arith)
 
-      pub window-passed : end - start ≡ 0 → Reached R h (drop from chunk) [] (taken - from)
+      pub window-passed : end - start ≡ 0 → Reached R h chunk [] taken
       window-passed l =
           let z : drop start (take end held) ≡ [] =
           drop-of-length-le (take end held) {i = start} (omega (arith, whole, window-fits)) in
           rw z at (window .reached)
 
       pub window-full : length held - (end - start) ≡ 0 → 0 < length chunk - taken
-          → (taken < length chunk) × ((j : ℕ) × Stops R h (drop from chunk) held (taken - from) 0 j)
+          → (taken < length chunk) × ((j : ℕ) × Stops R h chunk held taken 0 j)
       window-full l t =
           let i = w .within in
           let s = w .size in
@@ -168,26 +162,17 @@ module _ (R : Rules) (L : Laws R) (chunk : List ℕ) (from most : ℕ) where
           → length held′ ≡ length held
           → drop r (take (r + (end - start) + length (take (taken + m - taken) (drop taken chunk))) held′)
           ≡ drop start (take end held) ++ take (taken + m - taken) (drop taken chunk)
-          → Filling R h chunk from most held′ (taken + m) r (r + (end - start) + m)
+          → Filling R h chunk most held′ (taken + m) r (r + (end - start) + m)
       window-more held′ m r l t fits same is =
-          let b = w .started in
           let n = w .size in
           let i : taken + m - taken ≡ m = omega arith in
-          let z : taken - from + m ≡ taken + m - from = omega arith in
-          let e : from + (taken - from) ≡ taken = omega arith in
           record {
-            started = omega arith;
             taken-within = t;
             ordered = omega arith;
             within = fits;
             size = omega arith;
             reached =
-                rw (← z)
-                (stops-take R L h (drop from chunk) (take end held) (take (r + (end - start) + m) held′) (taken - from) start k m r
-                window l
-                (simp length-drop (omega arith))
+                stops-take R L h chunk (take end held) (take (r + (end - start) + m) held′) taken start k m r window l t
                 (ap (λ (n : ℕ). drop r (take (r + (end - start) + n) held′)) (sym (part-length taken m t)) ∙ is
-                ∙ ap (λ (n : ℕ). drop start (take end held) ++ take n (drop taken chunk)) i
-                ∙ ap (λ (u : List ℕ). drop start (take end held) ++ take m u)
-                (ap (λ (n : ℕ). drop n chunk) (sym e) ∙ sym (drop-drop (taken - from) from chunk))));
+                ∙ ap (λ (n : ℕ). drop start (take end held) ++ take n (drop taken chunk)) i);
           }

@@ -3,7 +3,7 @@ use mathlib.Core.Path.{_≡_}
 use mathlib.Core.Bool.{Bool, true, false}
 use mathlib.Core.List.{List, []}
 use mathlib.Core.Option.{Option, none, some}
-use Prim.Native.Nat.{ℕ, _+_, _-_, _≤_, _<_}
+use Prim.Native.Nat.{ℕ, _+_, _≤_, _<_}
 use lib.ListN.{length, take, drop}
 use Rattle.reading.specs.Rules.{Rules}
 use Rattle.reading.specs.Reading.{Event, packet, badChecksum, Mode, open′, closed}
@@ -72,11 +72,9 @@ pub record Stops (R : Rules) (h c s : List ℕ) (n at k : ℕ) : Type 0 where
   pub waits : first R open′ (drop at s) ≡ silent (drop at s)
   pub patient : Patient R (drop at s) k
 
--- What a feeding call with the chunk's bytes from `from` on has come to on a reader that holds h, the buffer then being `held`:
--- it is done; or the held bytes have all been passed; or they fill the buffer, and the next byte of the chunk decides.
-abbrev pub Filled : Rules → List ℕ → List ℕ → ℕ → List ℕ → Stop → Type 0
-Filled R h chunk from held (Done v end n) = (from ≤ n) × (end ≤ length held)
-    × Ends R h (drop from chunk) (take end held) (n - from) v
-Filled R h chunk from held (Passed n) = (from ≤ n) × (n ≤ length chunk) × Reached R h (drop from chunk) [] (n - from)
-Filled R h chunk from held (Full n) = (from ≤ n) × (n < length chunk)
-    × ((k : ℕ) × Stops R h (drop from chunk) held (n - from) 0 k)
+-- What a feeding call with the chunk has come to on a reader that holds h, n bytes of the chunk taken and the buffer then being
+-- `held`: it is done; or the held bytes have all been passed; or they fill the buffer, and the next byte of the chunk decides.
+abbrev pub Filled : Rules → List ℕ → List ℕ → List ℕ → Stop → Type 0
+Filled R h chunk held (Done v end n) = (n ≤ length chunk) × (end ≤ length held) × Ends R h chunk (take end held) n v
+Filled R h chunk held (Passed n) = (n ≤ length chunk) × Reached R h chunk [] n
+Filled R h chunk held (Full n) = (n < length chunk) × ((k : ℕ) × Stops R h chunk held n 0 k)

@@ -1,11 +1,11 @@
-// Looking for the first event in held bytes and in a chunk, in place. Inside the reader: its callers are held to what the
-// functions require.
+// Looking for the first event in held bytes and in a chunk, in place.
 use packet::Verdict;
 ghost use mathlib.Core.Path.{_≡_};
-ghost use mathlib.Core.List.{[]};
+ghost use mathlib.Core.List.{[], _++_};
 ghost use mathlib.Core.Logic.{_⊎_};
-ghost use Prim.Native.Nat.{_-_, _≤_, _<_};
+ghost use Prim.Native.Nat.{_+_, _-_, _≤_, min};
 ghost use lib.ListN.{length, take, drop};
+ghost use Rattle.reading.specs.Reading.{closed};
 ghost use Rattle.packet.specs.Verdict.{protocol2};
 ghost use Rattle.windows.specs.Scan.{modeOf, Seen, Ends, Filled};
 
@@ -39,7 +39,7 @@ pub enum Stop {
 }
 
 fn least(a: usize, b: usize) -> usize
-    ensures { λ r. ⌜ (r ≤ a) × (r ≤ b) × ((0 < a) → (0 < b) → 0 < r) ⌝ }
+    ensures { λ r. ⌜ r ≡ min a b ⌝ }
 {
     if a < b { a } else { b }
 }
@@ -52,7 +52,7 @@ fn greatest(a: usize, b: usize) -> usize
 
 // The bytes of s from `from` on, offset by offset; a waiting offset is passed once the segment is closed. At the end the rules
 // say how many bytes a packet has at least, so that as many can be taken.
-pub fn scan(s: &[u8], from: usize, live: bool) -> Sight
+fn scan(s: &[u8], from: usize, live: bool) -> Sight
     requires { ⌜ from ≤ length (now s) ⌝ }
     ensures { λ r. ⌜ Seen protocol2 (modeOf live) (now (s .entry)) from r ⌝ }
 {
@@ -76,15 +76,21 @@ pub fn scan(s: &[u8], from: usize, live: bool) -> Sight
     Sight::Waiting { at, lacks: 1 }
 }
 
-// The chunk's bytes from `from` on, where none are held. Each offset is judged once, by all the bytes that follow; what is taken
-// are those that settle the offsets up to the event.
-pub fn advance(chunk: &[u8], from: usize) -> Window
-    requires { ⌜ from ≤ length (now chunk) ⌝ }
-    ensures { λ r. ⌜ (from ≤ r .end) × (r .end ≤ length (now (chunk .entry)))
-        × Ends protocol2 [] (drop from (now (chunk .entry))) (take (r .end) (now (chunk .entry))) (r .end - from) (r .seen) ⌝ }
+// The first event of a closed segment, or that it has none.
+pub fn scan_closed(s: &[u8]) -> Sight
+    ensures { λ r. ⌜ Seen protocol2 closed (now (s .entry)) 0 r ⌝ }
 {
-    let mut at = from;
-    let mut end = from;
+    scan(s, 0, false)
+}
+
+// The chunk, where no bytes are held. Each offset is judged once, by all the bytes that follow; what is taken are those that
+// settle the offsets up to the event.
+pub fn advance(chunk: &[u8]) -> Window
+    ensures { λ r. ⌜ (r .end ≤ length (now (chunk .entry)))
+        × Ends protocol2 [] (now (chunk .entry)) (take (r .end) (now (chunk .entry))) (r .end) (r .seen) ⌝ }
+{
+    let mut at = 0;
+    let mut end = 0;
     while at < chunk.len() {
         match packet::judge(chunk, at) {
             Verdict::Packet(count) => {
@@ -118,17 +124,33 @@ pub fn advance(chunk: &[u8], from: usize) -> Window
     }
 }
 
-// The held bytes, and where they wait as many of the chunk's, from `from` on, as they wait for, as far as there is room.
-pub fn fill(held: &mut [u8], count: usize, chunk: &[u8], from: usize) -> Stop
-    requires { ⌜ (count ≤ length (now held)) × (from ≤ length (now chunk)) ⌝ }
-    ensures { λ r. ⌜ Filled protocol2 (take count (now (held .entry))) (now (chunk .entry)) from (now (held .exit)) r ⌝ }
+// More bytes behind the window from `at` to `end`, which moves to the start where there is no room behind it. The answer is
+// where the window begins then.
+fn append(held: &mut [u8], at: usize, end: usize, bytes: &[u8]) -> usize
+    requires { ⌜ (at ≤ end) × (end ≤ length (now held)) × (end - at + length (now bytes) ≤ length (now held)) ⌝ }
+    ensures { λ r. ⌜ (r ≤ at) × (r + (end - at) + length (now (bytes .entry)) ≤ length (now (held .entry)))
+        × (drop r (take (r + (end - at) + length (now (bytes .entry))) (now (held .exit)))
+        ≡ drop at (take end (now (held .entry))) ++ now (bytes .entry)) ⌝ }
 {
-    if count == 0 {
-        return Stop::Passed { taken: from };
+    if bytes.len() <= held.len() - end {
+        buffers::place(held, end, bytes);
+        return at;
+    }
+    buffers::shift(held, at, end);
+    buffers::place(held, end - at, bytes);
+    0
+}
+
+// The held bytes, and where they wait as many of the chunk's as they wait for, as far as there is room.
+pub fn fill(held: &mut [u8], count: usize, chunk: &[u8]) -> Stop
+    ensures { λ r. ⌜ Filled protocol2 (take count (now (held .entry))) (now (chunk .entry)) (now (held .exit)) r ⌝ }
+{
+    let mut end = least(count, held.len());
+    if end == 0 {
+        return Stop::Passed { taken: 0 };
     }
     let mut at = 0;
-    let mut end = count;
-    let mut taken = from;
+    let mut taken = 0;
     loop {
         let seen = scan(&held[..end], at, true);
         let Sight::Waiting { at: start, lacks } = seen else {
@@ -147,7 +169,7 @@ pub fn fill(held: &mut [u8], count: usize, chunk: &[u8], from: usize) -> Stop
             return Stop::Full { taken };
         }
         let more = least(least(lacks, room), left);
-        at = buffers::append(held, start, end, &chunk[taken..taken + more]);
+        at = append(held, start, end, &chunk[taken..taken + more]);
         end = at + waiting + more;
         taken += more;
     }

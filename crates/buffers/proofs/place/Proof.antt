@@ -8,13 +8,16 @@ use Rattle.buffers.proofs.place.Statement.{statement}
 use Rattle.buffers.proofs.place.Tie as tie
 
 abbrev Inv-loop : tie.InvT-loop
-Inv-loop buffer₀ at src i₀ buffer i = (i ≤ length src) × (length buffer ≡ length buffer₀) × (buffer ≡ paste buffer₀ at src i)
+Inv-loop buffer₀ at src n i₀ buffer i = (i ≤ n) × (length buffer ≡ length buffer₀) × (buffer ≡ paste buffer₀ at src i)
 
 abbrev μ-loop : tie.MeasureT-loop
-μ-loop buffer₀ at src i₀ buffer i = length src - i
+μ-loop buffer₀ at src n i₀ buffer i = n - i
+
+fitting-requires : tie.Need-fitting-requires Inv-loop μ-loop
+fitting-requires c κs = search needs
 
 loop-holds : tie.Need-loop-holds Inv-loop μ-loop
-loop-holds c = (search needs, refl, paste-zero _ (c .args .at) (c .args .src .now))
+loop-holds c = (search needs, refl, paste-zero _ (c .before .before .before .args .at) (c .before .before .before .args .src .now))
 
 shared-slice-read-buffer : tie.Need-shared-slice-read-buffer Inv-loop μ-loop
 shared-slice-read-buffer c = search needs
@@ -44,8 +47,9 @@ same-length c = search needs
 
 returns : tie.Need-returns Inv-loop μ-loop
 returns c =
-    let a = c .before .before .args in
-    c .before .loop .inv .2 ∙ place-done (a .buffer .now) (a .src .now) (a .at) (c .before .loop .i) (search needs)
+    let a = c .before .before .before .before .before .args in
+    c .before .loop .inv .2
+    ∙ place-done (a .buffer .now) (a .src .now) (a .at) (c .before .loop .i) (length (a .buffer .now) - a .at) (search needs)
 
 pub place-spec : {M : Type 1} → statement M
 place-spec =
@@ -53,6 +57,7 @@ place-spec =
     (tie.spec
     Inv-loop
     μ-loop
+    fitting-requires
     loop-holds
     shared-slice-read-buffer
     add-buffer

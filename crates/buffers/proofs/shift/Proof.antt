@@ -1,5 +1,5 @@
 use borrow.Author.Needs.{needs}
-use Rattle.buffers.proofs.Buffers.{shifted, shift-next, shift-done, shift-none}
+use Rattle.buffers.proofs.Buffers.{shifted, shift-next, shift-done, shift-none, shift-empty}
 use mathlib.Core.Path.{_≡_, refl, _∙_}
 use Prim.Native.Nat.{_-_, _≤_}
 use lib.ListN.{length}
@@ -7,21 +7,26 @@ use Rattle.buffers.proofs.shift.Statement.{statement}
 use Rattle.buffers.proofs.shift.Tie as tie
 
 abbrev Inv-loop : tie.InvT-loop
-Inv-loop buffer₀ from end i₀ buffer i = (i ≤ end - from) × (length buffer ≡ length buffer₀) × (buffer ≡ shifted buffer₀ from i)
+Inv-loop buffer₀ from end n i₀ buffer i = (i ≤ n) × (length buffer ≡ length buffer₀) × (buffer ≡ shifted buffer₀ from i)
 
 abbrev μ-loop : tie.MeasureT-loop
-μ-loop buffer₀ from end i₀ buffer i = end - from - i
+μ-loop buffer₀ from end n i₀ buffer i = n - i
 
 returns : tie.Need-returns Inv-loop μ-loop
 returns c =
-    let a = c .before .args in
-    shift-none (a .buffer .now) (a .from) (a .end) (c .if1 .taken) (search needs)
+    let a = c .before .before .args in
+    shift-none (a .buffer .now) (a .from) (a .end) (c .if1 .taken)
+
+returns-2 : tie.Need-returns-2 Inv-loop μ-loop
+returns-2 c =
+    let a = c .before .before .before .args in
+    shift-empty (a .buffer .now) (a .from) (a .end) (c .if2 .taken)
+
+fitting-requires : tie.Need-fitting-requires Inv-loop μ-loop
+fitting-requires c κs = search needs
 
 loop-holds : tie.Need-loop-holds Inv-loop μ-loop
 loop-holds c = (search needs, refl, refl)
-
-sub-loop : tie.Need-sub-loop Inv-loop μ-loop
-sub-loop c = search needs
 
 add-b : tie.Need-add-b Inv-loop μ-loop
 add-b c = search needs
@@ -44,10 +49,10 @@ loop-again c = (search needs, search needs, shift-next _ _ _ _ (c .before .befor
 same-length : tie.Need-same-length Inv-loop μ-loop
 same-length c = search needs
 
-returns-2 : tie.Need-returns-2 Inv-loop μ-loop
-returns-2 c =
-    let a = c .before .before .before .args in
-    c .before .loop .inv .2 ∙ shift-done _ (a .from) (c .before .loop .i) (a .end - a .from) (search needs) (search needs)
+returns-3 : tie.Need-returns-3 Inv-loop μ-loop
+returns-3 c =
+    let a = c .before .before .before .before .before .before .args in
+    c .before .loop .inv .2 ∙ shift-done (a .buffer .now) (a .from) (c .before .loop .i) (a .end - a .from) (search needs)
 
 pub shift-spec : {M : Type 1} → statement M
 shift-spec =
@@ -56,8 +61,9 @@ shift-spec =
     Inv-loop
     μ-loop
     returns
+    returns-2
+    fitting-requires
     loop-holds
-    sub-loop
     add-b
     slice-read-b
     slice-write-buffer
@@ -65,4 +71,4 @@ shift-spec =
     loop-less
     loop-again
     same-length
-    returns-2)
+    returns-3)

@@ -3,6 +3,7 @@ use mathlib.Core.Option.{Option, none}
 use Prim.Native.Nat.{ℕ}
 use borrow.Author.Tests.{not-true, not-false}
 use Rattle.lists.specs.Answer.{unlessRefused}
+use Rattle.buffers.proofs.Parts.{placed-whole}
 use Rattle.table_rules.specs.Rules.{stored, writeRule}
 use Rattle.table_rules.specs.Outcomes.{inTable}
 use Rattle.table_rules.proofs.Judged.{done-none, refused-out}
@@ -35,9 +36,7 @@ good c =
     sym (c .before .before .judge .ensures) ∙ done-none (c .before .before .judge .result) (sym (c .before .is-done .ensures) ∙ not-false _ (c .if1 .left))
 
 place-requires : tie.Need-place-requires
-place-requires c κs =
-    let a = c .before .before .before .before .before .before .before .args in
-    write-inside (a .table .now) (a .address) (a .bytes .now) (good (c .before))
+place-requires c κs = search needs
 
 same-length-2 : tie.Need-same-length-2
 same-length-2 c = search needs
@@ -46,7 +45,8 @@ returns-2 : tie.Need-returns-2
 returns-2 c =
     let d = c .before .before .before .before in
     let a = d .before .before .before .before .before .before .args in
-    (sym (good d), c .before .before .place .ensures ∙ ap (λ (o : Option ℕ). unlessRefused o (a .table .now) (stored (a .table .now) (a .address) (a .bytes .now))) (sym (good d)))
+    let inside = write-inside (a .table .now) (a .address) (a .bytes .now) (good d) in
+    (sym (good d), c .before .before .place .ensures ∙ placed-whole (a .table .now) (a .bytes .now) (a .address) inside ∙ ap (λ (o : Option ℕ). unlessRefused o (a .table .now) (stored (a .table .now) (a .address) (a .bytes .now))) (sym (good d)))
 
 pub write-spec : {M : Type 1} → statement M
 write-spec =

@@ -1,7 +1,7 @@
 use borrow.Author.Needs.{needs}
 use types.Run.{miss}
 use mathlib.Core.List.{List, [], _∷_}
-use lib.ListN.{length, take}
+use lib.ListN.{length, take, drop, length-drop}
 use Rattle.reading.specs.Progress.{Reached}
 use Rattle.reading.proofs.Progress.{reached-start}
 use Rattle.packet.specs.Verdict.{protocol2}
@@ -9,10 +9,10 @@ use Rattle.packet.proofs.Laws.{laws}
 use Rattle.windows.specs.declared.Stop.the-variants.{Full}
 use Rattle.windows.specs.Scan.{Filled}
 use Rattle.windows.proofs.Scans.{was-packet, was-bad}
-use Rattle.framer.proofs.Turns.{room-for, ends-on, ends-fed, passed-fed, filled-done, filled-passed, filled-full}
+use Rattle.framer.proofs.Turns.{rest-here, filled-rest, room-for, ends-on, ends-fed, passed-fed, filled-done, filled-passed, filled-full}
 use Rattle.framer.proofs.Turns.{full-packet, full-bad, full-other}
 use mathlib.Core.Path.{_≡_, refl, sym, ap, _∙_}
-use Prim.Native.Nat.{ℕ, _+_, _-_, _≤_}
+use Prim.Native.Nat.{ℕ, _+_, _-_, _≤_, _<_}
 use native.Mathlib.Omega.{arith}
 use Rattle.framer.proofs.feed_slices.Statement.{statement}
 use Rattle.framer.proofs.feed_slices.Tie as tie
@@ -27,8 +27,17 @@ abbrev μ-loop : tie.MeasureT-loop
 loop-holds : tie.Need-loop-holds Inv-loop μ-loop
 loop-holds c = (search needs, search needs, search needs, reached-start protocol2 _ _)
 
+sub-fill : tie.Need-sub-fill Inv-loop μ-loop
+sub-fill c = c .before .loop .inv .3 .within
+
+part-fill-start : tie.Need-part-fill-start Inv-loop μ-loop
+part-fill-start c = c .before .loop .inv .3 .within
+
+part-fill-end : tie.Need-part-fill-end Inv-loop μ-loop
+part-fill-end c = search needs
+
 fill-requires : tie.Need-fill-requires Inv-loop μ-loop
-fill-requires c κs = (search needs, c .before .loop .inv .3 .within)
+fill-requires c κs = search needs
 
 -- after the held bytes have taken what they wait for
 module _ (g : tie.After-slice-known3 Inv-loop μ-loop) where
@@ -36,7 +45,10 @@ module _ (g : tie.After-slice-known3 Inv-loop μ-loop) where
   f = g .before .before
 
   abbrev p : tie.At-loop Inv-loop μ-loop
-  p = g .before .before .before .before
+  p = f .before .before .before
+
+  abbrev s : tie.Start Inv-loop μ-loop
+  s = p .before .before .before .before
 
   abbrev held′ : List ℕ
   held′ = f .fill .last .0
@@ -44,13 +56,29 @@ module _ (g : tie.After-slice-known3 Inv-loop μ-loop) where
   same : length held′ ≡ 1030
   same = g .before .held .given ∙ p .loop .inv .1
 
+  filled : Filled protocol2 (take (p .loop .n) (p .loop .held)) (drop (p .loop .taken) (s .args .chunk .now)) held′
+      (f .fill .result)
+  filled =
+      filled-rest protocol2 laws (take (p .loop .n) (p .loop .held)) (s .args .chunk .now) held′ (p .loop .taken) (f .fill .result)
+      (f .fill .ensures)
+
+  -- so many bytes of what was left of the chunk
+  within : (n : ℕ) → n ≤ length (drop (p .loop .taken) (s .args .chunk .now)) → p .loop .taken + n ≤ length (s .args .chunk .now)
+  within n h = omega (arith, length-drop (p .loop .taken) (s .args .chunk .now), p .loop .inv .3 .within)
+
 enum-known-seen : tie.Need-enum-known-seen Inv-loop μ-loop
 enum-known-seen c = search needs
+
+add-deliver : tie.Need-add-deliver Inv-loop μ-loop
+add-deliver c =
+    let r = c .before .before .before .before in
+    let d = filled-done protocol2 laws _ _ _ _ (filled r) _ _ _ (c .before .before .seen .given .1) in
+    omega (arith, within r _ (d .0))
 
 deliver-requires : tie.Need-deliver-requires Inv-loop μ-loop
 deliver-requires c κs =
     let r = c .before .before .before .before .before in
-    let d = filled-done protocol2 laws _ _ _ _ _ (f r .fill .ensures) _ _ _ (c .before .before .before .seen .given .1) in
+    let d = filled-done protocol2 laws _ _ _ _ (filled r) _ _ _ (c .before .before .before .seen .given .1) in
     (ends-on protocol2 laws _ _ (held′ r) _ _ _ (d .1) (d .2), d .1, room-for _ _ _ (d .2 .short) (p r .loop .inv .2))
 
 same-length : tie.Need-same-length Inv-loop μ-loop
@@ -62,17 +90,23 @@ same-length-2 c = search needs
 returns : tie.Need-returns Inv-loop μ-loop
 returns c =
     let r = c .before .before .before .before .before .before .before .before .before .before in
-    let d = filled-done protocol2 laws _ _ _ _ _ (f r .fill .ensures) _ _ _ (c .before .before .before .before .before .before .before .before .seen .given .1) in
-    rw (ends-fed protocol2 laws _ _ _ _ _ _ _ (p r .loop .inv .3) (d .2) (d .0)) (c .before .before .before .before .deliver .ensures)
+    let d = filled-done protocol2 laws _ _ _ _ (filled r) _ _ _ (c .before .before .before .before .before .before .before .before .seen .given .1) in
+    rw (ends-fed protocol2 laws _ _ _ _ _ _ _ (p r .loop .inv .3) (d .2)) (c .before .before .before .before .deliver .ensures)
 
-enum-known-next : tie.Need-enum-known-next Inv-loop μ-loop
-enum-known-next c = search needs
+enum-known-more : tie.Need-enum-known-more Inv-loop μ-loop
+enum-known-more c = search needs
+
+add-read-chunk : tie.Need-add-read-chunk Inv-loop μ-loop
+add-read-chunk c =
+    let r = c .before .before .before .before in
+    let d = filled-passed protocol2 laws _ _ _ _ (filled r) _ (c .before .before .more .given .1) in
+    omega (arith, within r _ (d .0))
 
 read-chunk-requires : tie.Need-read-chunk-requires Inv-loop μ-loop
 read-chunk-requires c κs =
     let r = c .before .before .before .before .before in
-    let d = filled-passed protocol2 laws _ _ _ _ _ (f r .fill .ensures) _ (c .before .before .before .next .given .1) in
-    (d .1, same r, p r .loop .inv .2)
+    let d = filled-passed protocol2 laws _ _ _ _ (filled r) _ (c .before .before .before .more .given .1) in
+    (within r _ (d .0), same r, p r .loop .inv .2)
 
 same-length-3 : tie.Need-same-length-3 Inv-loop μ-loop
 same-length-3 c = search needs
@@ -83,34 +117,37 @@ same-length-4 c = search needs
 returns-2 : tie.Need-returns-2 Inv-loop μ-loop
 returns-2 c =
     let r = c .before .before .before .before .before .before .before .before .before .before in
-    let d = filled-passed protocol2 laws _ _ _ _ _ (f r .fill .ensures) _ (c .before .before .before .before .before .before .before .before .next .given .1) in
-    rw (passed-fed protocol2 laws _ _ _ _ _ (p r .loop .inv .3) (d .2) (d .0)) (c .before .before .before .before .read-chunk .ensures)
+    let d = filled-passed protocol2 laws _ _ _ _ (filled r) _ (c .before .before .before .before .before .before .before .before .more .given .1) in
+    rw (passed-fed protocol2 laws _ _ _ _ _ (p r .loop .inv .3) (d .1)) (c .before .before .before .before .read-chunk .ensures)
 
-enum-known-next-2 : tie.Need-enum-known-next-2 Inv-loop μ-loop
-enum-known-next-2 c = search needs
+enum-known-more-2 : tie.Need-enum-known-more-2 Inv-loop μ-loop
+enum-known-more-2 c = search needs
 
 -- the held bytes fill their buffer
-module _ (g : tie.After-next2 Inv-loop μ-loop) where
+module _ (g : tie.After-more2 Inv-loop μ-loop) where
   abbrev k : tie.After-slice-known3 Inv-loop μ-loop
   k = g .before .before
 
-  abbrev s : tie.Start Inv-loop μ-loop
-  s = p k .before .before .before .before
+  abbrev past : ℕ
+  past = g .more2 .given .0 .0
 
-  abbrev next : ℕ
-  next = g .next2 .given .0 .0
+  full : Filled protocol2 (take (p k .loop .n) (p k .loop .held)) (drop (p k .loop .taken) (s k .args .chunk .now)) (held′ k) (Full past)
+  full = filled-full protocol2 laws _ _ _ _ (filled k) _ (g .more2 .given .1)
 
-  full : Filled protocol2 (take (p k .loop .n) (p k .loop .held)) (s .args .chunk .now) (p k .loop .taken) (held′ k) (Full next)
-  full = filled-full protocol2 laws _ _ _ _ _ (f k .fill .ensures) _ (g .next2 .given .1)
+  here : p k .loop .taken + past < length (s k .args .chunk .now)
+  here = rest-here (s k .args .chunk .now) (p k .loop .taken) past (full .0)
 
   size : 1031 ≡ length (held′ k) + 1
   size = ap (λ (n : ℕ). n + 1) (sym (same k))
 
-shared-slice-read-byte : tie.Need-shared-slice-read-byte Inv-loop μ-loop
-shared-slice-read-byte c = full (c .before .before) .1
-
 add-taken : tie.Need-add-taken Inv-loop μ-loop
-add-taken c = omega (arith, full (c .before .before) .1)
+add-taken c = omega (arith, here (c .before))
+
+shared-slice-read-byte : tie.Need-shared-slice-read-byte Inv-loop μ-loop
+shared-slice-read-byte c = here (c .before .before)
+
+add-taken-2 : tie.Need-add-taken-2 Inv-loop μ-loop
+add-taken-2 c = omega (arith, here (c .before .before))
 
 judge-longest-requires : tie.Need-judge-longest-requires Inv-loop μ-loop
 judge-longest-requires c κs =
@@ -134,7 +171,7 @@ returns-3 c =
     let g = c .before .before .before .before .before .before .before .before .before .before .before .before .before in
     let d = full g in
     let j = c .before .before .before .before .before .before .before .before .judge-longest .ensures in
-    full-packet protocol2 laws _ _ _ (held′ (k g)) _ _ _ (p (k g) .loop .inv .3) (d .2 .1) (d .0) (d .1) (size g) _ _ _ _
+    full-packet protocol2 laws _ _ _ (held′ (k g)) _ _ _ (p (k g) .loop .inv .3) (d .1 .1) (d .0) (size g) _ _ _ _
     (was-packet _ _ _ (sym (j .0) ∙ c .before .before .size .given .1)) (c .stepped .ensures) (j .1 .0)
 
 enum-known-id : tie.Need-enum-known-id Inv-loop μ-loop
@@ -154,13 +191,12 @@ returns-4 c =
     let g = c .before .before .before .before .before .before .before .before .before .before .before .before .before in
     let d = full g in
     let j = c .before .before .before .before .before .before .before .before .judge-longest .ensures in
-    full-bad protocol2 laws _ _ _ (held′ (k g)) _ _ _ (p (k g) .loop .inv .3) (d .2 .1) (d .0) (d .1) (size g) _ _ _ _ _
+    full-bad protocol2 laws _ _ _ (held′ (k g)) _ _ _ (p (k g) .loop .inv .3) (d .1 .1) (d .0) (size g) _ _ _ _ _
     (was-bad _ _ _ (sym (j .0) ∙ c .before .before .id .given .1)) (c .stepped2 .ensures) refl (j .1 .1)
 
 loop-less : tie.Need-loop-less Inv-loop μ-loop
 loop-less c =
-    let d = full (c .before .before .before .before .before .before .before .before .before .before) in
-    omega (arith, d .0, d .1)
+    omega (arith, here (c .before .before .before .before .before .before .before .before .before .before))
 
 loop-again : tie.Need-loop-again Inv-loop μ-loop
 loop-again c =
@@ -170,7 +206,7 @@ loop-again c =
       search needs,
       c .before .before .before .before .held4 .given ∙ same (k g),
       c .before .before .packet3 .given ∙ p (k g) .loop .inv .2,
-      full-other protocol2 laws _ _ _ (held′ (k g)) _ _ _ (p (k g) .loop .inv .3) (d .2 .1) (d .0) (d .1) (size g) _ _
+      full-other protocol2 laws _ _ _ (held′ (k g)) _ _ _ (p (k g) .loop .inv .3) (d .1 .1) (d .0) (size g) _ _
           (λ n e. miss (2 ∷ 3 ∷ []) 0 tt (rw (j .0, e) at (c .match2 .keys3)))
           (λ i e. miss (2 ∷ 3 ∷ []) 1 tt (rw (j .0, e) at (c .match2 .keys3))) refl (j .1 .1),
     )
@@ -182,20 +218,26 @@ feed-slices-spec =
     Inv-loop
     μ-loop
     loop-holds
+    sub-fill
+    part-fill-start
+    part-fill-end
     fill-requires
     enum-known-seen
+    add-deliver
     deliver-requires
     same-length
     same-length-2
     returns
-    enum-known-next
+    enum-known-more
+    add-read-chunk
     read-chunk-requires
     same-length-3
     same-length-4
     returns-2
-    enum-known-next-2
-    shared-slice-read-byte
+    enum-known-more-2
     add-taken
+    shared-slice-read-byte
+    add-taken-2
     judge-longest-requires
     enum-known-size
     stepped-requires

@@ -17,10 +17,7 @@ slice-aggregate-place : tie.Need-slice-aggregate-place
 slice-aggregate-place c = sym (length-take-le _ _ (search needs))
 
 place-requires : tie.Need-place-requires
-place-requires c κs =
-    let a = c .before .before .before .before in
-    let l = length-take-le (length (a .args .held .now)) (a .args .held .now) (search needs) in
-    search needs
+place-requires c κs = search needs
 
 slice-write-packet : tie.Need-slice-write-packet
 slice-write-packet c = search needs
@@ -47,7 +44,7 @@ returns : tie.Need-returns
 returns c =
     let a = c .before .before .before .before .before .before .before .before .before .before .before .before .before in
     let held = a .args .held .now in
-    let q = longest-placed held (a .args .byte) (length held) refl _ _
+    let q = longest-placed held (a .args .byte) (length held) refl (a .args .packet .now) _
     (c .before .before .before .before .before .before .before .before .place .ensures) (a .pre .1) in (
       c .judge .ensures ∙ ap (λ (s : List ℕ). answerFor (verdict s) (lacks s)) q,
       (

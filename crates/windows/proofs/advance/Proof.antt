@@ -15,10 +15,10 @@ use Rattle.windows.proofs.advance.Statement.{statement}
 use Rattle.windows.proofs.advance.Tie as tie
 
 abbrev Inv-loop : tie.InvT-loop
-Inv-loop chunk from at₀ end₀ at end = Sought protocol2 settledBy chunk from at end
+Inv-loop chunk at₀ end₀ at end = Sought protocol2 settledBy chunk at end
 
 abbrev μ-loop : tie.MeasureT-loop
-μ-loop chunk from at₀ end₀ at end = length chunk - at
+μ-loop chunk at₀ end₀ at end = length chunk - at
 
 settled-fits : (s : List ℕ) (at : ℕ) → settledBy (drop at s) ≤ length (drop at s)
 settled-fits s at = settles .there (drop at s)
@@ -27,7 +27,7 @@ packet-fits : (s : List ℕ) (at n : ℕ) → protocol2 .verdict (drop at s) ≡
 packet-fits s at n e = laws .sound (drop at s) n e .1
 
 loop-holds : tie.Need-loop-holds Inv-loop μ-loop
-loop-holds c = sought-start protocol2 laws settledBy settles _ _ (search needs)
+loop-holds c = sought-start protocol2 laws settledBy settles _
 
 judge-requires : tie.Need-judge-requires Inv-loop μ-loop
 judge-requires c κs = search needs
@@ -55,7 +55,7 @@ returns c =
     let e = was-packet _ _ _ (sym (j .judge .ensures) ∙ k .count .given .1) in
     let n = settles .of-packet (drop (h .at) s) _ e .0 in
     let g = c .greatest .ensures in
-    sought-packet protocol2 laws settledBy settles s _ (h .at) (h .end) (h .inv) _ (j .before .loop-test .taken) (g .0) (rw n (g .1))
+    sought-packet protocol2 laws settledBy settles s (h .at) (h .end) (h .inv) _ (j .before .loop-test .taken) (g .0) (rw n (g .1))
     (rw n (g .2)) _ (omega (arith, none-lacks)) e
 
 enum-known-id : tie.Need-enum-known-id Inv-loop μ-loop
@@ -82,7 +82,7 @@ returns-2 c =
     let e = was-bad _ _ _ (sym (j .judge .ensures) ∙ k .id .given .1) in
     let n = c .before .settled .ensures in
     let g = c .greatest2 .ensures in
-    sought-bad protocol2 laws settledBy settles s _ (h .at) (h .end) (h .inv) _ (j .before .loop-test .taken) (g .0) (rw n at (g .1))
+    sought-bad protocol2 laws settledBy settles s (h .at) (h .end) (h .inv) _ (j .before .loop-test .taken) (g .0) (rw n at (g .1))
     (rw n at (g .2)) _ (omega arith) (omega (arith, none-lacks)) e
 
 enum-known-lacks : tie.Need-enum-known-lacks Inv-loop μ-loop
@@ -94,7 +94,7 @@ returns-3 c =
     let j = k .before .before in
     let h = j .before .before .loop in
     let e = was-waiting _ _ _ (sym (j .judge .ensures) ∙ k .lacks .given .1) in
-    sought-end protocol2 laws settledBy settles _ _ (h .at) (h .end) (h .inv) (inl (e .0)) _
+    sought-end protocol2 laws settledBy settles _ (h .at) (h .end) (h .inv) (inl (e .0)) _
 
 enum-told : tie.Need-enum-told Inv-loop μ-loop
 enum-told c = search needs
@@ -126,13 +126,13 @@ loop-again c =
     let e = was-nothing _ _ (sym (j .judge .ensures) ∙ k .enum-told .given .1) in
     let n = c .before .settled2 .ensures in
     let g = c .greatest3 .ensures in
-    sought-next protocol2 laws settledBy settles s _ (h .at) (h .end) (h .inv) _ (j .before .loop-test .taken) (g .0) (rw n at (g .1))
+    sought-next protocol2 laws settledBy settles s (h .at) (h .end) (h .inv) _ (j .before .loop-test .taken) (g .0) (rw n at (g .1))
     (rw n at (g .2)) e
 
 returns-4 : tie.Need-returns-4 Inv-loop μ-loop
 returns-4 c =
     let h = c .before .loop in
-    sought-end protocol2 laws settledBy settles _ _ (h .at) (h .end) (h .inv) (inr (c .loop-test .left)) _
+    sought-end protocol2 laws settledBy settles _ (h .at) (h .end) (h .inv) (inr (c .loop-test .left)) _
 
 pub advance-spec : {M : Type 1} → statement M
 advance-spec =

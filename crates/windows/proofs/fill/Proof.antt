@@ -1,7 +1,6 @@
 use borrow.Author.Needs.{needs}
 use mathlib.Core.List.{[], _∷_}
 use types.Run.{miss}
-use native.Mathlib.Nat.{le-trans}
 use lib.Seq.{length-take-le}
 use Rattle.reading.specs.Reading.{open′}
 use Rattle.packet.specs.Verdict.{protocol2}
@@ -9,7 +8,7 @@ use Rattle.packet.proofs.Laws.{laws}
 use Rattle.windows.specs.Scan.{Waits}
 use Rattle.windows.proofs.Windows.{not-none, Filling, filling-start, filling-none, filling-fits, filling-ordered}
 use Rattle.windows.proofs.Windows.{filling-decided, window-fits, window-end}
-use Rattle.windows.proofs.Windows.{window-passed, window-full, window-room, window-more, fits-behind, room-behind}
+use Rattle.windows.proofs.Windows.{window-passed, window-full, window-room, window-more, room-behind}
 use mathlib.Core.Path.{refl, sym}
 use Prim.Native.Nat.{ℕ, _+_, _-_, _≤_, _<_}
 use native.Mathlib.Omega.{arith}
@@ -18,26 +17,29 @@ use Rattle.windows.proofs.fill.Statement.{statement}
 use Rattle.windows.proofs.fill.Tie as tie
 
 abbrev Inv-loop : tie.InvT-loop
-Inv-loop held₀ count chunk from at₀ end₀ taken₀ held at end taken = Filling protocol2 (take count held₀) chunk from
-    (length held₀) held taken at end
+Inv-loop held₀ count chunk end₀ at₀ taken₀ held end at taken = Filling protocol2 (take count held₀) chunk (length held₀)
+    held taken at end
 
 abbrev μ-loop : tie.MeasureT-loop
-μ-loop held₀ count chunk from at₀ end₀ taken₀ held at end taken = length chunk - taken
+μ-loop held₀ count chunk end₀ at₀ taken₀ held end at taken = length chunk - taken
+
+least-requires : tie.Need-least-requires Inv-loop μ-loop
+least-requires c κs = search needs
 
 returns : tie.Need-returns Inv-loop μ-loop
-returns c = (search needs, search needs, filling-none protocol2 laws _ _ 0 _ _ (c .if1 .taken))
+returns c = (search needs, filling-none protocol2 laws _ 0 _ _ _ (c .before .least .ensures) (c .if1 .taken))
 
 loop-holds : tie.Need-loop-holds Inv-loop μ-loop
-loop-holds c = filling-start protocol2 laws _ _ _ _ _ (search needs) (search needs) refl
+loop-holds c = filling-start protocol2 laws _ _ _ _ _ (c .before .least .ensures) refl
 
 slice-reshare-prefix-scan : tie.Need-slice-reshare-prefix-scan Inv-loop μ-loop
-slice-reshare-prefix-scan c = filling-fits protocol2 laws _ _ _ _ _ _ _ _ (c .loop .inv)
+slice-reshare-prefix-scan c = filling-fits protocol2 laws _ _ _ _ _ _ _ (c .loop .inv)
 
 slice-aggregate-scan : tie.Need-slice-aggregate-scan Inv-loop μ-loop
-slice-aggregate-scan c = sym (length-take-le _ _ (filling-fits protocol2 laws _ _ _ _ _ _ _ _ (c .before .loop .inv)))
+slice-aggregate-scan c = sym (length-take-le _ _ (filling-fits protocol2 laws _ _ _ _ _ _ _ (c .before .loop .inv)))
 
 scan-requires : tie.Need-scan-requires Inv-loop μ-loop
-scan-requires c κs = filling-ordered protocol2 laws _ _ _ _ _ _ _ _ (c .before .loop .inv)
+scan-requires c κs = filling-ordered protocol2 laws _ _ _ _ _ _ _ (c .before .loop .inv)
 
 enum-known-seen : tie.Need-enum-known-seen Inv-loop μ-loop
 enum-known-seen c = search needs
@@ -48,9 +50,9 @@ same-length c = search needs
 returns-2 : tie.Need-returns-2 Inv-loop μ-loop
 returns-2 c =
     let w = c .before .before .before .loop .inv in (
-      w .started,
-      filling-fits protocol2 laws _ _ _ _ _ _ _ _ w,
-      filling-decided protocol2 laws _ _ _ _ _ _ _ _ w (c .before .scan .result)
+      w .taken-within,
+      filling-fits protocol2 laws _ _ _ _ _ _ _ w,
+      filling-decided protocol2 laws _ _ _ _ _ _ _ w (c .before .scan .result)
           (λ at k e. miss (0 ∷ 1 ∷ []) 2 tt (rw e at (c .match .keys2))) (c .before .scan .ensures),
     )
 
@@ -78,10 +80,10 @@ returns-3 : tie.Need-returns-3 Inv-loop μ-loop
 returns-3 c =
     let g = c .before in
     let w = p g .loop .inv in
-    (w .started, filling-fits protocol2 laws _ _ _ _ _ _ _ _ w, window-end protocol2 laws _ _ _ _ _ _ _ _ w _ _ (waits g) (c .if2 .taken))
+    (w .taken-within, filling-fits protocol2 laws _ _ _ _ _ _ _ w, window-end protocol2 laws _ _ _ _ _ _ _ w _ _ (waits g) (c .if2 .taken))
 
 sub-waiting : tie.Need-sub-waiting Inv-loop μ-loop
-sub-waiting c = window-fits protocol2 laws _ _ _ _ _ _ _ _ (p (c .before) .loop .inv) _ _ (waits (c .before))
+sub-waiting c = window-fits protocol2 laws _ _ _ _ _ _ _ (p (c .before) .loop .inv) _ _ (waits (c .before))
 
 same-length-3 : tie.Need-same-length-3 Inv-loop μ-loop
 same-length-3 c = search needs
@@ -90,10 +92,10 @@ returns-4 : tie.Need-returns-4 Inv-loop μ-loop
 returns-4 c =
     let g = c .before .before in
     let w = p g .loop .inv in
-    (w .started, w .taken-within, window-passed protocol2 laws _ _ _ _ _ _ _ _ w _ _ (waits g) (c .if3 .taken))
+    (w .taken-within, window-passed protocol2 laws _ _ _ _ _ _ _ w _ _ (waits g) (c .if3 .taken))
 
 sub-room : tie.Need-sub-room Inv-loop μ-loop
-sub-room c = omega (arith, filling-fits protocol2 laws _ _ _ _ _ _ _ _ (p (c .before .before) .loop .inv))
+sub-room c = omega (arith, filling-fits protocol2 laws _ _ _ _ _ _ _ (p (c .before .before) .loop .inv))
 
 same-length-4 : tie.Need-same-length-4 Inv-loop μ-loop
 same-length-4 c = search needs
@@ -102,37 +104,41 @@ returns-5 : tie.Need-returns-5 Inv-loop μ-loop
 returns-5 c =
     let g = c .before .before .before in
     let w = p g .loop .inv in
-    let f = window-full protocol2 laws _ _ _ _ _ _ _ _ w _ _ (waits g) (c .if4 .taken) (not-none _ (c .before .before .if2 .left)) in
-    (w .started, f .0, f .1)
-
-least-requires : tie.Need-least-requires Inv-loop μ-loop
-least-requires c κs = search needs
+    window-full protocol2 laws _ _ _ _ _ _ _ w _ _ (waits g) (c .if4 .taken) (not-none _ (c .before .before .if2 .left))
 
 least-requires-2 : tie.Need-least-requires-2 Inv-loop μ-loop
 least-requires-2 c κs = search needs
 
+least-requires-3 : tie.Need-least-requires-3 Inv-loop μ-loop
+least-requires-3 c κs = search needs
+
 -- it takes m bytes more
-module _ (l : tie.After-least2 Inv-loop μ-loop) where
+module _ (l : tie.After-least3 Inv-loop μ-loop) where
   abbrev g : tie.After-known-told Inv-loop μ-loop
   g = l .before .before .before .before .before
 
   abbrev w : tie.Start Inv-loop μ-loop
-  w = p g .before .before .before .before
+  w = p g .before .before .before .before .before
 
   abbrev m : ℕ
-  m = l .least2 .result
+  m = l .least3 .result
 
   some : 0 < m
   some =
-      l .least2 .ensures .2
-      (l .before .least .ensures .2 (waits g .patient .some) (not-none _ (l .before .before .if4 .left)))
-      (not-none _ (l .before .before .before .before .if2 .left))
+      omega (
+        arith,
+        l .least3 .ensures,
+        l .before .least2 .ensures,
+        waits g .patient .some,
+        not-none _ (l .before .before .if4 .left),
+        not-none _ (l .before .before .before .before .if2 .left),
+      )
 
   within : m ≤ lacks g
-  within = le-trans (l .least2 .ensures .0) (l .before .least .ensures .0)
+  within = omega (arith, l .least3 .ensures, l .before .least2 .ensures)
 
   taken-fits : p g .loop .taken + m ≤ length (w .args .chunk .now)
-  taken-fits = fits-behind protocol2 laws (w .args .chunk .now) 0 0 _ _ (p g .loop .inv .taken-within) (l .least2 .ensures .1)
+  taken-fits = omega (arith, l .least3 .ensures, p g .loop .inv .taken-within)
 
 add-append : tie.Need-add-append Inv-loop μ-loop
 add-append c = omega (arith, taken-fits (c .before))
@@ -149,17 +155,17 @@ part-append-end c = taken-fits (c .before)
 append-requires : tie.Need-append-requires Inv-loop μ-loop
 append-requires c κs =
     let l = c .before .before in
-    window-room protocol2 laws _ _ _ _ _ _ _ _ (p (g l) .loop .inv) _ _ (waits (g l)) (m l)
-    (le-trans (l .least2 .ensures .0) (l .before .least .ensures .1))
+    window-room protocol2 laws _ _ _ _ _ _ _ (p (g l) .loop .inv) _ _ (waits (g l)) (m l)
+    (omega (arith, l .least3 .ensures, l .before .least2 .ensures))
 
 -- and they stand behind it
 module _ (j : tie.After-held Inv-loop μ-loop) where
-  abbrev l2 : tie.After-least2 Inv-loop μ-loop
+  abbrev l2 : tie.After-least3 Inv-loop μ-loop
   l2 = j .before .before .before .before
 
   room : j .before .append .result + (p (g l2) .loop .end - start (g l2)) + m l2 ≤ length (w l2 .args .held .now)
   room =
-      room-behind protocol2 laws (w l2 .args .chunk .now) 0 (length (w l2 .args .held .now)) _ _ _ (m l2) (p (g l2) .loop .taken)
+      room-behind protocol2 laws (w l2 .args .chunk .now) (length (w l2 .args .held .now)) _ _ _ (m l2) (p (g l2) .loop .taken)
       (taken-fits l2) (p (g l2) .loop .inv .size) (j .before .append .ensures .1)
 
 add-end : tie.Need-add-end Inv-loop μ-loop
@@ -178,7 +184,7 @@ loop-again : tie.Need-loop-again Inv-loop μ-loop
 loop-again c =
     let j = c .before in
     let l = l2 j in
-    window-more protocol2 laws _ _ _ _ _ _ _ _ (p (g l) .loop .inv) _ _ (waits (g l)) _ (m l) _ (within l) (taken-fits l) (room j) (j .held .given)
+    window-more protocol2 laws _ _ _ _ _ _ _ (p (g l) .loop .inv) _ _ (waits (g l)) _ (m l) _ (within l) (taken-fits l) (room j) (j .held .given)
     (j .before .append .ensures .2)
 
 pub fill-spec : {M : Type 1} → statement M
@@ -187,6 +193,7 @@ fill-spec =
     (tie.spec
     Inv-loop
     μ-loop
+    least-requires
     returns
     loop-holds
     slice-reshare-prefix-scan
@@ -204,8 +211,8 @@ fill-spec =
     sub-room
     same-length-4
     returns-5
-    least-requires
     least-requires-2
+    least-requires-3
     add-append
     sub-append
     part-append-start

@@ -6,9 +6,9 @@ use Prim.Native.Nat.{ℕ}
 use lib.ListN.{length, take}
 use Rattle.reading.specs.Reading.{Event, packet, badChecksum}
 use Rattle.reading.specs.Calls.{Reply}
-use Rattle.delivery.specs.declared.Event.{Event as Outcome}
-use Rattle.delivery.specs.declared.Event.the-variants.{Packet, BadChecksum, Silent}
-use Rattle.delivery.specs.declared.Step.{Step}
+use Rattle.framer.specs.declared.Event.{Event as Outcome}
+use Rattle.framer.specs.declared.Event.the-variants.{Packet, BadChecksum, Silent}
+use Rattle.framer.specs.declared.Step.{Step}
 
 abbrev pub eventOf : Option Event → Outcome
 eventOf none = Silent

@@ -1,7 +1,7 @@
 use Rattle.buffers.proofs.Parts.{append-behind, append-moved}
 use borrow.Author.Needs.{needs}
-use Rattle.buffers.proofs.append.Statement.{statement}
-use Rattle.buffers.proofs.append.Tie as tie
+use Rattle.windows.proofs.append.Statement.{statement}
+use Rattle.windows.proofs.append.Tie as tie
 
 sub-if1 : tie.Need-sub-if1
 sub-if1 c = search needs
@@ -17,8 +17,8 @@ returns c =
     let a = c .before .before .before .before .before .before .before .args in (
       search needs,
       search needs,
-      rw (c .before .before .place .ensures)
-          (append-behind (a .held .now) (a .bytes .now) (a .at) (a .end) (search needs) (search needs)),
+      append-behind (a .held .now) (a .bytes .now) _ (a .at) (a .end) (search needs) (search needs)
+          (c .before .before .place .ensures),
     )
 
 shift-requires : tie.Need-shift-requires
@@ -38,9 +38,8 @@ returns-2 c =
     let a = c .before .before .before .before .before .before .before .before .before .before .before .args in (
       search needs,
       search needs,
-      rw (c .before .before .place2 .ensures)
-          (append-moved (a .held .now) _ (a .bytes .now) (a .at) (a .end) (search needs) (search needs)
-          (c .before .before .before .before .before .before .shift .ensures)),
+      append-moved (a .held .now) _ (a .bytes .now) _ (a .at) (a .end) (search needs) (search needs) (search needs)
+          (c .before .before .before .before .before .before .shift .ensures) (c .before .before .place2 .ensures),
     )
 
 pub append-spec : {M : Type 1} → statement M

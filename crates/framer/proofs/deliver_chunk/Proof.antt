@@ -1,7 +1,11 @@
+use mathlib.Core.Path.{_∙_}
+use native.Mathlib.Omega.{arith}
+use lib.ListN.{length-take}
 use borrow.Author.Needs.{needs}
-use Rattle.delivery.proofs.Replies.{replied}
-use Rattle.delivery.proofs.deliver_chunk.Statement.{statement}
-use Rattle.delivery.proofs.deliver_chunk.Tie as tie
+use Rattle.buffers.proofs.Parts.{placed-whole}
+use Rattle.framer.proofs.Replies.{replied}
+use Rattle.framer.proofs.deliver_chunk.Statement.{statement}
+use Rattle.framer.proofs.deliver_chunk.Tie as tie
 
 tell-requires : tie.Need-tell-requires
 tell-requires c κs = search needs
@@ -21,6 +25,9 @@ part-place-end c = search needs
 place-requires : tie.Need-place-requires
 place-requires c κs = search needs
 
+add-stepped : tie.Need-add-stepped
+add-stepped c = search needs
+
 sub-stepped : tie.Need-sub-stepped
 sub-stepped c = search needs
 
@@ -38,7 +45,8 @@ returns c =
     let s = c .before .before .before .before .before .before .before .before .before .before .before .before .before .before in
     let t = c .before .before .before .before .before .before .before .before .before .tell .ensures in
     replied (s .args .chunk .now) _ _ _ _ _ _ (s .args .seen) _ _ (c .stepped .ensures) (c .before .before .before .before .before .before .on-from .ensures) (s .pre .0)
-    (s .pre .1) (t .0) (t .1) (c .before .before .before .place .ensures)
+    (s .pre .1) (t .0) (t .1)
+    (c .before .before .before .place .ensures ∙ placed-whole (s .args .held .now) _ 0 (simp length-take (omega (arith, s .pre .2))))
 
 pub deliver-chunk-spec : {M : Type 1} → statement M
 deliver-chunk-spec =
@@ -50,6 +58,7 @@ deliver-chunk-spec =
     part-place-start
     part-place-end
     place-requires
+    add-stepped
     sub-stepped
     stepped-requires
     same-length

@@ -1,10 +1,10 @@
 use native.Mathlib.Omega.{arith}
-use lib.ListN.{length, length-take}
+use lib.ListN.{length}
 use Prim.Native.Nat.{_+_, _≤_}
 use borrow.Author.Needs.{needs}
-use Rattle.delivery.proofs.Replies.{on-packet, size-packet, told-packet, told-bad}
-use Rattle.delivery.proofs.tell.Statement.{statement}
-use Rattle.delivery.proofs.tell.Tie as tie
+use Rattle.framer.proofs.Replies.{on-packet, size-packet, told-packet, told-bad}
+use Rattle.framer.proofs.tell.Statement.{statement}
+use Rattle.framer.proofs.tell.Tie as tie
 
 -- what the call requires, where a packet was seen
 module _ (g : tie.After-seen) where
@@ -33,9 +33,7 @@ part-place-end : tie.Need-part-place-end
 part-place-end c = on (c .before .before)
 
 place-requires : tie.Need-place-requires
-place-requires c κs =
-    let l = size (c .before .before .before) in
-    simp length-take (omega arith)
+place-requires c κs = search needs
 
 enum-known-seen-2 : tie.Need-enum-known-seen-2
 enum-known-seen-2 c = search needs
@@ -49,7 +47,7 @@ same-length c = search needs
 returns : tie.Need-returns
 returns c =
     let g = c .before .before .before .before .before .before in
-    told-packet _ (s g .args .seen) _ _ _ _ (g .seen .given .1) (on g) (c .before .before .place .ensures)
+    told-packet _ (s g .args .seen) _ (s g .args .packet .now) _ _ (g .seen .given .1) (on g) (size g) (c .before .before .place .ensures)
 
 returns-2 : tie.Need-returns-2
 returns-2 c = told-bad _ (c .before .before .before .before .before .args .seen) _ _ _ (c .before .seen2 .given .1)

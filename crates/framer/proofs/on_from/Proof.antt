@@ -2,8 +2,8 @@ use mathlib.Core.Path.{sym, ap}
 use native.Mathlib.Omega.{arith}
 use borrow.Author.Needs.{needs}
 use Rattle.windows.specs.Scan.{onFrom}
-use Rattle.delivery.proofs.on_from.Statement.{statement}
-use Rattle.delivery.proofs.on_from.Tie as tie
+use Rattle.framer.proofs.on_from.Statement.{statement}
+use Rattle.framer.proofs.on_from.Tie as tie
 
 enum-known-seen : tie.Need-enum-known-seen
 enum-known-seen c = search needs

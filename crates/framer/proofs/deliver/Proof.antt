@@ -1,7 +1,7 @@
 use borrow.Author.Needs.{needs}
-use Rattle.delivery.proofs.Replies.{replied}
-use Rattle.delivery.proofs.deliver.Statement.{statement}
-use Rattle.delivery.proofs.deliver.Tie as tie
+use Rattle.framer.proofs.Replies.{replied}
+use Rattle.framer.proofs.deliver.Statement.{statement}
+use Rattle.framer.proofs.deliver.Tie as tie
 
 tell-requires : tie.Need-tell-requires
 tell-requires c κs = search needs

@@ -6,17 +6,17 @@ use Prim.Native.Nat.{ℕ, _+_, _-_, _≤_}
 use native.Mathlib.Omega.{arith}
 use lib.ListN.{length, take, drop, length-drop}
 use lib.Seq.{length-take-le, take-at, take-take}
-use Rattle.lists.specs.Write.{overwritten}
+use Rattle.lists.specs.Write.{overwritten, placed}
 use Rattle.reading.specs.Reading.{packet}
-use Rattle.delivery.specs.declared.Event.{Event as Outcome}
-use Rattle.delivery.specs.declared.Event.the-variants.{Packet, BadChecksum}
+use Rattle.framer.specs.declared.Event.{Event as Outcome}
+use Rattle.framer.specs.declared.Event.the-variants.{Packet, BadChecksum}
 use Rattle.windows.specs.declared.Sight.{Sight}
 use Rattle.windows.specs.declared.Sight.the-variants.{Packet as Seen·Packet, BadChecksum as Seen·BadChecksum}
 use Rattle.windows.specs.declared.Sight.the-variants.{Waiting as Seen·Waiting}
-use Rattle.delivery.specs.declared.Step.{Step}
+use Rattle.framer.specs.declared.Step.{Step}
 use Rattle.windows.specs.Scan.{onFrom, sizeOf, answerOf, replyOf}
-use Rattle.delivery.specs.Step.{eventOf, bytesOf, Replied}
-use Rattle.buffers.proofs.Parts.{part-is}
+use Rattle.framer.specs.Step.{eventOf, bytesOf, Replied}
+use Rattle.buffers.proofs.Parts.{part-is, placed-whole}
 
 -- ---- where reading goes on, and the packet's bytes
 
@@ -37,15 +37,17 @@ module _ (src : List ℕ) (v : Sight) (bytes : List ℕ) where
   abbrev Told : Outcome → Type 0
   Told e = (e ≡ eventOf (answerOf src v)) × (take (length (bytesOf (answerOf src v))) bytes ≡ bytesOf (answerOf src v))
 
-  pub told-packet : (old : List ℕ) (at n : ℕ) → v ≡ Seen·Packet at n → at + n ≤ length src
-      → bytes ≡ overwritten old (take (at + n - at) (drop at src)) → Told (Packet n)
-  told-packet old at n i h b =
+  pub told-packet : (old : List ℕ) (at n : ℕ) → v ≡ Seen·Packet at n → at + n ≤ length src → n ≤ length old
+      → bytes ≡ placed old 0 (take (length old - 0) (take (at + n - at) (drop at src))) → Told (Packet n)
+  told-packet old at n i h k b =
       let z : at + n - at ≡ n = omega arith in
       let l : length (take n (drop at src)) ≡ n = length-take-le n (drop at src) (simp length-drop (omega arith)) in
       rw i (
         ap Packet (sym l),
         front old (take n (drop at src)) bytes (length (take n (drop at src)))
-            (b ∙ ap (λ (k : ℕ). overwritten old (take k (drop at src))) z) refl,
+            (b ∙ ap (λ (k : ℕ). placed old 0 (take (length old - 0) (take k (drop at src)))) z
+            ∙ placed-whole old (take n (drop at src)) 0 (omega arith))
+            refl,
       )
 
   pub told-bad : (at id : ℕ) → v ≡ Seen·BadChecksum at id → Told (BadChecksum id)

@@ -1,8 +1,7 @@
 """Holds docs/PROMISES.md to the tree: usage check_promises.py, in the repository's root
 
 Every must-fail edit that the page cites is there, and every edit that is there is cited; every file that it cites is there too.
-Only public functions of the crates that its row K1 calls inner require anything, and each contract names what it is lent to
-write as it is at exit.
+No public function requires anything, and each contract names what it is lent to write as it is at exit.
 """
 import re
 import sys
@@ -21,9 +20,9 @@ def public_functions():
             yield path.parts[1], head.group(1), head.group()
 
 
-def weak_contracts(inner):
+def weak_contracts():
     for crate, name, head in public_functions():
-        if "requires {" in head and crate not in inner:
+        if "requires {" in head:
             yield f"{crate}::{name} is public and requires something"
         for lent in re.findall(r"(\w+): &mut ", head):
             if f"({lent} .exit)" not in head and f"(«{lent}» .exit)" not in head:
@@ -43,8 +42,7 @@ def main():
     faults = [f"the edit {edit} is cited and not there" for edit in sorted(cited - edits)]
     faults += [f"the edit {edit} is cited nowhere" for edit in sorted(edits - cited)]
     faults += [f"the file {file} is cited and not there" for file in sorted(files) if not any((p / file).exists() for p in places)]
-    row = re.search(r"^\| K1 \|.*$", text, flags=re.M).group()
-    faults += weak_contracts(re.findall(r"`(\w+)`", row.split("inner crates", 1)[1].split(":", 1)[0]))
+    faults += weak_contracts()
     return report("promises", faults, f"{len(edits)} must-fail edits, each cited and there; {len(files)} files cited and there")
 
 

@@ -109,7 +109,7 @@ pub fn reg_write(table: &mut [u8], registered: RegisteredWrite, address: u16, by
     without_data(0, kept)
 }
 
-// Of a registered write, which has no more than 8.
+// How many bytes of a registered write there are: a count above 8 means all 8.
 fn byte_count(count: u8) -> usize
     ensures { λ r. ⌜ r ≡ cond (leb count 8) count 8 ⌝ }
 {

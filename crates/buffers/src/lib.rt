@@ -65,13 +65,6 @@ pub fn first_eight(bytes: &[u8]) -> [u8; 8]
     ensures { λ r. ⌜ r ≡ padded 8 (take 8 (now (bytes .entry))) ⌝ }
 {
     let mut out = [0u8; 8];
-    let mut i = 0;
-    while i < 8 {
-        if i == bytes.len() {
-            return out;
-        }
-        out[i] = bytes[i];
-        i += 1;
-    }
+    place(&mut out, 0, bytes);
     out
 }

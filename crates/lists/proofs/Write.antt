@@ -36,9 +36,6 @@ module _ (old x : List ℕ) where
   pub overwritten-take : take (length x) (overwritten old x) ≡ x
   overwritten-take = take-append-seam x (drop (length x) old)
 
-  pub overwritten-drop : drop (length x) (overwritten old x) ≡ drop (length x) old
-  overwritten-drop = drop-append-seam x (drop (length x) old)
-
   -- a second part right after the first
   pub overwritten-parts : (y : List ℕ) → x ++ overwritten (drop (length x) old) y ≡ overwritten old (x ++ y)
   overwritten-parts y =

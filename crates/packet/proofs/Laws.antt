@@ -228,11 +228,7 @@ laws =
       patient = patient;
     }
 
--- before its first byte a packet is awaited, of at least 10 bytes
-pub none-waits : verdict [] ≡ isWaiting
-unfolding verdict frontAgrees lengthAgrees
-none-waits = refl
-
+-- the shortest packet has 10 bytes
 pub none-lacks : lacks [] ≡ 10
 unfolding lacks
 none-lacks = refl

@@ -199,10 +199,6 @@ module _ (R : Rules) where
       empty [] l = refl
       empty (b ∷ x) l = absurd (omega arith)
 
-  -- what is patient has decided nothing yet
-  pub patient-silent : (t : List ℕ) (k : ℕ) → Patient R t k → (u : List ℕ) × (first R open′ t ≡ silent u)
-  patient-silent t k p = rw append-nil at (p .silent-while [] (p .some))
-
   -- bytes with fewer of which nothing is decided are taken in one go
   pub reached-silent : (h s : List ℕ) (m : ℕ) → m ≤ length s
       → ((k : ℕ) → k < m → (t : List ℕ) × (first R open′ (h ++ take k s) ≡ silent t)) → Reached R h s (h ++ take m s) m

@@ -72,11 +72,7 @@ module _ (table : List ℕ) (address : ℕ) (bytes : List ℕ) (fits : address +
       append-assoc (take address table) bytes (drop (address + length bytes) table)
       ∙ ap (λ (l : List ℕ). take address table ++ (bytes ++ l)) (sym (drop-drop (length bytes) address table))
 
-  -- byte by byte, in a loop or one statement after the other
-  pub stored-pasted : paste table address bytes (length bytes) ≡ stored table address bytes
-  stored-pasted =
-      ap (λ (l : List ℕ). (take address table ++ l) ++ drop (address + length bytes) table) (take-length bytes) ∙ joined
-
+  -- byte by byte, one statement after the other
   pub stored-sets : sets table address bytes ≡ stored table address bytes
   stored-sets = sets-eq bytes table address fits ∙ joined
 

@@ -1,13 +1,12 @@
 -- The round trip: packets that are written, and packets that keep the rules, are the same.
-use mathlib.Core.Path.{_≡_, refl, sym, ap, ap₂, subst, _∙_}
-use mathlib.Core.Bool.{Bool, true}
+use mathlib.Core.Path.{_≡_, refl, sym, ap, ap₂, _∙_}
+use mathlib.Core.Bool.{true}
 use mathlib.Core.List.{List, [], _∷_, _++_, append-assoc}
-use Prim.Native.Nat.{ℕ, zero, suc, _+_, _-_, _≤_, _<_}
+use Prim.Native.Nat.{ℕ, suc, _+_, _-_, _≤_, _<_}
 use native.Mathlib.Omega.{arith}
-use native.Mathlib.Numerals.{add-one}
 use lib.Dec.{eqb}
 use lib.ListN.{length, take, drop, getD, length-append, length-take, length-drop}
-use lib.Seq.{take-at, getD-at, getD-append-add, getD-drop, length-take-le}
+use lib.Seq.{take-at, getD-at, getD-append-add, getD-drop}
 use borrow.Author.Tests.{eqb-true, eq-eqb}
 use Rattle.crc16.specs.Crc.{crcFrom}
 use Rattle.crc16.proofs.Laws.{crc-lt}

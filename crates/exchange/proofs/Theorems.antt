@@ -1,18 +1,17 @@
 -- What the device hears of the packets that are written and of those that are well-formed.
-use mathlib.Core.Path.{_≡_, refl, ap, ap₂, _∙_}
+use mathlib.Core.Path.{_≡_, refl, ap, ap₂}
 use mathlib.Core.Bool.{true}
 use mathlib.Core.Option.{none}
 use mathlib.Core.List.{List}
 use Prim.Native.Nat.{ℕ, _+_, _≤_, _<_}
 use native.Mathlib.Omega.{arith}
-use lib.ListN.{length, getD}
+use lib.ListN.{length}
 use borrow.Author.Tests.{le-leb}
 use Rattle.stuffing.specs.Stuffing.{stuff, unstuff}
 use Rattle.stuffing.specs.Answers.{removalRefusal}
 use Rattle.packet_front.specs.Front.{goodId, idOf}
 use Rattle.packet.specs.Packet.{bodyOf, WellFormed}
 use Rattle.encoder.specs.Writing.{withChecksum, packetOf}
-use Rattle.encoder.specs.RoundTrip.{RoundTrip}
 use Rattle.encoder.proofs.RoundTrip.{round-trip}
 use Rattle.device.specs.Answers.{callAnswer}
 use Rattle.instructions.specs.declared.RegisteredWrite.{RegisteredWrite}

@@ -10,8 +10,8 @@ use lib.Seq.{take-all}
 use borrow.Author.Tests.{ne-eqb, leb-true, leb-false}
 use Rattle.registers.specs.Registers.{tableSize, registeredInstruction}
 use Rattle.control_table.proofs.Put.{put-byte}
-use Rattle.instructions.specs.Registered.{dropped, bytesToWrite}
-use Rattle.instructions.specs.Instructions.{Effect, write, action}
+use Rattle.instructions.specs.Registered.{dropped}
+use Rattle.instructions.specs.Instructions.{write, action}
 use Rattle.instructions.specs.Steps.{sized}
 use Rattle.instructions.proofs.Sized.{of-size}
 use Rattle.instructions.specs.declared.RegisteredWrite.{RegisteredWrite}

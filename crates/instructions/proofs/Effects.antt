@@ -14,7 +14,7 @@ use Rattle.table_rules.specs.Rules.{stored, readRule, writeRule}
 use Rattle.table_rules.specs.Outcomes.{isDone, refusalOf, inTable}
 use Rattle.table_rules.specs.declared.Outcome.{Outcome}
 use Rattle.table_rules.specs.declared.Outcome.the-variants.{Done, DataRange, DataLength, DataLimit, NoAccess, NotTable}
-use Rattle.table_rules.proofs.Judged.{done-none, GoodRead, good-read, GoodWrite, good-write}
+use Rattle.table_rules.proofs.Judged.{done-none, good-read, good-write}
 use Rattle.control_table.specs.Answers.{readBytes, writeOut}
 use Rattle.control_table.proofs.Theorems.{read-inside}
 use Rattle.control_table.proofs.Put.{put-byte}

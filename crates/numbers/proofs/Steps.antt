@@ -1,5 +1,5 @@
 -- The numbers of a reader's answer do not depend on the packet's bytes.
-use mathlib.Core.Path.{_≡_, refl, sym, ap, _∙_}
+use mathlib.Core.Path.{_≡_, refl, ap, _∙_}
 use mathlib.Core.List.{List, []}
 use Prim.Native.Nat.{ℕ}
 use Rattle.reader.specs.declared.Heard.{Heard}

@@ -1,21 +1,21 @@
 -- Protocol 2.0 keeps the laws of packet rules.
 use mathlib.Core.Path.{_≡_, refl, sym, ap, ap₂, subst, _∙_}
-use mathlib.Core.Bool.{Bool, true, false, _&&_, _||_}
-use mathlib.Core.List.{List, [], _∷_, _++_}
+use mathlib.Core.Bool.{Bool, true, false, _&&_}
+use mathlib.Core.List.{List, [], _++_}
 use mathlib.Core.Logic.{_⊎_, inl, inr}
 use Prim.Native.Nat.{ℕ, _+_, _-_, _≤_, _<_}
 use native.Mathlib.Omega.{arith}
 use lib.Dec.{leb, ltb, eqb}
 use lib.ListN.{length, take, drop, getD, length-append, take-append-drop, List·getD-append}
-use lib.Seq.{take-all, take-append-le, take-length, length-take-le, getD-take}
-use borrow.Author.Tests.{leb-true, leb-false, ltb-true, ltb-false, eqb-true, eq-eqb}
+use lib.Seq.{take-all, take-append-le, take-length, length-take-le}
+use borrow.Author.Tests.{leb-true, leb-false, ltb-true, ltb-false, eq-eqb}
 use Rattle.lists.proofs.Bools.{and-left, and-right, contrary, both-ways}
-use Rattle.reading.specs.Rules.{Laws, Undecided, isPacket, isBadChecksum, isWaiting, isNothing, Verdict as Ruling}
+use Rattle.reading.specs.Rules.{Laws, Undecided, isPacket, isBadChecksum, isWaiting, Verdict as Ruling}
 use Rattle.reading.specs.Progress.{Settles}
 use Rattle.stuffing.specs.Stuffing.{wellStuffed}
-use Rattle.packet_front.specs.Front.{goodId, idOf, lengthOf}
+use Rattle.packet_front.specs.Front.{goodId, idOf}
 use Rattle.packet.specs.Packet.{bodyOf, checksumRight, WellFormed}
-use Rattle.packet_front.specs.Begun.{soFar, frontAgrees, lengthAgrees, sizeOf, complete, lacks, begunAs, settledAs, settledBy}
+use Rattle.packet_front.specs.Begun.{frontAgrees, lengthAgrees, sizeOf, complete, lacks, begunAs, settledAs, settledBy}
 use Rattle.packet.specs.Verdict.{ruling, verdict, protocol2}
 use Rattle.packet_front.proofs.Lists.{four-taken}
 use Rattle.packet_front.proofs.Tests.{both, length-good, incomplete-early, incomplete, completes, has-field, has-all, lacks-early, lacks-late}

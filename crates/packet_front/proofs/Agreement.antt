@@ -1,12 +1,12 @@
 -- Agreement with header, ID and length field: what a beginning says of the whole, and the whole of its beginning.
 use mathlib.Core.Path.{_≡_, refl, sym, ap, _∙_}
 use mathlib.Core.Bool.{Bool, true, false, _&&_, _||_}
-use mathlib.Core.List.{List, [], _∷_, _++_}
+use mathlib.Core.List.{List, _++_}
 use Prim.Native.Nat.{ℕ, _+_, _≤_, _<_}
 use native.Mathlib.Omega.{arith}
 use lib.Dec.{leb, ltb, eqb}
 use lib.ListN.{length, take, getD, length-append, List·getD-append}
-use borrow.Author.Tests.{eqb-true, leb-true, leb-false, ltb-false, le-leb, lt-leb, lt-ltb, le-ltb}
+use borrow.Author.Tests.{eqb-true, leb-true, leb-false, ltb-false, lt-leb, le-ltb}
 use Rattle.lists.proofs.Bools.{and-left, and-right, or-right}
 use Rattle.packet_front.specs.Front.{header, goodId, lengthOf}
 use Rattle.packet_front.proofs.Lists.{take-four}

@@ -3,7 +3,6 @@
 use reader::Answer;
 use reader::Reader;
 ghost use mathlib.Core.Path.{_≡_};
-ghost use mathlib.Core.List.{[]};
 ghost use Rattle.reading.specs.Calls.{feed as Call·feed, gap as Call·gap};
 ghost use Rattle.reader.specs.Answer.{said};
 ghost use Rattle.reader.specs.Records.{saidOn, leftBy};

@@ -6,10 +6,10 @@ use Prim.Native.Nat.{ℕ, suc, _+_, _≤_}
 use native.Mathlib.Omega.{arith}
 use lib.Dec.{T, leb}
 use borrow.Author.Tests.{leb-true, eq-eqb, ne-eqb}
-use lib.ListN.{length, take, drop, getD, set, length-set}
+use lib.ListN.{length, take, drop, getD, set}
 use lib.Seq.{drop-cons, sets}
 use Rattle.registers.specs.Registers.{Register, registers, tableSize, endOf, deviceId, baudCode, writable}
-use Rattle.items.specs.Items.{bytesOf, put}
+use Rattle.items.specs.Items.{bytesOf}
 use Rattle.control_table.specs.Fresh.{freshened}
 use Rattle.table_rules.specs.Rules.{stored}
 use Rattle.control_table.proofs.Put.{put-sets, put-length, put-byte}

@@ -4,7 +4,7 @@ use mathlib.Core.List.{List, _++_, append-assoc}
 use Prim.Native.Nat.{ℕ, zero, suc, _+_, _-_, _≤_, _<_}
 use native.Mathlib.Omega.{arith}
 use lib.ListN.{length, take, drop, getD, length-append, length-drop, List·getD-append}
-use lib.Seq.{length-take-le, take-length, drop-drop, getD-append-add, getD-take, getD-drop, sets, sets-eq, paste}
+use lib.Seq.{length-take-le, drop-drop, getD-append-add, getD-take, getD-drop, sets, sets-eq}
 use Rattle.lists.specs.Write.{overwritten}
 use Rattle.items.specs.Items.{numberAt, valueAt}
 use Rattle.table_rules.specs.Rules.{stored}

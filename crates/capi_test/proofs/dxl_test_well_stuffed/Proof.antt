@@ -1,4 +1,4 @@
-use mathlib.Core.Path.{_≡_, sym, ap, _∙_}
+use mathlib.Core.Path.{sym, ap, _∙_}
 use Rattle.capi_test.specs.Numbers.{testNumber}
 use borrow.Author.Needs.{needs}
 use Rattle.capi_test.proofs.dxl_test_well_stuffed.Statement.{statement}

@@ -1,8 +1,4 @@
-use mathlib.Core.Path.{_≡_}
-use Prim.Native.Nat.{ℕ, _≤_, _<_}
 use native.Mathlib.Omega.{arith}
-use lib.ListN.{length, getD}
-use Rattle.registers.specs.Registers.{tableSize}
 use Rattle.device.proofs.Calls.{refuses-table, refuses-id, refuses-registered, refuses-room, accepts}
 use borrow.Author.Needs.{needs}
 use Rattle.device.proofs.idle.Statement.{statement}

@@ -1,10 +1,8 @@
 use mathlib.Core.Path.{_≡_, sym, ap, _∙_}
 use mathlib.Core.Option.{none}
-use mathlib.Core.List.{List, [], _∷_}
-use Prim.Native.Nat.{ℕ}
+use mathlib.Core.List.{[], _∷_}
 use native.Mathlib.Omega.{arith}
 use types.Run.{miss}
-use lib.ListN.{length}
 use Rattle.stuffing.specs.Answers.{checked, removalRefusal}
 use Rattle.stuffing.specs.declared.Checked.the-variants.{Good}
 use Rattle.packet.specs.Packet.{bodyOf}

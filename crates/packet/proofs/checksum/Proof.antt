@@ -1,4 +1,4 @@
-use mathlib.Core.Path.{_≡_, _∙_}
+use mathlib.Core.Path.{_∙_}
 use Rattle.crc16.specs.Crc.{reduceIf, shift, shifts, crcByte, crcFrom}
 use Rattle.crc16.proofs.Laws.{crc-append}
 use Rattle.packet_front.specs.Front.{header}

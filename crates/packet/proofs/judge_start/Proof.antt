@@ -1,5 +1,5 @@
 use borrow.Author.Needs.{needs}
-use mathlib.Core.Path.{_≡_, sym, _∙_}
+use mathlib.Core.Path.{sym, _∙_}
 use Rattle.packet.proofs.Looks.{look-nothing, look-waiting, look-length, look-long, look-header, look-whole}
 use Rattle.packet.proofs.judge_start.Statement.{statement}
 use Rattle.packet.proofs.judge_start.Tie as tie

@@ -1,11 +1,10 @@
-use mathlib.Core.Path.{_≡_, refl, sym, ap, ap₂, subst, _∙_}
-use mathlib.Core.Bool.{Bool, true, false, _&&_, and-false}
-use Prim.Native.Nat.{ℕ, _+_, _-_, _≤_}
+use mathlib.Core.Path.{_≡_, sym, _∙_}
+use mathlib.Core.Bool.{true, false, and-false}
+use Prim.Native.Nat.{_-_}
 use native.Mathlib.Omega.{arith}
-use lib.ListN.{length, take, length-take}
 use borrow.Author.Tests.{not-true, not-false}
 use Rattle.packet_front.specs.Front.{lengthOf}
-use Rattle.packet_front.specs.Begun.{frontAgrees, lengthAgrees, sizeOf}
+use Rattle.packet_front.specs.Begun.{frontAgrees}
 use Rattle.packet_front.proofs.Tests.{length-early, length-short, length-long, length-good, both, incomplete-early, incomplete, completes, lacks-early, lacks-late}
 use borrow.Author.Needs.{needs}
 use Rattle.packet_front.proofs.look.Statement.{statement}

@@ -1,6 +1,5 @@
-use mathlib.Core.Path.{_≡_, ap}
+use mathlib.Core.Path.{ap}
 use native.Mathlib.Omega.{arith}
-use Prim.Native.Nat.{ℕ}
 use Rattle.lists.specs.Answer.{count}
 use Rattle.status.proofs.Sending.{refuses-id, refuses-data, refuses-room, accepts}
 use borrow.Author.Needs.{needs}

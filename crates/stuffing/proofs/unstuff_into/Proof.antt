@@ -1,9 +1,9 @@
-use mathlib.Core.Path.{_≡_, refl, sym, ap, _∙_}
+use mathlib.Core.Path.{sym, ap, _∙_}
 use native.Mathlib.Omega.{arith}
 use lib.ListN.{length}
 use borrow.Author.Tests.{le-leb, lt-leb}
 use Rattle.lists.specs.Answer.{count}
-use Rattle.stuffing.specs.Stuffing.{wellStuffed, unstuff}
+use Rattle.stuffing.specs.Stuffing.{unstuff}
 use Rattle.stuffing.specs.Answers.{removalRefusal}
 use Rattle.stuffing.proofs.Answers.{checked-bad, checked-good}
 use borrow.Author.Needs.{needs}

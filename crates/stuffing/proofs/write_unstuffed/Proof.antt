@@ -1,13 +1,11 @@
-use mathlib.Core.Path.{_≡_, refl, sym, ap, _∙_}
+use mathlib.Core.Path.{_≡_, refl, sym, _∙_}
 use mathlib.Core.Bool.{true, false}
 use mathlib.Core.Logic.{⊎-elim}
-use mathlib.Core.List.{List, [], _∷_}
-use Prim.Native.Nat.{ℕ, _+_, _-_, _≤_, _<_}
+use Prim.Native.Nat.{_+_, _-_, _≤_, _<_}
 use native.Mathlib.Omega.{arith}
-use native.Mathlib.Decide.{decLe}
 use lib.ListN.{length, getD}
 use Rattle.lists.proofs.Filling.{Filling, fill-start, fill-next, fill-done, fill-length, drop-lt}
-use Rattle.stuffing.specs.Stuffing.{markAt, wellStuffed, unstuff}
+use Rattle.stuffing.specs.Stuffing.{unstuff}
 use Rattle.stuffing.proofs.Turns.{wellAt, unstuffedAt, marked, marked-next, unstuff-end, well-kept, unstuff-kept}
 use Rattle.stuffing.proofs.Turns.{free-after, well-next, well-skipped, unstuff-skipped}
 use borrow.Author.Needs.{needs}

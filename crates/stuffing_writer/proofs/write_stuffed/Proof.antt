@@ -1,11 +1,10 @@
-use mathlib.Core.Path.{_≡_, refl, sym, ap, _∙_}
+use mathlib.Core.Path.{_≡_, refl, sym, _∙_}
 use mathlib.Core.Logic.{⊎-elim}
 use mathlib.Core.List.{List, [], _∷_}
 use Prim.Native.Nat.{ℕ, _+_, _-_, _≤_, _<_, min}
 use native.Mathlib.Nat.{pos-of-ne-zero}
 use native.Mathlib.Omega.{arith}
-use lib.ListN.{length, take, drop, getD, set, length-set}
-use borrow.Author.Tests.{not-true, not-false}
+use lib.ListN.{length, take, getD, set, length-set}
 use Rattle.lists.specs.Write.{overwritten}
 use Rattle.lists.proofs.Filling.{Filling, fill-first, fill-next, fill-length, filled-all, filled-room}
 use Rattle.stuffing.specs.Stuffing.{stuffAfter, stuff}

@@ -8,8 +8,9 @@ fact        a statement no longer holds: what one hopes for
 shape       the proof file no longer fits the code, which shows nothing of the promise
 no program  the compiler refuses the change, or the changed definition is none
 
-With --definitions the files of specs/ are changed and the code is not: an accepted change is one that no code and no law of the
-crate notices. It tells of changes that in the code are refused for shape only, such as a sum made a difference.
+With --definitions the files of specs/ are changed and the code is not. What the crate itself does not notice is put to the crates
+that stand on it, one after the other: an accepted change is one that no code and no law of any of them notices. It tells of changes
+that in the code are refused for shape only, such as a sum made a difference.
 
 With --since only lines are changed that are new since that commit, so that after a change a crate need not be gone through again.
 
@@ -139,10 +140,17 @@ def check(command, crate):
     return run.returncode, run.stdout + run.stderr
 
 
+def users(crate):
+    """The crates that stand on the crate, in the order of crates.txt."""
+    listed = (re.match(r"(\w+): (.*)", line) for line in (ROOT / "crates.txt").read_text().split("\n"))
+    return [line.group(1) for line in listed if line and crate in line.group(2).split()]
+
+
 def verdict(crate, definitions):
     code, said = check("dev", crate)
     if code == 0 and "logic=proved" in said:
-        return "accepted" if check("check", crate)[0] == 0 else "fact", ""
+        refusing = next((name for name in [crate, *(users(crate) if definitions else [])] if check("check", name)[0] != 0), None)
+        return ("fact", f"noticed by {refusing}") if refusing else ("accepted", "")
     errors = [line for line in said.split("\n") if ": error" in line or "it is not proved that" in line or "no proof:" in line]
     if "logic=not-proved" not in said:
         return "no program", errors[0] if errors else ""
@@ -198,7 +206,7 @@ def main():
         target.write_text(path.read_text())
         counts[kind] = counts.get(kind, 0) + 1
         print(f"[{k}/{len(found)}, {time.time() - began:.0f} s] {kind}: {place}: {old}  =>  {after}", flush=True)
-        if kind == "shape":
+        if kind == "shape" or why.startswith("noticed by"):
             print(f"    {why[:160]}", flush=True)
     if not asked.list:
         print(", ".join(f"{counts.get(kind, 0)} {kind}" for kind in ("accepted", "fact", "shape", "no program")))

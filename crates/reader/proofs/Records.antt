@@ -21,7 +21,7 @@ use Rattle.reader.specs.declared.Answer.{Answer}
 use Rattle.reader.specs.declared.Reader.{Reader}
 use Rattle.lists.specs.Write.{padded}
 use Rattle.reader.specs.Answer.{Said, saidBy, said, toldBy, told, leftFor}
-use Rattle.reader.specs.Records.{heldIn, saidOn, leftBy, eventIn, records, NeverRefused}
+use Rattle.reader.specs.Records.{heldIn, saidOn, leftBy, eventIn, records, NeverRefused, FollowedBy1030}
 
 -- ---- one call on a record that is not refused
 
@@ -122,3 +122,6 @@ record-left a bytes r c e b =
     let k : a .held ≡ saidOn r c .held =
     sym (held-by (a .heard) (a .taken) (a .bytes) (a .held)) ∙ ap (λ (s : Said). s .held) e in
     λ i. record { bytes = b i; count = k i }
+
+pub followed-by-1030 : FollowedBy1030
+followed-by-1030 s = (λ h. omega arith, λ h. omega arith)

@@ -3,11 +3,12 @@
 use mathlib.Core.Path.{_≡_}
 use mathlib.Core.List.{List}
 use mathlib.Core.Option.{Option, none, some}
-use Prim.Native.Nat.{ℕ}
-use lib.ListN.{take}
+use Prim.Native.Nat.{ℕ, _≤_}
+use lib.ListN.{length, take}
 use Rattle.reading.specs.Reading.{Event, packet, badChecksum}
 use Rattle.reading.specs.Calls.{Call, call}
 use Rattle.reading.specs.Lists.{AnyReader, after}
+use Rattle.reading.specs.Promise.{Followed}
 use Rattle.packet.specs.Verdict.{protocol2}
 use Rattle.reader.specs.declared.Reader.{Reader}
 use Rattle.reader.specs.Answer.{Kind, aPacket, aBadChecksum, noEvent, Said, saidFor, leftFor, packetFor}
@@ -42,8 +43,7 @@ eventOfKind noEvent id n bytes = none
 abbrev pub eventIn : Said → Option Event
 eventIn s = eventOfKind (s .kind) (s .id) (s .count) (s .bytes)
 
--- The records as a reader, of which demand 3 is promised: a fresh one is any with count 0, whatever lies past it. The longest
--- packet has 1,031 bytes, so that `Followed` says that at least 1,030 bytes have followed the noise.
+-- The records as a reader, of which demand 3 is promised: a fresh one is any with count 0, whatever lies past it.
 abbrev pub records : AnyReader
 records =
     record {
@@ -58,3 +58,7 @@ records =
 -- before
 abbrev pub NeverRefused : Type 0
 NeverRefused = (r : Reader) → r .count ≡ 0 → (cs : List Call) (c : Call) → saidOn (after records r cs) c .refusal ≡ none
+
+-- "at least 1,030 bytes have followed the damage": what `Followed` asks for, with the longest packet of Protocol 2.0
+abbrev pub FollowedBy1030 : Type 0
+FollowedBy1030 = (s : List ℕ) → (Followed protocol2 s → 1030 ≤ length s) × (1030 ≤ length s → Followed protocol2 s)

@@ -14,7 +14,7 @@ use lib.Seq.{set-split, getD-append-add}
 use lib.Seq.{getD-drop}
 use Rattle.lists.specs.Write.{overwritten, placed}
 use Rattle.lists.proofs.Filling.{store-next}
-use Rattle.buffers.proofs.Parts.{take-counted, placed-whole}
+use Rattle.lists.proofs.Parts.{take-counted}
 
 -- ---- the bytes of src are copied to old from `at` on, i of them so far
 
@@ -106,32 +106,3 @@ clear-done old from i e =
     ∙ ap (λ (l : List ℕ). take from old ++ (zeros old from ++ l))
     (drop-of-length-le (drop from old) {i = length (zeros old from)} (simp length-drop (omega arith)))
     ∙ ap (λ (l : List ℕ). take from old ++ l) (append-nil (zeros old from))
-
--- ---- a full buffer and one byte more
-
-module _ (held : List ℕ) (b : ℕ) (n : ℕ) (e : n ≡ length held) where
-  -- in a buffer with room for it
-  pub longest-placed : (old placed′ : List ℕ) → placed′ ≡ placed old 0 (take (length old - 0) (take n held))
-      → length old ≡ length held + 1 → set placed′ n b ≡ held ++ b ∷ []
-  longest-placed old placed′ p l =
-      let whole : take n held ≡ held = take-all n held (omega arith) in
-      let q : placed′ ≡ held ++ drop (length held) old =
-      p ∙ ap (λ (s : List ℕ). placed old 0 (take (length old - 0) s)) whole ∙ placed-whole old held 0 (omega arith) in
-      let m : length placed′ ≡ n + 1 = ap length q ∙ simp (length-append, length-drop) (omega arith) in
-      set-split placed′ n b (omega arith)
-      ∙ ap₂ (λ (x y : List ℕ). x ++ b ∷ y) (ap (λ (s : List ℕ). take n s) q ∙ take-at held (drop (length held) old) n (sym e))
-      (drop-of-length-le placed′ {i = suc n} (omega arith))
-
-  -- and in itself, without its first
-  pub longest-held : (moved : List ℕ) → moved ≡ overwritten held (take (n - 1) (drop 1 held)) → 0 < n
-      → set moved (n - 1) b ≡ drop 1 (held ++ b ∷ [])
-  longest-held moved p h =
-      let part = take (n - 1) (drop 1 held) in
-      let k : length part ≡ n - 1 = length-take-le (n - 1) (drop 1 held) (simp length-drop (omega arith)) in
-      let whole : part ≡ drop 1 held = take-all (n - 1) (drop 1 held) (simp length-drop (omega arith)) in
-      let m : length moved ≡ n = ap length p ∙ simp (length-append, length-drop) (omega arith) in
-      set-split moved (n - 1) b (omega arith)
-      ∙ ap₂ (λ (x y : List ℕ). x ++ b ∷ y)
-      (ap (λ (s : List ℕ). take (n - 1) s) p ∙ take-at part (drop (length part) held) (n - 1) k ∙ whole)
-      (drop-of-length-le moved {i = suc (n - 1)} (omega arith))
-      ∙ sym (drop-append-le 1 held (b ∷ []) (omega arith))

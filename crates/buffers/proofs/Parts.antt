@@ -1,4 +1,4 @@
--- Parts of lists: one taken the other way round, what has room, and what was placed behind another.
+-- Parts of lists: one taken the other way round, and what has room.
 use mathlib.Core.Path.{_≡_, refl, sym, ap, _∙_}
 use mathlib.Core.List.{List, [], _∷_, _++_}
 use Prim.Native.Nat.{ℕ, zero, suc, _+_, _-_, _≤_, min}
@@ -15,52 +15,7 @@ part-is a e s h k =
     (ap (λ (n : ℕ). drop a (take n s)) z ∙ ap (λ (l : List ℕ). drop a l) (take-add a (e - a) s)
     ∙ drop-at (take a s) (take (e - a) (drop a s)) a (length-take-le a s k))
 
--- as many as there are, of k asked for
-pub take-counted : (k : ℕ) (s : List ℕ) → take (length (take k s)) s ≡ take k s
-take-counted zero s = refl
-take-counted (suc k) [] = refl
-take-counted (suc k) (x ∷ s) = ap (λ (l : List ℕ). x ∷ l) (take-counted k s)
-
-pub take-least : (k n : ℕ) (s : List ℕ) → n ≡ min k (length s) → take n s ≡ take k s
-take-least k n s e = ap (λ (m : ℕ). take m s) (e ∙ sym (length-take k s)) ∙ take-counted k s
-
 -- what has room is placed whole
 pub placed-whole : (old new : List ℕ) (at : ℕ) → at + length new ≤ length old
     → placed old at (take (length old - at) new) ≡ placed old at new
 placed-whole old new at h = ap (λ (s : List ℕ). placed old at s) (take-all (length old - at) new (omega arith))
-
--- what a placed part stands behind, where it has room
-pub placed-behind : (old new held : List ℕ) (e : ℕ) → e + length new ≤ length old
-    → held ≡ placed old e (take (length old - e) new) → take (e + length new) held ≡ take e old ++ new
-placed-behind old new held e h i =
-    let l = length-take-le e old (omega arith) in
-    let rest = drop (length new) (drop e old) in
-    ap (λ (s : List ℕ). take (e + length new) s) (i ∙ placed-whole old new e h)
-    ∙ ap (λ (n : ℕ). take (n + length new) (take e old ++ (new ++ rest))) (sym l)
-    ∙ take-append-add (take e old) (new ++ rest) (length new)
-    ∙ ap (λ (t : List ℕ). take e old ++ t) (take-append-seam new rest)
-
--- the window from a up to e, and new bytes placed behind it
-pub append-behind : (old new held : List ℕ) (a e : ℕ) → a ≤ e → e + length new ≤ length old
-    → held ≡ placed old e (take (length old - e) new)
-    → drop a (take (a + (e - a) + length new) held) ≡ drop a (take e old) ++ new
-append-behind old new held a e h k i =
-    let z : a + (e - a) ≡ e = omega arith in
-    let l = length-take-le e old (omega arith) in
-    ap (λ (n : ℕ). drop a (take (n + length new) held)) z
-    ∙ ap (λ (t : List ℕ). drop a t) (placed-behind old new held e k i)
-    ∙ drop-append-le a (take e old) new (omega arith)
-
--- and where it first moved to the start
-pub append-moved : (old mid new held : List ℕ) (a e : ℕ) → a ≤ e → e ≤ length old → e - a + length new ≤ length old
-    → mid ≡ overwritten old (take (e - a) (drop a old)) → held ≡ placed mid (e - a) (take (length mid - (e - a)) new)
-    → take (0 + (e - a) + length new) held ≡ drop a (take e old) ++ new
-append-moved old mid new held a e h k r i j =
-    let part = take (e - a) (drop a old) in
-    let l : length part ≡ e - a = length-take-le (e - a) (drop a old) (simp length-drop (omega arith)) in
-    let m : length mid ≡ length old = ap length i ∙ simp (length-append, length-take, length-drop) (omega arith) in
-    let z : 0 + (e - a) ≡ e - a = omega arith in
-    ap (λ (n : ℕ). take (n + length new) held) z
-    ∙ placed-behind mid new held (e - a) (omega arith) j
-    ∙ ap (λ (t : List ℕ). t ++ new)
-    (ap (λ (t : List ℕ). take (e - a) t) i ∙ take-at part (drop (length part) old) (e - a) l ∙ part-is a e old h (omega arith))

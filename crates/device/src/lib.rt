@@ -1,9 +1,9 @@
 // The device on the bus: what it hears is carried out, and answered in the caller's buffer.
+use encoder::Encoded;
 use instructions::RegisteredWrite;
 use reactions::Heard;
 use reactions::Reacted;
 use status::Reply;
-use status::Sent;
 ghost use mathlib.Core.Path.{_≡_};
 ghost use lib.ListN.{length};
 ghost use Rattle.registers.specs.Registers.{tableSize};
@@ -148,7 +148,8 @@ pub fn hear(
     let reply = carried.reply;
     let kept = carried.registered;
     let slot = reply.slot;
-    let Sent::Count(n) = status::send(reply, out) else {
+    // always: the ID is good, the status is short, and there is room for it
+    let Encoded::Count(n) = status::send(reply, out) else {
         return Response {
             replied: Replied::NoRoom,
             registered: kept,

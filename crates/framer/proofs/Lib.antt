@@ -1,3 +1,4 @@
 pub mod Replies
 pub mod Turns
 pub mod Core
+pub mod Longest

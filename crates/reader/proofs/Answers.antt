@@ -1,12 +1,13 @@
 -- The answer that is made of a core call says what the rules' reply says.
 use mathlib.Core.Path.{_≡_, refl, sym, ap, _∙_}
+use mathlib.Core.Bool.{Bool, true, false, cond}
 use mathlib.Core.List.{List, [], _∷_, _++_}
 use mathlib.Core.Option.{Option, none, some}
-use Prim.Native.Nat.{ℕ, zero, suc, _+_, _-_, _≤_}
-use native.Mathlib.Decide.{decLe}
-use native.Mathlib.Omega.{arith}
-use borrow.Author.Tests.{le-leb, lt-leb}
-use lib.ListN.{length, take, getD, replicate, length-replicate}
+use Prim.Native.Nat.{ℕ, zero, suc, _-_, _≤_}
+use borrow.Author.Tests.{le-leb}
+use lib.Dec.{leb}
+use lib.ListN.{length, take, getD, replicate}
+use Rattle.lists.specs.Answer.{unlessRefused}
 use Rattle.reading.specs.Reading.{Event, packet, badChecksum}
 use Rattle.reading.specs.Calls.{Reply}
 use Rattle.framer.specs.declared.Event.{Event as Outcome}
@@ -16,7 +17,8 @@ use Rattle.reader.specs.declared.Heard.the-variants.{Packet as Heard·Pa
 use Rattle.framer.specs.declared.Step.{Step}
 use Rattle.framer.specs.Step.{eventOf, bytesOf}
 use Rattle.framer.specs.Core.{CoreCall}
-use Rattle.reader.specs.Answer.{Said, saidBy, toldBy, told, saidFor, leftFor, Tells, packetFor, sizeIn, heardAs}
+use Rattle.reader.specs.declared.Told.{Told}
+use Rattle.reader.specs.Answer.{Said, saidBy, toldBy, told, refusing, saidFor, Tells, packetFor, sizeIn, heardAs}
 
 -- ---- the event's cases
 
@@ -81,27 +83,30 @@ module _ (r : Reply) (count : ℕ) (held bytes held′ bytes′ : List ℕ) (ste
       let b = sym (bytes-of heard (step .taken) cleaned (step .count)) ∙ ap (λ (s : Said). s .bytes) e in
       rw (le-leb count 1030 h) (ap (λ (l : List ℕ). saidBy heard (step .taken) l (step .count)) (sym b) ∙ e)
 
-module _ (r : Reply) (count : ℕ) (held held′ bytes′ : List ℕ) (step : Step)
-    (w : CoreCall r count held (replicate 1031 0) step held′ bytes′) where
-  pub size-is : length bytes′ ≡ 1031
-  size-is = w .size (length-replicate {A = ℕ} 1031 0)
-
-  pub said-is : (n : ℕ) (heard : Heard) (bytes : List ℕ) → n ≡ sizeIn (step .event) → bytes ≡ cleared bytes′ n
-      → heard ≡ heardAs (step .event) (getD bytes 4 0) → saidBy heard (step .taken) bytes (step .count) ≡ saidFor count r
-  said-is n heard bytes i j k = by (decLe count 1030)
+-- the packet buffer beside the answer
+module _ (count : ℕ) (r : Reply) where
+  pub packet-said : (old : List ℕ) → packetFor count old r ≡ unlessRefused (saidFor count r .refusal) old (saidFor count r .bytes)
+  packet-said old = by-count (leb count 1030)
     where
-      by : Dec (count ≤ 1030) → saidBy heard (step .taken) bytes (step .count) ≡ saidFor count r
-      by (yes h) =
-          let v = w .replied h .0 in
-          rw (k, j, i, v .event-is, v .taken-is, v .count-is, le-leb count 1030 h)
-          (by-answer (r .answer) (r .taken) (length (r .held)) bytes′ size-is (v .bytes-are))
-      by (no h) =
-          let f = w .refused (omega arith) in
-          rw (k, j, i, f .0, f .2, lt-leb count 1030 (omega arith))
+      by-event : (a : Option Event) (taken held : ℕ)
+          → toldBy a taken held .bytes ≡ unlessRefused (toldBy a taken held .refusal) old (toldBy a taken held .bytes)
+      by-event none taken held = refl
+      by-event (some (packet w)) taken held = refl
+      by-event (some (badChecksum id)) taken held = refl
 
-  pub left-is : held′ ≡ leftFor count held r
-  left-is = by (decLe count 1030)
+      by-count : (b : Bool) → cond b (told r .bytes) old
+          ≡ unlessRefused (cond b (told r) (refusing count) .refusal) old (cond b (told r) (refusing count) .bytes)
+      by-count true = by-event (r .answer) (r .taken) (length (r .held))
+      by-count false = refl
+
+  -- one of zeros gets the bytes of the answer, refused or not
+  zeros-said : packetFor count (replicate 1031 0) r ≡ saidFor count r .bytes
+  zeros-said = by-count (leb count 1030)
     where
-      by : Dec (count ≤ 1030) → held′ ≡ leftFor count held r
-      by (yes h) = rw (le-leb count 1030 h) (w .replied h .1)
-      by (no h) = rw (lt-leb count 1030 (omega arith)) (w .refused (omega arith) .1)
+      by-count : (b : Bool) → cond b (told r .bytes) (replicate 1031 0) ≡ cond b (told r) (refusing count) .bytes
+      by-count true = refl
+      by-count false = refl
+
+  pub value-said : (t : Told) (bytes : List ℕ) → Tells count r t → bytes ≡ packetFor count (replicate 1031 0) r
+      → saidBy (t .heard) (t .taken) bytes (t .held) ≡ saidFor count r
+  value-said t bytes e b = ap (λ (l : List ℕ). saidBy (t .heard) (t .taken) l (t .held)) (b ∙ zeros-said) ∙ e

@@ -5,13 +5,14 @@ use mathlib.Core.List.{List}
 use mathlib.Core.Option.{Option, none, some}
 use Prim.Native.Nat.{ℕ, _≤_}
 use lib.ListN.{length, take}
+use Rattle.lists.specs.Answer.{unlessRefused}
 use Rattle.reading.specs.Reading.{Event, packet, badChecksum}
 use Rattle.reading.specs.Calls.{Call, call}
 use Rattle.reading.specs.Lists.{AnyReader, after}
 use Rattle.reading.specs.Promise.{Followed}
 use Rattle.packet.specs.Verdict.{protocol2}
 use Rattle.reader.specs.declared.Reader.{Reader}
-use Rattle.reader.specs.Answer.{Kind, aPacket, aBadChecksum, noEvent, Said, saidFor, leftFor, packetFor}
+use Rattle.reader.specs.Answer.{Kind, aPacket, aBadChecksum, noEvent, Said, saidFor, leftFor}
 
 -- bytes past the count are ignored
 abbrev pub heldIn : Reader → List ℕ
@@ -30,9 +31,9 @@ leftBy r c =
 abbrev pub lent : List ℕ → ℕ → Reader
 lent bytes count = record { bytes = bytes; count = count }
 
--- and what a call leaves of the packet buffer that is lent beside it: the packet's bytes, followed by 0
+-- and what a call leaves of the packet buffer that is lent beside it: the bytes of the answer, unless it is refused
 unfoldable pub packetOn : Reader → Call → List ℕ → List ℕ
-packetOn r c old = packetFor (r .count) old (call protocol2 (heldIn r) c)
+packetOn r c old = unlessRefused (saidOn r c .refusal) old (saidOn r c .bytes)
 
 -- the event that an answer gives: the bytes of a packet, whose ID `saidOn` gives too, or the ID of a bad checksum
 abbrev pub eventOfKind : Kind → ℕ → ℕ → List ℕ → Option Event

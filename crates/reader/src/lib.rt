@@ -70,42 +70,6 @@ fn hear(event: Event, bytes: &[u8]) -> Heard
     }
 }
 
-// A feeding call on the caller's held bytes, with the packet's bytes in the answer.
-pub fn feed_value(held: &mut [u8; 1030], count: usize, chunk: &[u8]) -> Answer
-    ensures { λ r. ⌜ (said r ≡ saidFor count (fed protocol2 (take count (now (held .entry))) (now (chunk .entry))))
-        × (now (held .exit) ≡ leftFor count (now (held .entry)) (fed protocol2 (take count (now (held .entry))) (now (chunk .entry)))) ⌝ }
-{
-    let mut bytes = [0u8; 1031];
-    let done = framer::feed_in(held, count, chunk, &mut bytes);
-    let event = done.event;
-    buffers::clear(&mut bytes, size_of(event));
-    let heard = hear(event, &bytes);
-    Answer {
-        taken: done.taken,
-        held: done.count,
-        heard,
-        bytes,
-    }
-}
-
-// A gap call on the caller's held bytes.
-pub fn gap_value(held: &mut [u8; 1030], count: usize) -> Answer
-    ensures { λ r. ⌜ (said r ≡ saidFor count (gapped (first protocol2 closed (take count (now (held .entry))))))
-        × (now (held .exit) ≡ leftFor count (now (held .entry)) (gapped (first protocol2 closed (take count (now (held .entry)))))) ⌝ }
-{
-    let mut bytes = [0u8; 1031];
-    let done = framer::gap_in(held, count, &mut bytes);
-    let event = done.event;
-    buffers::clear(&mut bytes, size_of(event));
-    let heard = hear(event, &bytes);
-    Answer {
-        taken: done.taken,
-        held: done.count,
-        heard,
-        bytes,
-    }
-}
-
 // A feeding call on the caller's held bytes and packet buffer: the packet's bytes and 0 after them, all 0 beside any other
 // answer; a refusal leaves it.
 pub fn feed_into(held: &mut [u8; 1030], count: usize, chunk: &[u8], packet: &mut [u8; 1031]) -> Told
@@ -152,6 +116,38 @@ pub fn gap_into(held: &mut [u8; 1030], count: usize, packet: &mut [u8; 1031]) ->
         taken: done.taken,
         held: done.count,
         heard,
+    }
+}
+
+// The same with the packet's bytes in the answer, on the caller's held bytes.
+pub fn feed_value(held: &mut [u8; 1030], count: usize, chunk: &[u8]) -> Answer
+    ensures { λ r. ⌜ (said r ≡ saidFor count (fed protocol2 (take count (now (held .entry))) (now (chunk .entry))))
+        × (now (held .exit) ≡ leftFor count (now (held .entry)) (fed protocol2 (take count (now (held .entry))) (now (chunk .entry)))) ⌝ }
+{
+    let mut bytes = [0u8; 1031];
+    let told = feed_into(held, count, chunk, &mut bytes);
+    let heard = told.heard;
+    Answer {
+        taken: told.taken,
+        held: told.held,
+        heard,
+        bytes,
+    }
+}
+
+// A gap call, likewise.
+pub fn gap_value(held: &mut [u8; 1030], count: usize) -> Answer
+    ensures { λ r. ⌜ (said r ≡ saidFor count (gapped (first protocol2 closed (take count (now (held .entry))))))
+        × (now (held .exit) ≡ leftFor count (now (held .entry)) (gapped (first protocol2 closed (take count (now (held .entry)))))) ⌝ }
+{
+    let mut bytes = [0u8; 1031];
+    let told = gap_into(held, count, &mut bytes);
+    let heard = told.heard;
+    Answer {
+        taken: told.taken,
+        held: told.held,
+        heard,
+        bytes,
     }
 }
 

@@ -20,8 +20,11 @@ abbrev pub errorByte : ℕ → ℕ → ℕ
 errorByte error hardware = cond (eqb hardware 0) error (error % 128 + 128)
 
 -- instruction 55, error byte, data
+abbrev pub statusBody : Reply → List ℕ
+statusBody r = 0x55 ∷ r .error ∷ take (r .count) (r .bytes)
+
 abbrev pub statusPacket : Reply → List ℕ
-statusPacket r = packetOf (r .id) (0x55 ∷ r .error ∷ take (r .count) (r .bytes))
+statusPacket r = packetOf (r .id) (statusBody r)
 
 -- silence is no bytes
 abbrev pub replyBytes : Reply → List ℕ

@@ -1,12 +1,11 @@
 // The status: what a reply holds, and its packet.
 use encoder::Encoded;
 ghost use mathlib.Core.Path.{_≡_};
-ghost use Prim.Native.Nat.{_≤_};
-ghost use lib.ListN.{length};
-ghost use Rattle.lists.specs.Write.{overwritten};
+ghost use Prim.Native.Nat.{_+_, min};
+ghost use Rattle.encoder.specs.Encoding.{encodedAnswer};
 ghost use Rattle.status.specs.Status.{silence as Status·silence};
-ghost use Rattle.status.specs.Status.{errorByte, replyBytes};
-ghost use Rattle.status.specs.Sending.{sentAnswer, sendAnswer, sendOut};
+ghost use Rattle.status.specs.Status.{errorByte};
+ghost use Rattle.status.specs.Sending.{sendAnswer, sendOut};
 
 // A status to send: ID, error byte with its alert bit, data and the reply slot (the paper's turn number); or silence, which
 // is marked, all else being 0.
@@ -42,46 +41,27 @@ pub fn error_byte(error: u8, hardware: u8) -> u8
     error % 128 + 128
 }
 
-// The status packet at the start of out, which has room for it. Silence writes nothing and has no bytes.
-fn write_reply(reply: Reply, out: &mut [u8]) -> usize
-    requires { ⌜ (reply .id ≤ 252) × (reply .count ≤ 8) × (32 ≤ length (now out)) ⌝ }
-    ensures { λ r. ⌜ r ≡ length (replyBytes reply) ⌝ }
-    ensures { λ _. ⌜ now (out .exit) ≡ overwritten (now (out .entry)) (replyBytes reply) ⌝ }
+// How many parameters a status has: its error byte, and as many bytes of data as there are, at most 8.
+fn parameter_count(count: usize) -> usize
+    ensures { λ r. ⌜ r ≡ min 8 count + 1 ⌝ }
+{
+    if count < 8 {
+        return count + 1;
+    }
+    9
+}
+
+// The status packet at the start of out, and what the encoder answers. Silence writes nothing and has no bytes.
+pub fn send(reply: Reply, out: &mut [u8]) -> Encoded
+    ensures { λ r. ⌜ encodedAnswer r ≡ sendAnswer reply (now (out .entry)) ⌝ }
+    ensures { λ _. ⌜ now (out .exit) ≡ sendOut reply (now (out .entry)) ⌝ }
 {
     if !reply.speaks {
-        return 0;
+        return Encoded::Count(0);
     }
     let b = reply.bytes;
     let params = [reply.error, b[0], b[1], b[2], b[3], b[4], b[5], b[6], b[7]];
-    let n = reply.count + 1;
+    let n = parameter_count(reply.count);
     let id = reply.id;
-    let Encoded::Count(k) = encoder::encode(id, 0x55, &params[..n], out, 0) else {
-        return 0;
-    };
-    k
-}
-
-// The count of bytes of the status, 0 for silence; or why it cannot be sent.
-pub enum Sent {
-    Count(usize),
-    BadId,
-    TooLong,
-    NoRoom,
-}
-
-// The reply as a status packet at the start of out. What is refused is so whether it speaks or not.
-pub fn send(reply: Reply, out: &mut [u8]) -> Sent
-    ensures { λ r. ⌜ sentAnswer r ≡ sendAnswer reply (now (out .entry)) ⌝ }
-    ensures { λ _. ⌜ now (out .exit) ≡ sendOut reply (now (out .entry)) ⌝ }
-{
-    if 252 < reply.id {
-        return Sent::BadId;
-    }
-    if 8 < reply.count {
-        return Sent::TooLong;
-    }
-    if out.len() < 32 {
-        return Sent::NoRoom;
-    }
-    Sent::Count(write_reply(reply, out))
+    encoder::encode(id, 0x55, &params[..n], out, 0)
 }

@@ -1,3 +1,4 @@
 pub mod Scans
 pub mod Windows
 mod Seeking
+pub mod Behind

@@ -6,7 +6,7 @@ use Prim.Native.Nat.{ℕ, zero, suc, _+_, _-_, _≤_, _<_, min}
 use native.Mathlib.Omega.{arith}
 use lib.ListN.{length, take, drop, length-take, length-drop, drop-of-length-le}
 use lib.Seq.{length-take-le, take-all}
-use Rattle.buffers.proofs.Parts.{take-least}
+use Rattle.lists.proofs.Parts.{take-least}
 use Rattle.reading.specs.Rules.{Rules, Laws}
 use Rattle.reading.specs.Reading.{Event, packet, badChecksum, open′}
 use Rattle.reading.specs.Calls.{fed}

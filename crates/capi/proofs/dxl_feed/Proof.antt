@@ -1,6 +1,8 @@
-use mathlib.Core.Path.{_∙_, ap₂}
-use Rattle.reading.specs.Calls.{call}
-use Rattle.reader.specs.Records.{lent, saidOn, leftBy, packetOn}
+use mathlib.Core.Path.{ap₂, _∙_}
+use Rattle.reading.specs.Calls.{feed, call}
+use Rattle.packet.specs.Verdict.{protocol2}
+use Rattle.reader.specs.Records.{heldIn, lent, saidOn, leftBy, packetOn}
+use Rattle.reader.proofs.Answers.{packet-said}
 use Rattle.reader.proofs.Records.{records-demand, never-refused}
 use Rattle.numbers.proofs.Steps.{numbers-told, held-told}
 use borrow.Author.Needs.{needs}
@@ -16,11 +18,14 @@ told-requires c κs = search needs
 returns : tie.Need-returns
 unfolding saidOn leftBy packetOn call
 returns c =
-    let t = c .before .feed-into in
-    let e = t .ensures in
-    let n = held-told (t .result .heard) (t .result .taken) (t .result .held) _ (e .0) in (
-      c .told .ensures ∙ numbers-told (t .result .heard) (t .result .taken) (t .result .held) _ (e .0),
-      (ap₂ lent (e .1 .0) n, (e .1 .1, (records-demand, never-refused))),
+    let a = c .before .before .before .before .before .before .args in
+    let r = lent (a .held .now) (a .count .now) in
+    let s = saidOn r (feed (a .chunk .now)) in
+    let t = c .before .feed-into .result in
+    let e = c .before .feed-into .ensures in
+    let packet-is = e .1 .1 ∙ packet-said (a .count .now) (call protocol2 (heldIn r) (feed (a .chunk .now))) (a .packet .now) in (
+      c .told .ensures ∙ numbers-told (t .heard) (t .taken) (t .held) s (e .0),
+      (ap₂ lent (e .1 .0) (held-told (t .heard) (t .taken) (t .held) s (e .0)), (packet-is, (records-demand, never-refused))),
     )
 
 pub dxl-feed-spec : {M : Type 1} → statement M

@@ -1,6 +1,8 @@
-use mathlib.Core.Path.{_∙_, ap₂}
-use Rattle.reading.specs.Calls.{call}
-use Rattle.reader.specs.Records.{lent, saidOn, leftBy, packetOn}
+use mathlib.Core.Path.{ap₂, _∙_}
+use Rattle.reading.specs.Calls.{gap, call}
+use Rattle.packet.specs.Verdict.{protocol2}
+use Rattle.reader.specs.Records.{heldIn, lent, saidOn, leftBy, packetOn}
+use Rattle.reader.proofs.Answers.{packet-said}
 use Rattle.numbers.proofs.Steps.{numbers-told, held-told}
 use borrow.Author.Needs.{needs}
 use Rattle.capi.proofs.dxl_gap.Statement.{statement}
@@ -15,11 +17,14 @@ told-requires c κs = search needs
 returns : tie.Need-returns
 unfolding saidOn leftBy packetOn call
 returns c =
-    let t = c .before .gap-into in
-    let e = t .ensures in
-    let n = held-told (t .result .heard) (t .result .taken) (t .result .held) _ (e .0) in (
-      c .told .ensures ∙ numbers-told (t .result .heard) (t .result .taken) (t .result .held) _ (e .0),
-      (ap₂ lent (e .1 .0) n, e .1 .1),
+    let a = c .before .before .before .before .before .args in
+    let r = lent (a .held .now) (a .count .now) in
+    let s = saidOn r (gap) in
+    let t = c .before .gap-into .result in
+    let e = c .before .gap-into .ensures in
+    let packet-is = e .1 .1 ∙ packet-said (a .count .now) (call protocol2 (heldIn r) (gap)) (a .packet .now) in (
+      c .told .ensures ∙ numbers-told (t .heard) (t .taken) (t .held) s (e .0),
+      (ap₂ lent (e .1 .0) (held-told (t .heard) (t .taken) (t .held) s (e .0)), packet-is),
     )
 
 pub dxl-gap-spec : {M : Type 1} → statement M

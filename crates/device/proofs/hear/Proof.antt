@@ -7,7 +7,7 @@ use Rattle.lists.specs.Write.{overwritten}
 use Rattle.device.specs.Device.{carryOut}
 use Rattle.device.specs.Answers.{sent, callRefusal}
 use Rattle.status.specs.Status.{replyBytes}
-use Rattle.status.specs.declared.Sent.the-variants.{Count}
+use Rattle.encoder.specs.declared.Encoded.the-variants.{Count}
 use Rattle.status.proofs.Sending.{goes-out, out-is}
 use Rattle.device.specs.declared.CarriedOut.{CarriedOut}
 use Rattle.status.specs.declared.Reply.{Reply}

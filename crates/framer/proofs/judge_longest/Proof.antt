@@ -2,7 +2,7 @@ use lib.Seq.{length-take-le}
 use Rattle.packet_front.specs.Begun.{lacks}
 use Rattle.packet.specs.Verdict.{answerFor, verdict}
 use mathlib.Core.List.{List}
-use Rattle.buffers.proofs.Buffers.{longest-placed, longest-held}
+use Rattle.framer.proofs.Longest.{longest-placed, longest-held}
 use mathlib.Core.Path.{refl, sym, ap, _∙_}
 use Prim.Native.Nat.{ℕ}
 use lib.ListN.{length}

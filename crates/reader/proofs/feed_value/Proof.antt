@@ -1,44 +1,19 @@
-use Rattle.reader.proofs.Answers.{size-is, said-is, left-is}
-use mathlib.Core.Path.{sym}
-use Prim.Native.Nat.{_-_}
+use lib.ListN.{take}
+use Rattle.reading.specs.Calls.{fed}
+use Rattle.packet.specs.Verdict.{protocol2}
+use Rattle.reader.proofs.Answers.{value-said}
 use borrow.Author.Needs.{needs}
 use Rattle.reader.proofs.feed_value.Statement.{statement}
 use Rattle.reader.proofs.feed_value.Tie as tie
 
-feed-in-requires : tie.Need-feed-in-requires
-feed-in-requires c κs = search needs
-
-slice-aggregate-clear : tie.Need-slice-aggregate-clear
-slice-aggregate-clear c = sym (size-is _ _ _ _ _ _ (c .before .feed-in .ensures))
-
-size-of-requires : tie.Need-size-of-requires
-size-of-requires c κs = search needs
-
-clear-requires : tie.Need-clear-requires
-clear-requires c κs = search needs
-
-slice-aggregate-hear : tie.Need-slice-aggregate-hear
-slice-aggregate-hear c = search needs
-
-hear-requires : tie.Need-hear-requires
-hear-requires c κs = search needs
+feed-into-requires : tie.Need-feed-into-requires
+feed-into-requires c κs = search needs
 
 returns : tie.Need-returns
 returns c =
-    let w = c .before .before .before .before .before .before .feed-in .ensures in (
-      said-is _ _ _ _ _ _ w _ _ _ (c .before .before .before .before .size-of .ensures)
-          (c .before .before .before .clear .ensures) (c .hear .ensures),
-      left-is _ _ _ _ _ _ w,
-    )
+    let a = c .before .before .before .before .args in
+    let e = c .feed-into .ensures in
+    (value-said (a .count) (fed protocol2 (take (a .count) (a .held .now)) (a .chunk .now)) (c .feed-into .result) _ (e .0) (e .1 .1), e .1 .0)
 
 pub feed-value-spec : {M : Type 1} → statement M
-feed-value-spec =
-    tie.close
-    (tie.spec
-    feed-in-requires
-    slice-aggregate-clear
-    size-of-requires
-    clear-requires
-    slice-aggregate-hear
-    hear-requires
-    returns)
+feed-value-spec = tie.close (tie.spec feed-into-requires returns)

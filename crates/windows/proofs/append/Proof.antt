@@ -1,4 +1,4 @@
-use Rattle.buffers.proofs.Parts.{append-behind, append-moved}
+use Rattle.windows.proofs.Behind.{append-behind, append-moved}
 use borrow.Author.Needs.{needs}
 use Rattle.windows.proofs.append.Statement.{statement}
 use Rattle.windows.proofs.append.Tie as tie

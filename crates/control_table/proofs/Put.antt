@@ -12,7 +12,7 @@ use Rattle.items.specs.Items.{bytesOf, put, unsigned}
 use Rattle.table_rules.proofs.Stored.{stored-sets, stored-length}
 use Rattle.control_table.specs.Fresh.{measured}
 
-bytes-length : (n u : ℕ) → length (bytesOf n u) ≡ n
+pub bytes-length : (n u : ℕ) → length (bytesOf n u) ≡ n
 unfolding bytesOf
 bytes-length zero u = refl
 bytes-length (suc n) u = ap suc (bytes-length n (u / 256))

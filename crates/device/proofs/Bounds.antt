@@ -12,7 +12,8 @@ use Rattle.lists.specs.Answer.{unlessRefused}
 use Rattle.registers.specs.Registers.{tableSize}
 use Rattle.table_rules.specs.Rules.{readRule}
 use Rattle.control_table.proofs.Theorems.{read-short}
-use Rattle.reactions.proofs.Every.{pick, every}
+use Rattle.instructions.proofs.Options.{pick, each-option}
+use Rattle.reactions.proofs.Every.{every}
 use Rattle.instructions.specs.Instructions.{Effect, ping, read, write, regWrite, action}
 use Rattle.reactions.specs.Reactions.{Voice, silent, speaks, ownId, reaction}
 use Rattle.device.specs.Device.{replyBy, Carried, carried, carryOut}
@@ -62,7 +63,7 @@ module _ (table : List ℕ) (w : RegisteredWrite) (sized : length table ≡ tabl
   reaction-small : (heard : Heard) (all : Bool) (body : List ℕ) → Small (reaction heard all table w body .effect)
   reaction-small =
       every Small table w (λ error. none-small _ refl) (none-small _ refl) ping-small read-small (write-small table w) reg-write-small action-small
-      (λ t. none-small _ refl)
+      (none-small _ refl) (each-option Small table w (λ keeps. none-small _ refl) (none-small _ refl))
 
   -- the reply can be sent
   module _ (own : ownId table ≤ 252) where

@@ -54,7 +54,7 @@ module _ (table : List ℕ) (w : RegisteredWrite) (out : List ℕ) where
   passed true number rest e = (refl, e)
   passed false number rest e = let z : _≡_ {A = ℕ} 0 1 = cc in absurd (omega arith)
 
-  accepted : callRefusal table w out ≡ none → Accepted
+  pub accepted : callRefusal table w out ≡ none → Accepted
   unfolding callRefusal
   accepted e =
       let p = passed (eqb (length table) tableSize) 21 _ e in

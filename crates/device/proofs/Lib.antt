@@ -1,3 +1,4 @@
 pub mod Replies
 pub mod Bounds
 pub mod Calls
+pub mod Stays

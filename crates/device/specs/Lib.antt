@@ -1,3 +1,4 @@
 pub mod Device
 pub mod Answers
 pub mod Steps
+pub mod Stays

@@ -2,3 +2,4 @@ pub mod Sized
 pub mod Effects
 pub mod Options
 pub mod Acting
+pub mod Fit

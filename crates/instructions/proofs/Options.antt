@@ -1,15 +1,17 @@
 -- What Ping answers, and the options of Factory Reset.
 use mathlib.Core.Path.{_≡_, sym, ap, _∙_}
+use mathlib.Core.Bool.{Bool, true, false, cond}
 use mathlib.Core.List.{List, [], _∷_, _++_}
 use Prim.Native.Nat.{ℕ, _+_}
 use native.Mathlib.Omega.{arith}
+use lib.Dec.{eqb}
 use borrow.Author.Tests.{ne-eqb}
 use lib.ListN.{length, take, getD}
 use lib.Seq.{drop-cons}
-use Rattle.registers.specs.Registers.{tableSize, modelNumber, firmwareVersion}
+use Rattle.registers.specs.Registers.{Register, tableSize, modelNumber, firmwareVersion}
 use Rattle.items.specs.Items.{itemBytes}
 use Rattle.instructions.specs.declared.RegisteredWrite.{RegisteredWrite}
-use Rattle.instructions.specs.Instructions.{refusing, reboot, factoryReset}
+use Rattle.instructions.specs.Instructions.{Effect, refusing, reboot, factoryReset}
 use Rattle.instructions.specs.Steps.{sized}
 use Rattle.instructions.proofs.Sized.{of-size}
 use Rattle.resets.specs.Resets.{resetRom, keepsNone, keepsId, keepsIdAndBaud}
@@ -46,3 +48,17 @@ module _ (table : List ℕ) (w : RegisteredWrite) (s : length table ≡ tableSiz
       → refusing table w 0x04 ≡ factoryReset table w option
   unfolding factoryReset
   option-other option a b c = rw (ne-eqb option 0xFF a, ne-eqb option 0x01 b, ne-eqb option 0x02 c)
+
+-- what holds of either effect holds of the one that a test picks
+module _ (P : Effect → Type 0) where
+  pub pick : (b : Bool) (x y : Effect) → P x → P y → P (cond b x y)
+  pick true x y f g = f
+  pick false x y f g = g
+
+  -- and of Factory Reset what holds of Reboot after each reset of ROM, and of the refusal
+  pub each-option : (table : List ℕ) (w : RegisteredWrite) → ((keeps : Register → Bool) → P (reboot (resetRom keeps table) w))
+      → P (refusing table w 0x04) → (option : ℕ) → P (factoryReset table w option)
+  unfolding factoryReset
+  each-option table w reset refusal option =
+      pick (eqb option 0xFF) _ _ (reset keepsNone)
+      (pick (eqb option 0x01) _ _ (reset keepsId) (pick (eqb option 0x02) _ _ (reset keepsIdAndBaud) refusal))

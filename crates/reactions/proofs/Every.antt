@@ -5,6 +5,7 @@ use Prim.Native.Nat.{ℕ, _+_}
 use lib.Dec.{eqb, leb}
 use lib.ListN.{length, getD}
 use Rattle.instructions.specs.Instructions.{Effect, refusing, ping, read, write, regWrite, action, reboot, factoryReset}
+use Rattle.instructions.proofs.Options.{pick}
 use Rattle.parameters.specs.Parameters.{wordAt, syncSearch}
 use Rattle.reactions.specs.Reactions.{Reaction, unchanged, ownId, heardUndefined, syncReadBy, syncWriteBy, heardSyncRead, heardSyncWrite, heardInstruction, reaction}
 use Rattle.instructions.specs.declared.RegisteredWrite.{RegisteredWrite}
@@ -14,10 +15,6 @@ use Rattle.reactions.specs.declared.Heard.{Heard}
 use Rattle.reactions.specs.declared.Heard.the-variants.{Packet, BadChecksum}
 
 module _ (P : Effect → Type 0) where
-  pub pick : (b : Bool) (x y : Effect) → P x → P y → P (cond b x y)
-  pick true x y f g = f
-  pick false x y f g = g
-
   pick-reaction : (b : Bool) (x y : Reaction) → P (x .effect) → P (y .effect) → P (cond b x y .effect)
   pick-reaction true x y f g = f
   pick-reaction false x y f g = g
@@ -26,12 +23,7 @@ module _ (P : Effect → Type 0) where
       (pings : P (ping table w)) (reads : (address n : ℕ) → P (read table w address n))
       (writes : (address : ℕ) (bytes : List ℕ) → P (write table w address bytes))
       (reg-writes : (address : ℕ) (bytes : List ℕ) → P (regWrite table w address bytes)) (actions : P (action table w))
-      (reboots : (t : List ℕ) → P (reboot t w)) where
-    resets : (option : ℕ) → P (factoryReset table w option)
-    unfolding factoryReset
-    resets option =
-        pick (eqb option 0xFF) _ _ (reboots _) (pick (eqb option 0x01) _ _ (reboots _) (pick (eqb option 0x02) _ _ (reboots _) (refusals 0x04)))
-
+      (reboots : P (reboot table w)) (resets : (option : ℕ) → P (factoryReset table w option)) where
     sync-read : (found : Found) (params : List ℕ) → P (syncReadBy found table w params .effect)
     sync-read (At slot at) params = reads (wordAt params 0) (wordAt params 2)
     sync-read Nothing params = idle
@@ -51,14 +43,14 @@ module _ (P : Effect → Type 0) where
     instruction : (i : ℕ) (all : Bool) (params : List ℕ) → P (heardInstruction i all table w params .effect)
     unfolding heardInstruction
     instruction i all params =
-        pick-reaction (eqb i 0x01) _ _ (pick (eqb (length params) 0) _ _ pings (refusals 0x05))
-        (pick-reaction (eqb i 0x02) _ _ (pick (eqb (length params) 4) _ _ (reads _ _) (refusals 0x05))
-        (pick-reaction (eqb i 0x03) _ _ (pick (leb 2 (length params)) _ _ (writes _ _) (refusals 0x05))
-        (pick-reaction (eqb i 0x04) _ _ (pick (leb 2 (length params)) _ _ (reg-writes _ _) (refusals 0x05))
-        (pick-reaction (eqb i 0x05) _ _ (pick (eqb (length params) 0) _ _ actions (refusals 0x05))
+        pick-reaction (eqb i 0x01) _ _ (pick P (eqb (length params) 0) _ _ pings (refusals 0x05))
+        (pick-reaction (eqb i 0x02) _ _ (pick P (eqb (length params) 4) _ _ (reads _ _) (refusals 0x05))
+        (pick-reaction (eqb i 0x03) _ _ (pick P (leb 2 (length params)) _ _ (writes _ _) (refusals 0x05))
+        (pick-reaction (eqb i 0x04) _ _ (pick P (leb 2 (length params)) _ _ (reg-writes _ _) (refusals 0x05))
+        (pick-reaction (eqb i 0x05) _ _ (pick P (eqb (length params) 0) _ _ actions (refusals 0x05))
         (pick-reaction (eqb i 0x06) _ _
-        (pick (eqb (length params) 1) _ _ (pick (all && eqb (getD params 0 0) 0xFF) _ _ idle (resets (getD params 0 0))) (refusals 0x05))
-        (pick-reaction (eqb i 0x08) _ _ (pick (eqb (length params) 0) _ _ (reboots table) (refusals 0x05))
+        (pick P (eqb (length params) 1) _ _ (pick P (all && eqb (getD params 0 0) 0xFF) _ _ idle (resets (getD params 0 0))) (refusals 0x05))
+        (pick-reaction (eqb i 0x08) _ _ (pick P (eqb (length params) 0) _ _ reboots (refusals 0x05))
         (pick-reaction (eqb i 0x55) _ _ idle
         (pick-reaction (eqb i 0x82) (heardSyncRead all table w params) _ (heard-sync-read all params)
         (pick-reaction (eqb i 0x83) (heardSyncWrite all table w params) (heardUndefined all table w) (heard-sync-write all params) (refusals 0x02))))))))))

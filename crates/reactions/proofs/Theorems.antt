@@ -13,6 +13,7 @@ use Rattle.items.specs.Items.{put}
 use Rattle.table_rules.specs.Rules.{stored, writeRule}
 use Rattle.instructions.specs.Registered.{registering, dropped, bytesToWrite, keptBy}
 use Rattle.instructions.specs.Instructions.{Effect, leaving, errorOf, read, write, regWrite, action}
+use Rattle.instructions.proofs.Options.{each-option}
 use Rattle.reactions.specs.Reactions.{reaction}
 use Rattle.instructions.specs.declared.RegisteredWrite.{RegisteredWrite}
 use Rattle.reactions.specs.declared.Heard.{Heard}
@@ -77,4 +78,4 @@ module _ (table : List ℕ) (w : RegisteredWrite) where
   unfolding Refused read
   refused heard all body =
       every Refused table w (λ error. stays _ _ _ _ refl refl) (good _ refl) (good _ refl) (λ a n. stays _ _ _ _ refl refl) refused-write refused-reg-write
-      refused-action (λ t. good _ refl) heard all body
+      refused-action (good _ refl) (each-option Refused table w (λ keeps. good _ refl) (stays _ _ _ _ refl refl)) heard all body

@@ -1,0 +1,189 @@
+-- What an instruction finds it leaves: a table of its size with an ID up to 252, and a registered write of at most 8 bytes.
+use mathlib.Core.Path.{_≡_, refl, sym, ap, _∙_}
+use mathlib.Core.Bool.{Bool, true, false, not, cond, _&&_, _||_}
+use mathlib.Core.List.{List, [], _∷_}
+use mathlib.Core.Option.{Option, none, some}
+use Prim.Native.Nat.{ℕ, _+_, _-_, _≤_, _<_}
+use native.Mathlib.Omega.{arith}
+use lib.Dec.{eqb, leb, ltb}
+use lib.ListN.{length, getD, length-take}
+use lib.Signed.{leZ}
+use lib.IntN.{ℤ, pos}
+use borrow.Author.Tests.{eq-eqb, lt-ltb, ltb-true, ltb-false, leb-true}
+use Rattle.lists.specs.Answer.{unlessRefused}
+use Rattle.lists.proofs.Bools.{and-left, and-right, or-right}
+use Rattle.registers.specs.Registers.{Register, registers, tableSize, endOf, deviceId, goalPosition, minPosition, registeredInstruction}
+use Rattle.items.specs.Items.{bytesOf, put, itemBytes, valueOf, valueInRange}
+use Rattle.items.proofs.Signed.{value-byte}
+use Rattle.table_rules.specs.Rules.{touches, everyTouched, stored, writeRule}
+use Rattle.table_rules.specs.Outcomes.{inTable}
+use Rattle.table_rules.proofs.Stored.{stored-before, stored-at, stored-after, stored-length}
+use Rattle.table_rules.proofs.Walks.{each}
+use Rattle.table_rules.proofs.Judged.{good-write}
+use Rattle.control_table.specs.Fresh.{freshened}
+use Rattle.control_table.proofs.Put.{bytes-length}
+use Rattle.control_table.proofs.Theorems.{write-short, write-inside}
+use Rattle.resets.specs.Resets.{only, resetAtReboot, rebooted, resetRom}
+use Rattle.instructions.specs.Registered.{registering, dropped, bytesToWrite, keptBy}
+use Rattle.instructions.specs.Instructions.{Effect, leaving, errorOf, write, regWrite, action, reboot, factoryReset}
+use Rattle.instructions.proofs.Options.{pick, each-option}
+use Rattle.instructions.specs.declared.RegisteredWrite.{RegisteredWrite}
+
+pub record FitTable (table : List ℕ) : Type 0 where
+  pub sized : length table ≡ tableSize
+  pub known : getD table (deviceId .address) 0 ≤ 252
+
+pub record Fit (e : Effect) : Type 0 where
+  pub fit-table : FitTable (e .table)
+  pub short : e .registered .count ≤ 8
+
+-- ---- the table
+
+-- bytes stored inside it, with a good ID where they have the ID
+module _ (table : List ℕ) (f : FitTable table) (address : ℕ) (bytes : List ℕ) (inside : address + length bytes ≤ tableSize) where
+  fits : address + length bytes ≤ length table
+  fits = let s = f .sized in omega arith
+
+  stored-fit : (address ≤ 7 → 7 < address + length bytes → getD (stored table address bytes) 7 0 ≤ 252) → FitTable (stored table address bytes)
+  stored-fit good = record { sized = stored-length table address bytes fits ∙ f .sized; known = by-start (ltb 7 address) refl }
+    where
+      by-end : address ≤ 7 → (b : Bool) → ltb 7 (address + length bytes) ≡ b → getD (stored table address bytes) 7 0 ≤ 252
+      by-end h true e = good h (ltb-true 7 (address + length bytes) e)
+      by-end h false e =
+          let same = stored-after table address bytes fits 7 (ltb-false 7 (address + length bytes) e) in
+          let k = f .known in
+          omega arith
+
+      by-start : (b : Bool) → ltb 7 address ≡ b → getD (stored table address bytes) 7 0 ≤ 252
+      by-start true e =
+          let same = stored-before table address bytes fits 7 (ltb-true 7 address e) in
+          let k = f .known in
+          omega arith
+      by-start false e = by-end (ltb-false 7 address e) (ltb 7 (address + length bytes)) refl
+
+  -- behind the ID
+  stored-behind : 7 < address → FitTable (stored table address bytes)
+  stored-behind h = stored-fit (λ a b. absurd (omega arith))
+
+-- ---- a good write
+
+-- bytes that have the ID touch its register
+touched : (address n : ℕ) → address ≤ 7 → 7 < address + n → touches address n deviceId ≡ true
+touched address n h l = rw (lt-ltb 7 (address + n) l, lt-ltb address 8 (omega arith))
+
+if-touched : (address n : ℕ) (b : Bool) → address ≤ 7 → 7 < address + n → (not (touches address n deviceId) || b) ≡ true → b ≡ true
+if-touched address n b h l e = or-right (not (touches address n deviceId)) b e (ap not (touched address n h l))
+
+-- whose range the write rule has tested
+own-in-range : (new : List ℕ) (address n : ℕ) → everyTouched address n (valueInRange new) registers ≡ true → address ≤ 7 → 7 < address + n
+    → getD new 7 0 ≤ 252
+unfolding registers
+own-in-range new address n e h l =
+    let range = if-touched address n (valueInRange new deviceId) h l (each (valueInRange new) address n registers 2 (omega arith) e) in
+    let top = and-right (leZ (pos 0) (valueOf deviceId new)) (leZ (valueOf deviceId new) (pos 252)) range in
+    leb-true (getD new 7 0) 252 (sym (ap (λ (z : ℤ). leZ z (pos 252)) (value-byte new 7 1 refl)) ∙ top)
+
+good-fit : (table : List ℕ) → FitTable table → (address : ℕ) (bytes : List ℕ) → inTable table (writeRule table address bytes) ≡ none
+    → FitTable (stored table address bytes)
+good-fit table f address bytes e =
+    let i = write-inside table address bytes e in
+    let s = f .sized in
+    stored-fit table f address bytes (omega arith) (own-in-range _ address (length bytes) (good-write table address bytes e .in-range))
+
+-- ---- fresh values
+
+-- the register is inside, and its fresh value is a good ID where it has that of the device
+abbrev fine : Register → Bool
+fine r =
+    leb (endOf r) tableSize
+    && (not (touches (r .address) (r .bytes) deviceId) || leb (getD (bytesOf (r .bytes) (r .fresh)) (7 - r .address) 0) 252)
+
+abbrev allFine : List Register → Bool
+allFine [] = true
+allFine (r ∷ rs) = fine r && allFine rs
+
+put-fit : (table : List ℕ) → FitTable table → (r : Register) → fine r ≡ true → FitTable (put table r (r .fresh))
+unfolding put
+put-fit table f r e =
+    let l = bytes-length (r .bytes) (r .fresh) in
+    let i = leb-true (endOf r) tableSize (and-left _ _ e) in
+    let s = f .sized in
+    stored-fit table f (r .address) (bytesOf (r .bytes) (r .fresh)) (omega arith) (λ h k.
+    let good = if-touched (r .address) (r .bytes) _ h (omega arith) (and-right (leb (endOf r) tableSize) _ e) in
+    let own = stored-at table (r .address) (bytesOf (r .bytes) (r .fresh)) (omega arith) (7 - r .address) (omega arith) in
+    let seven : r .address + (7 - r .address) ≡ 7 = omega arith in
+    let low = leb-true (getD (bytesOf (r .bytes) (r .fresh)) (7 - r .address) 0) 252 good in
+    omega (arith, rw seven at own))
+
+freshened-fit : (table : List ℕ) → FitTable table → (test : Register → Bool) (rs : List Register) → allFine rs ≡ true
+    → FitTable (freshened (only test rs) table)
+unfolding freshened
+freshened-fit table f test [] e = f
+freshened-fit table f test (r ∷ rs) e =
+    by-test (freshened-fit table f test rs (and-right (fine r) (allFine rs) e)) (and-left (fine r) (allFine rs) e) (test r)
+  where
+    by-test : FitTable (freshened (only test rs) table) → fine r ≡ true → (b : Bool) → FitTable (freshened (cond b (r ∷ only test rs) (only test rs)) table)
+    by-test rest good true = put-fit (freshened (only test rs) table) rest r good
+    by-test rest good false = rest
+
+registers-fit : (table : List ℕ) → FitTable table → (test : Register → Bool) → FitTable (freshened (only test registers) table)
+unfolding registers bytesOf
+registers-fit table f test = freshened-fit table f test registers refl
+
+rebooted-fit : (table : List ℕ) → FitTable table → FitTable (rebooted table)
+unfolding rebooted
+rebooted-fit table f =
+    stored-behind (freshened (only resetAtReboot registers) table) (registers-fit table f resetAtReboot) (goalPosition .address)
+    (itemBytes minPosition table) (simp length-take (omega arith)) (omega arith)
+
+reset-fit : (table : List ℕ) → FitTable table → (keeps : Register → Bool) → FitTable (resetRom keeps table)
+unfolding resetRom
+reset-fit table f keeps = registers-fit table f _
+
+-- ---- each instruction
+
+module _ (table : List ℕ) (f : FitTable table) where
+  -- the table that says whether a write is registered
+  said-fit : (b : ℕ) → FitTable (put table registeredInstruction b)
+  unfolding put
+  said-fit b = let l = bytes-length 1 b in stored-behind table f 69 (bytesOf 1 b) (omega arith) (omega arith)
+
+  in-table : (r : Option ℕ) → r ≡ none → inTable table r ≡ none
+  in-table r e = rw (eq-eqb (length table) tableSize (f .sized), e)
+
+module _ (table : List ℕ) (w : RegisteredWrite) (f : FitTable table) where
+  pub reboot-fit : Fit (reboot table w)
+  reboot-fit = record { fit-table = rebooted-fit table f; short = omega arith }
+
+  module _ (short : w .count ≤ 8) where
+    pub kept-fit : (error : ℕ) (bytes : List ℕ) → Fit (leaving table w error bytes)
+    kept-fit error bytes = record { fit-table = f; short = short }
+
+    pub write-fit : (address : ℕ) (bytes : List ℕ) → Fit (write table w address bytes)
+    unfolding write
+    write-fit address bytes = by-rule (writeRule table address bytes) refl
+      where
+        by-rule : (r : Option ℕ) → writeRule table address bytes ≡ r
+            → Fit (leaving (unlessRefused r table (stored table address bytes)) w (errorOf r) [])
+        by-rule none e = record { fit-table = good-fit table f address bytes (in-table table f _ e); short = short }
+        by-rule (some number) e = kept-fit number []
+
+    pub reg-write-fit : (address : ℕ) (bytes : List ℕ) → Fit (regWrite table w address bytes)
+    unfolding regWrite
+    reg-write-fit address bytes = by-rule (writeRule table address bytes) refl
+      where
+        by-rule : (r : Option ℕ) → writeRule table address bytes ≡ r
+            → Fit (leaving (unlessRefused r table (put table registeredInstruction 1)) (keptBy r w (registering address bytes)) (errorOf r) [])
+        by-rule none e = record { fit-table = said-fit table f 1; short = write-short table address bytes (in-table table f _ e) }
+        by-rule (some number) e = kept-fit number []
+
+module _ (table : List ℕ) (w : RegisteredWrite) (f : FitTable table) (short : w .count ≤ 8) where
+  pub action-fit : Fit (action table w)
+  unfolding action
+  action-fit =
+      pick Fit (eqb (w .count) 0) _ _ (kept-fit table w f short 0x02 [])
+      (write-fit (put table registeredInstruction 0) dropped (said-fit table f 0) (omega arith) (w .address) (bytesToWrite w))
+
+  pub factory-reset-fit : (option : ℕ) → Fit (factoryReset table w option)
+  factory-reset-fit =
+      each-option Fit table w (λ keeps. reboot-fit (resetRom keeps table) w (reset-fit table f keeps)) (kept-fit table w f short 0x04 [])

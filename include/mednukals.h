@@ -202,9 +202,9 @@ struct dxl_step dxl_feed(uint8_t held[1030], size_t *count, const uint8_t *chunk
 /*
  * Ends the segment: answers the next event in the held bytes where no more bytes follow, or DXL_NO_EVENT where nothing is left.
  *
- * Call it when the line has been silent for more than 1.5 ms, until it answers DXL_NO_EVENT, or refuses; then the gap is
- * finished, and the reader holds nothing. Bytes fed earlier than that join those that are still held. Without gap calls a packet
- * behind noise may be told only when 1,030 bytes have followed the noise.
+ * Call it when the line has been silent for more than 1.5 ms, until it answers DXL_NO_EVENT, or refuses. With DXL_NO_EVENT the
+ * gap is finished, and the reader holds nothing. Bytes fed earlier than that join those that are still held. Without gap calls a
+ * packet behind noise may be told only when 1,030 bytes have followed the noise.
  *
  * packet and held are written as by dxl_feed, and it refuses as dxl_feed does; taken is always 0.
  */

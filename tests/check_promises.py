@@ -1,6 +1,7 @@
 """Holds docs/PROMISES.md to the tree: usage check_promises.py, in the repository's root
 
-Every must-fail edit that the page cites is there, and every edit that is there is cited; every file that it cites is there too.
+Every must-fail edit that the page cites is there, and every edit that is there is cited; every file and test that it cites is
+there too.
 No public function requires anything, and each contract names what it is lent to write as it is at exit.
 """
 import re
@@ -24,9 +25,18 @@ def weak_contracts():
     for crate, name, head in public_functions():
         if "requires {" in head:
             yield f"{crate}::{name} is public and requires something"
-        for lent in re.findall(r"(\w+): &mut ", head):
+        for lent in re.findall(r"(\w+): &(?:'\w+ )?mut ", head):
             if f"({lent} .exit)" not in head and f"(«{lent}» .exit)" not in head:
                 yield f"{crate}::{name} does not say what it leaves of {lent}"
+
+
+def missing_tests(text):
+    """Tests that are cited by their file and their name, as `reader.rs` `published_packets`, and are not in that file."""
+    for file, names in re.findall(r"`(\w+\.rs)`((?:(?:,| and)? `\w+`)+)", text):
+        found = [path.read_text(encoding="utf-8") for path in Path("tests").glob(f"*/tests/{file}")]
+        for name in re.findall(r"`(\w+)`", names):
+            if not any(re.search(rf"#\[test\]\s+fn {name}\b", source) for source in found):
+                yield f"the test {name} of {file} is cited and not there"
 
 
 def main():
@@ -42,6 +52,7 @@ def main():
     faults = [f"the edit {edit} is cited and not there" for edit in sorted(cited - edits)]
     faults += [f"the edit {edit} is cited nowhere" for edit in sorted(edits - cited)]
     faults += [f"the file {file} is cited and not there" for file in sorted(files) if not any((p / file).exists() for p in places)]
+    faults += missing_tests(text)
     faults += weak_contracts()
     return report("promises", faults, f"{len(edits)} must-fail edits, each cited and there; {len(files)} files cited and there")
 

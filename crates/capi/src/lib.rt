@@ -18,6 +18,7 @@ ghost use Rattle.packet.specs.Verdict.{protocol2};
 ghost use Rattle.reader.specs.Records.{saidOn, leftBy, lent, packetOn, records, NeverRefused};
 ghost use Rattle.device.specs.Answers.{callAnswer, callRegistered, callTable, callOut};
 ghost use Rattle.exchange.specs.Exchange.{exchangeAnswer, exchangeRegistered, exchangeTable, exchangeBody, exchangeOut};
+ghost use Rattle.exchange.specs.Promises.{ExchangePromises};
 ghost use Rattle.numbers.specs.Exported.{exported, exportedRefusal, stepNumbers, deviceNumbers};
 ghost use Rattle.capi.specs.Heard.{heardBy, idBy};
 
@@ -149,7 +150,8 @@ pub extern "C" fn dxl_device(
     numbers::response(device::hear(table, registered, heard, heard_id, body, reply))
 }
 
-// The device call on a packet as received, whose body goes to `body` without its stuffing.
+// The device call on a packet as received, whose body goes to `body` without its stuffing. What is no well-formed packet is met with
+// silence.
 #[no_mangle]
 pub extern "C" fn dxl_exchange(
     table: &mut [u8],
@@ -164,6 +166,7 @@ pub extern "C" fn dxl_exchange(
     ensures { λ _. ⌜ (now (table .exit) ≡ exchangeTable (now (table .entry)) registered (now (packet .entry)) (now (body .entry)) (now (reply .entry)))
         × (now (body .exit) ≡ exchangeBody (now (table .entry)) registered (now (packet .entry)) (now (body .entry)) (now (reply .entry)))
         × (now (reply .exit) ≡ exchangeOut (now (table .entry)) registered (now (packet .entry)) (now (body .entry)) (now (reply .entry))) ⌝ }
+    ensures { λ _. ⌜ ExchangePromises ⌝ }
 {
     numbers::answered(exchange::answer(table, registered, packet, body, reply))
 }

@@ -1,1 +1,3 @@
 pub mod Exchange
+pub mod OnlyPackets
+pub mod Promises

@@ -1,0 +1,6 @@
+-- The promises over all calls, each proved in a file of its own.
+use Rattle.exchange.specs.Promises.{ExchangePromises}
+use Rattle.exchange.proofs.Theorems.{only-packets}
+
+pub exchange-promises : ExchangePromises
+exchange-promises = record { only-packets = only-packets }

@@ -14,7 +14,7 @@ use Rattle.packet_front.specs.Front.{idOf}
 use Rattle.packet.specs.Packet.{bodyOf}
 use Rattle.packet.specs.Verdict.{verdict}
 use Rattle.instructions.specs.Registered.{keptBy}
-use Rattle.device.specs.Answers.{Answer, refused, repliedAnswer, callRefusal, callAnswer, callTable, callRegistered, callOut}
+use Rattle.device.specs.Answers.{Answer, refused, repliedAnswer, orElse, callRefusal, callAnswer, callTable, callRegistered, callOut}
 use Rattle.instructions.specs.declared.RegisteredWrite.{RegisteredWrite}
 use Rattle.reactions.specs.declared.Heard.the-variants.{Packet}
 use Rattle.exchange.specs.declared.Exchanged.{Exchanged}
@@ -50,11 +50,6 @@ abbrev pub refusedOr : Option ℕ → Answer → Answer
 refusedOr none answer = answer
 refusedOr (some number) answer = refused number
 
--- the first of two refusals
-abbrev pub firstRefusal : Option ℕ → Option ℕ → Option ℕ
-firstRefusal none later = later
-firstRefusal (some number) later = some number
-
 -- Removal of the stuffing, 14 and 13, comes before the device's call, 21 to 24.
 module _ (table : List ℕ) (w : RegisteredWrite) (packet body out : List ℕ) where
   -- of the packet's body, by the room in the body buffer
@@ -63,7 +58,7 @@ module _ (table : List ℕ) (w : RegisteredWrite) (packet body out : List ℕ) w
 
   -- of the call
   abbrev pub exchangeRefusal : Option ℕ
-  exchangeRefusal = firstRefusal bodyRefusal (callRefusal table w out)
+  exchangeRefusal = orElse bodyRefusal (callRefusal table w out)
 
   abbrev pub exchangeAnswer : Answer
   exchangeAnswer = refusedOr bodyRefusal (callAnswer table w Packet (heardOf packet .id) (heardOf packet .body) out)

@@ -113,6 +113,8 @@ fn print_reply(replied: Replied, out: &[u8]) {
         Replied::BadId => print_refusal(),
         Replied::BadRegistered => print_refusal(),
         Replied::NoRoom => print_refusal(),
+        Replied::BadReplyId => print_refusal(),
+        Replied::LongReply => print_refusal(),
     }
 }
 

@@ -17,6 +17,7 @@ ghost use Rattle.reading.specs.Promise.{Demand3};
 ghost use Rattle.packet.specs.Verdict.{protocol2};
 ghost use Rattle.reader.specs.Records.{saidOn, leftBy, lent, packetOn, records, NeverRefused};
 ghost use Rattle.device.specs.Answers.{callAnswer, callRegistered, callTable, callOut};
+ghost use Rattle.device.specs.Promises.{DevicePromises};
 ghost use Rattle.exchange.specs.Exchange.{exchangeAnswer, exchangeRegistered, exchangeTable, exchangeBody, exchangeOut};
 ghost use Rattle.exchange.specs.Promises.{ExchangePromises};
 ghost use Rattle.numbers.specs.Exported.{exported, exportedRefusal, stepNumbers, deviceNumbers};
@@ -144,6 +145,7 @@ pub extern "C" fn dxl_device(
         (callRegistered (now (table .entry)) registered (heardBy kind) (idBy kind id) (now (body .entry)) (now (reply .entry))) ⌝ }
     ensures { λ _. ⌜ (now (table .exit) ≡ callTable (now (table .entry)) registered (heardBy kind) (idBy kind id) (now (body .entry)) (now (reply .entry)))
         × (now (reply .exit) ≡ callOut (now (table .entry)) registered (heardBy kind) (idBy kind id) (now (body .entry)) (now (reply .entry))) ⌝ }
+    ensures { λ _. ⌜ DevicePromises ⌝ }
 {
     let heard = heard_by(kind);
     let heard_id = id_by(kind, id);

@@ -14,9 +14,10 @@ use Rattle.table_rules.specs.Rules.{readRule}
 use Rattle.control_table.proofs.Theorems.{read-short}
 use Rattle.instructions.proofs.Options.{pick, each-option}
 use Rattle.reactions.proofs.Every.{every}
+use Rattle.device.proofs.Replies.{to-whomever}
 use Rattle.instructions.specs.Instructions.{Effect, ping, read, write, regWrite, action}
-use Rattle.reactions.specs.Reactions.{Voice, silent, speaks, ownId, reaction}
-use Rattle.device.specs.Device.{replyBy, Carried, carried, carryOut}
+use Rattle.reactions.specs.Reactions.{Voice, silent, speaks, ownId, Reaction, reaction}
+use Rattle.device.specs.Device.{replyBy, heeded, carryOut}
 use Rattle.status.specs.Status.{silence}
 use Rattle.instructions.specs.declared.RegisteredWrite.{RegisteredWrite}
 use Rattle.status.specs.declared.Reply.{Reply}
@@ -60,10 +61,12 @@ module _ (table : List ℕ) (w : RegisteredWrite) (sized : length table ≡ tabl
   unfolding action
   action-small = pick Small (eqb (w .count) 0) _ _ (none-small _ refl) (write-small _ _ _ _)
 
-  reaction-small : (heard : Heard) (all : Bool) (body : List ℕ) → Small (reaction heard all table w body .effect)
-  reaction-small =
-      every Small table w (λ error. none-small _ refl) (none-small _ refl) ping-small read-small (write-small table w) reg-write-small action-small
-      (none-small _ refl) (each-option Small table w (λ keeps. none-small _ refl) (none-small _ refl))
+  heeded-small : (heard : Heard) (id : ℕ) (body : List ℕ) → Small (heeded table w heard id body .effect)
+  heeded-small heard id body =
+      to-whomever table w heard id body (λ (r : Reaction). Small (r .effect))
+      (λ all. every (λ acting. Small) table w (λ error le. none-small _ refl) (none-small _ refl) ping-small read-small (write-small table w) reg-write-small action-small
+      (none-small _ refl) (each-option Small table w (λ keeps. none-small _ refl) (none-small _ refl)) heard all body)
+      (none-small _ refl)
 
   -- the reply can be sent
   module _ (own : ownId table ≤ 252) where
@@ -79,14 +82,6 @@ module _ (table : List ℕ) (w : RegisteredWrite) (sized : length table ≡ tabl
     by-voice silent e s = silence-sendable
     by-voice (speaks least slot) e s = pick-sendable (leb least (getD table 68 0)) _ silence (record { known = own; short = s }) silence-sendable
 
-    heeded : (heard : Heard) (all : Bool) (body : List ℕ) → Sendable (carried table (reaction heard all table w body) .reply)
-    heeded heard all body = by-voice (reaction heard all table w body .voice) (reaction heard all table w body .effect) (reaction-small heard all body)
-
-    pick-carried : (b : Bool) (x y : Carried) → Sendable (x .reply) → Sendable (y .reply) → Sendable (cond b x y .reply)
-    pick-carried true x y f g = f
-    pick-carried false x y f g = g
-
     pub sendable : (heard : Heard) (id : ℕ) (body : List ℕ) → Sendable (carryOut table w heard id body .reply)
-    unfolding carryOut
     sendable heard id body =
-        pick-carried (eqb id (ownId table)) _ _ (heeded heard false body) (pick-carried (eqb id 254) _ _ (heeded heard true body) silence-sendable)
+        by-voice (heeded table w heard id body .voice) (heeded table w heard id body .effect) (heeded-small heard id body)

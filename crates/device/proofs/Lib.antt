@@ -3,3 +3,5 @@ pub mod Bounds
 pub mod Calls
 pub mod Stays
 pub mod Unheard
+pub mod Demand1
+pub mod Promises

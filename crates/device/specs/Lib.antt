@@ -2,3 +2,5 @@ pub mod Device
 pub mod Answers
 pub mod Steps
 pub mod Stays
+pub mod Demand1
+pub mod Promises

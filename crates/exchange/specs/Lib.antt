@@ -1,3 +1,4 @@
 pub mod Exchange
 pub mod OnlyPackets
+pub mod Demand1
 pub mod Promises

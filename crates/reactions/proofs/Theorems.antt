@@ -49,7 +49,7 @@ module _ (table : List ℕ) (w : RegisteredWrite) (sized : length table ≡ tabl
   refused-reg-write address bytes = by-rule (writeRule table address bytes)
     where
       by-rule : (r : Option ℕ)
-          → Refused false (leaving (unlessRefused r table (put table registeredInstruction 1)) (keptBy r w (registering address bytes)) (errorOf r) [])
+          → Refused false (leaving (unlessRefused r table (put table registeredInstruction 1)) (keptBy r w (registering table address bytes)) (errorOf r) [])
       by-rule none = good _ _ refl
       by-rule (some number) = stays _ _
 

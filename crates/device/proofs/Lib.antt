@@ -4,4 +4,5 @@ pub mod Calls
 pub mod Stays
 pub mod Unheard
 pub mod Demand1
+pub mod Written
 pub mod Promises

@@ -3,4 +3,5 @@ pub mod Answers
 pub mod Steps
 pub mod Stays
 pub mod Demand1
+pub mod Written
 pub mod Promises

@@ -34,7 +34,7 @@ module _ (table : List ℕ) (w : RegisteredWrite) (packet body out : List ℕ) w
           }
 
   module _ (n slot : ℕ) (e : exchangeAnswer table w packet body out ≡ sent n slot) where
-    passed : (bodyRefusal table w packet body out ≡ none) × (callAnswer table w Packet (heardOf packet .id) (heardOf packet .body) out ≡ sent n slot)
+    pub passed : (bodyRefusal table w packet body out ≡ none) × (callAnswer table w Packet (heardOf packet .id) (heardOf packet .body) out ≡ sent n slot)
     passed = passed-on (bodyRefusal table w packet body out) _ n slot e
 
     refused-instruction : ¬ (packetError table w packet ≡ 0) → LeftByRefusal table w packet body out

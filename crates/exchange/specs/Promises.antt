@@ -1,7 +1,9 @@
 -- What the call on a packet as received keeps to, over all calls.
 use Rattle.exchange.specs.OnlyPackets.{OnlyPackets}
 use Rattle.exchange.specs.Demand1.{Demand1}
+use Rattle.exchange.specs.Written.{StatusWritten}
 
 pub record ExchangePromises : Type 0 where
   pub only-packets : OnlyPackets
   pub demand-1 : Demand1
+  pub status-written : StatusWritten

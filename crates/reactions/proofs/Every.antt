@@ -10,7 +10,7 @@ use borrow.Author.Tests.{eqb-true}
 use Rattle.instructions.specs.Instructions.{Effect, refusing, ping, read, write, regWrite, action, reboot, factoryReset}
 use Rattle.instructions.proofs.Options.{pick}
 use Rattle.parameters.specs.Parameters.{wordAt, syncSearch}
-use Rattle.reactions.specs.Reactions.{Reaction, unchanged, ownId, heardUndefined, syncReadBy, syncWriteBy, heardSyncRead, heardSyncWrite, heardInstruction, reaction}
+use Rattle.reactions.specs.Reactions.{Reaction, unchanged, ownId, heardUndefined, byEntry, heardSyncRead, heardSyncWrite, heardInstruction, reaction}
 use Rattle.reactions.specs.Refused.{isAction}
 use Rattle.instructions.specs.declared.RegisteredWrite.{RegisteredWrite}
 use Rattle.parameters.specs.declared.Found.{Found}
@@ -38,20 +38,16 @@ module _ (P : Bool → Effect → Type 0) where
       (writes : (address : ℕ) (bytes : List ℕ) → P false (write table w address bytes))
       (reg-writes : (address : ℕ) (bytes : List ℕ) → P false (regWrite table w address bytes)) (actions : P true (action table w))
       (reboots : P false (reboot table w)) (resets : (option : ℕ) → P false (factoryReset table w option)) where
-    sync-read : (found : Found) (params : List ℕ) → P false (syncReadBy found table w params .effect)
-    sync-read (At slot at) params = reads (wordAt params 0) (wordAt params 2)
-    sync-read Nothing params = idle
-
-    sync-write : (found : Found) (params : List ℕ) → P false (syncWriteBy found table w params .effect)
-    sync-write (At slot at) params = writes _ _
-    sync-write Nothing params = idle
+    by-entry : (found : Found) (act : ℕ → ℕ → Reaction) → ((slot at : ℕ) → P false (act slot at .effect)) → P false (byEntry found table w act .effect)
+    by-entry (At slot at) act f = f slot at
+    by-entry Nothing act f = idle
 
     heard-sync-read : (all : Bool) (params : List ℕ) → P false (heardSyncRead all table w params .effect)
-    heard-sync-read true params = sync-read (syncSearch 1 (ownId table) params) params
+    heard-sync-read true params = by-entry (syncSearch 1 (ownId table) params) _ (λ slot at. reads (wordAt params 0) (wordAt params 2))
     heard-sync-read false params = refusals 0x02 (omega arith)
 
     heard-sync-write : (all : Bool) (params : List ℕ) → P false (heardSyncWrite all table w params .effect)
-    heard-sync-write true params = sync-write (syncSearch (1 + wordAt params 2) (ownId table) params) params
+    heard-sync-write true params = by-entry (syncSearch (1 + wordAt params 2) (ownId table) params) _ (λ slot at. writes _ _)
     heard-sync-write false params = refusals 0x02 (omega arith)
 
     instruction : (i : ℕ) (all : Bool) (params : List ℕ) → P (isAction Packet (i ∷ params)) (heardInstruction i all table w params .effect)

@@ -19,6 +19,7 @@ ghost use Rattle.reader.specs.Records.{saidOn, leftBy, lent, packetOn, records,
 ghost use Rattle.device.specs.Answers.{callAnswer, callRegistered, callTable, callOut};
 ghost use Rattle.device.specs.Promises.{DevicePromises};
 ghost use Rattle.exchange.specs.Exchange.{exchangeAnswer, exchangeRegistered, exchangeTable, exchangeBody, exchangeOut};
+ghost use Rattle.exchange.specs.Stays.{StaysAccepted};
 ghost use Rattle.exchange.specs.Promises.{ExchangePromises};
 ghost use Rattle.numbers.specs.Exported.{exported, exportedRefusal, stepNumbers, deviceNumbers};
 ghost use Rattle.capi.specs.Heard.{heardBy, idBy};
@@ -60,6 +61,7 @@ pub extern "C" fn dxl_unstuff(body: &[u8], out: &mut [u8]) -> i64
 pub extern "C" fn dxl_fresh(table: &mut [u8]) -> i64
     ensures { λ r. ⌜ r ≡ exportedRefusal (inTable (now (table .entry)) none) ⌝ }
     ensures { λ _. ⌜ now (table .exit) ≡ freshOut (now (table .entry)) ⌝ }
+    ensures { λ _. ⌜ StaysAccepted ⌝ }
 {
     numbers::outcome(control_table::fresh(table))
 }
@@ -69,6 +71,7 @@ pub extern "C" fn dxl_fresh(table: &mut [u8]) -> i64
 pub extern "C" fn dxl_measure(table: &mut [u8], position: i32, hardware_error: u8) -> i64
     ensures { λ r. ⌜ r ≡ exportedRefusal (inTable (now (table .entry)) none) ⌝ }
     ensures { λ _. ⌜ now (table .exit) ≡ measureOut (now (table .entry)) position «hardware_error» ⌝ }
+    ensures { λ _. ⌜ StaysAccepted ⌝ }
 {
     numbers::outcome(control_table::measure(table, position, hardware_error))
 }
@@ -145,7 +148,7 @@ pub extern "C" fn dxl_device(
         (callRegistered (now (table .entry)) registered (heardBy kind) (idBy kind id) (now (body .entry)) (now (reply .entry))) ⌝ }
     ensures { λ _. ⌜ (now (table .exit) ≡ callTable (now (table .entry)) registered (heardBy kind) (idBy kind id) (now (body .entry)) (now (reply .entry)))
         × (now (reply .exit) ≡ callOut (now (table .entry)) registered (heardBy kind) (idBy kind id) (now (body .entry)) (now (reply .entry))) ⌝ }
-    ensures { λ _. ⌜ DevicePromises ⌝ }
+    ensures { λ _. ⌜ DevicePromises × StaysAccepted ⌝ }
 {
     let heard = heard_by(kind);
     let heard_id = id_by(kind, id);

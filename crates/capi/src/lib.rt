@@ -7,7 +7,7 @@ use reactions::Heard;
 ghost use mathlib.Core.Path.{_≡_};
 ghost use mathlib.Core.List.{_∷_};
 ghost use mathlib.Core.Option.{none};
-ghost use Rattle.crc16.specs.Crc.{crcFrom};
+ghost use Rattle.crc.specs.Crc.{crcFrom};
 ghost use Rattle.stuffing.specs.Answers.{removalAnswer, removalOut};
 ghost use Rattle.encoder.specs.Encoding.{encodeAnswer, encodeOut};
 ghost use Rattle.table_rules.specs.Outcomes.{inTable};

@@ -11,7 +11,7 @@ use lib.ListN.{length, replicate}
 use borrow.Author.Tests.{eqb-true}
 use Rattle.lists.proofs.Bools.{and-left, and-right}
 use Rattle.reading.specs.Rules.{Verdict, isPacket, isBadChecksum, isWaiting, isNothing}
-use Rattle.crc16.specs.Crc.{reduceIf, shift, shifts, crcByte, crcFrom}
+use Rattle.crc.specs.Crc.{reduceIf, shift, shifts, crcByte, crcFrom}
 use Rattle.stuffing.specs.Stuffing.{stuffAfter, stuff, wellAfter, wellStuffed, unstuffAfter, unstuff}
 use Rattle.packet_front.specs.Front.{lengthOf}
 use Rattle.packet.specs.Packet.{bodyOf, checksumRight}
@@ -19,7 +19,8 @@ use Rattle.packet_front.specs.Begun.{frontAgrees, lengthAgrees}
 use Rattle.packet.specs.Verdict.{verdict}
 use Rattle.encoder.specs.Writing.{withChecksum, packetOf}
 use Rattle.registers.specs.Registers.{registers, permitsBy}
-use Rattle.items.specs.Items.{numberAt, valueAt, bytesOf, put}
+use Rattle.lists.specs.Numbers.{numberAt, bytesOf}
+use Rattle.items.specs.Items.{valueAt, put}
 use Rattle.control_table.specs.Fresh.{freshened}
 use Rattle.registers.specs.Registers.{everyByte}
 use Rattle.table_rules.specs.Rules.{everyTouched, limitsOrdered, goalWithin, writeRule, readRule}

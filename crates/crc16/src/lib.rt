@@ -3,7 +3,7 @@ mod table;
 
 use table::TABLE;
 ghost use mathlib.Core.Path.{_≡_};
-ghost use Rattle.crc16.specs.Crc.{crcFrom};
+ghost use Rattle.crc.specs.Crc.{crcFrom};
 
 // The register after the bytes, from start. The table is bound once, before the loop: a constant array is built anew
 // wherever it is named.

@@ -2,7 +2,7 @@
 use mathlib.Core.List.{List, [], _∷_, _++_}
 use Prim.Native.Nat.{ℕ, _+_, _/_, _%_}
 use lib.ListN.{length}
-use Rattle.crc16.specs.Crc.{crcFrom}
+use Rattle.crc.specs.Crc.{crcFrom}
 use Rattle.stuffing.specs.Stuffing.{stuff}
 use Rattle.packet_front.specs.Front.{header}
 

@@ -1,18 +1,14 @@
--- The numbers in a control table: lowest byte first, four bytes as a signed number in two's complement.
+-- The numbers in a control table: four bytes are a signed number in two's complement.
 use mathlib.Core.Bool.{Bool, true, cond, _&&_}
-use mathlib.Core.List.{List, [], _∷_}
-use Prim.Native.Nat.{ℕ, zero, suc, _+_, _-_, _*_, _/_, _%_, _^_}
+use mathlib.Core.List.{List}
+use Prim.Native.Nat.{ℕ, _-_, _^_}
 use lib.Dec.{ltb, eqb}
 use lib.IntN.{ℤ, pos, negsuc}
-use lib.ListN.{take, drop, getD}
+use lib.ListN.{take, drop}
 use lib.Signed.{leZ}
 use Rattle.lists.specs.Write.{placed}
+use Rattle.lists.specs.Numbers.{numberAt, bytesOf}
 use Rattle.registers.specs.Registers.{Register, Access, readOnly, readWrite}
-
--- the number that n bytes of the table make from `a` on
-unfoldable pub numberAt : List ℕ → ℕ → ℕ → ℕ
-numberAt table a zero = 0
-numberAt table a (suc n) = getD table a 0 + 256 * numberAt table (suc a) n
 
 -- a number of 32 bits as a signed one: `negsuc n` is -(n + 1)
 abbrev pub signed : ℕ → ℤ
@@ -40,11 +36,6 @@ inRange (readWrite low high) value = leZ low value && leZ value high
 
 abbrev pub valueInRange : List ℕ → Register → Bool
 valueInRange table r = inRange (r .access) (valueOf r table)
-
--- the n bytes of a number
-unfoldable pub bytesOf : ℕ → ℕ → List ℕ
-bytesOf zero u = []
-bytesOf (suc n) u = u % 256 ∷ bytesOf n (u / 256)
 
 -- the table with a number in the place of a register
 unfoldable pub put : List ℕ → Register → ℕ → List ℕ

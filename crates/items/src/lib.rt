@@ -2,7 +2,8 @@
 ghost use mathlib.Core.Path.{_≡_};
 ghost use mathlib.Core.List.{[], _∷_};
 ghost use Rattle.registers.specs.Registers.{readWrite};
-ghost use Rattle.items.specs.Items.{numberAt, signed, unsigned, inRange};
+ghost use Rattle.lists.specs.Numbers.{numberAt};
+ghost use Rattle.items.specs.Items.{signed, unsigned, inRange};
 
 // Four bytes, lowest first, as a signed number in two's complement.
 pub fn signed_of(a: u8, b: u8, c: u8, d: u8) -> i32

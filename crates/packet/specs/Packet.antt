@@ -5,7 +5,7 @@ use mathlib.Core.List.{List}
 use Prim.Native.Nat.{ℕ, _+_, _-_, _≤_}
 use lib.Dec.{eqb}
 use lib.ListN.{length, take, drop, getD}
-use Rattle.crc16.specs.Crc.{crcFrom}
+use Rattle.crc.specs.Crc.{crcFrom}
 use Rattle.stuffing.specs.Stuffing.{wellStuffed}
 use Rattle.packet_front.specs.Front.{word, header, goodId, idOf, lengthOf}
 

@@ -6,7 +6,7 @@ ghost use mathlib.Core.Path.{_≡_};
 ghost use mathlib.Core.List.{_++_};
 ghost use Prim.Native.Nat.{_≤_};
 ghost use lib.ListN.{length, take, drop};
-ghost use Rattle.crc16.specs.Crc.{crcFrom};
+ghost use Rattle.crc.specs.Crc.{crcFrom};
 ghost use Rattle.stuffing.specs.Answers.{unstuffedAnswer, removalAnswer, removalOut};
 ghost use Rattle.packet_front.specs.Front.{header};
 ghost use Rattle.packet_front.specs.Begun.{lacks};

@@ -9,7 +9,7 @@ use borrow.Author.Tests.{leb-true, eq-eqb, ne-eqb}
 use lib.ListN.{length, take, drop, getD, set}
 use lib.Seq.{drop-cons, sets}
 use Rattle.registers.specs.Registers.{Register, registers, tableSize, endOf, deviceId, baudCode, writable}
-use Rattle.items.specs.Items.{bytesOf}
+use Rattle.lists.specs.Numbers.{bytesOf}
 use Rattle.control_table.specs.Fresh.{freshened}
 use Rattle.table_rules.specs.Rules.{stored}
 use Rattle.control_table.proofs.Put.{put-sets, put-length, put-byte}

@@ -15,7 +15,6 @@ use Rattle.lists.specs.Write.{overwritten, placed}
 use Rattle.lists.proofs.Parts.{take-least}
 use Rattle.stuffing.specs.Stuffing.{mark, stuff, marksAfter}
 use Rattle.stuffing.proofs.Laws.{length-stuff}
-use Rattle.encoder.specs.Writing.{packetOf}
 use Rattle.encoder.proofs.Writing.{packet-length}
 use Rattle.encoder.specs.Encoding.{encodedAnswer, encodeRefusal, encodeAnswer, encodeOut}
 use Rattle.encoder.specs.declared.Encoded.{Encoded}

@@ -11,8 +11,8 @@ use lib.Dec.{T, eqb, eqb→eq}
 use lib.ListN.{getD}
 use Rattle.lists.proofs.Below.{allBelow, below}
 use Rattle.lists.proofs.Xor.{xor-assoc, xor-shl}
-use Rattle.crc16.specs.Crc.{reduceIf, shift, shifts, crcByte}
-use Rattle.crc16.proofs.Linear.{shifts-xor}
+use Rattle.crc.specs.Crc.{reduceIf, shift, shifts, crcByte}
+use Rattle.crc.proofs.Linear.{shifts-xor}
 
 -- nothing leaves a register whose bit 15 is 0
 shift-low : (c : ℕ) → c < 2 ^ 15 → shift c ≡ c * 2

@@ -10,8 +10,8 @@ use lib.Bits.{bitXor, xor-lt}
 use lib.ListN.{length, getD, drop, drop-of-length-le}
 use lib.Seq.{drop-cons}
 use Rattle.lists.proofs.Xor.{bit-lt}
-use Rattle.crc16.specs.Crc.{polynomial, shift, shifts, crcByte, crcFrom}
-use Rattle.crc16.proofs.Linear.{shift-flat}
+use Rattle.crc.specs.Crc.{polynomial, shift, shifts, crcByte, crcFrom}
+use Rattle.crc.proofs.Linear.{shift-flat}
 
 -- going on over y from the sum of x is the sum of both joined; either may be empty
 pub crc-append : (start : ℕ) (x y : List ℕ) → crcFrom (crcFrom start x) y ≡ crcFrom start (x ++ y)

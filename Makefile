@@ -106,7 +106,7 @@ build/c/board: $(BOARD_SOURCES) examples/pty_line.h include/mednukals.h build/li
 
 # The board again, with a library that refuses what the test asks it to.
 comma := ,
-REFUSING := encode unstuff feed gap fresh measure device
+REFUSING := encode unstuff reader_feed reader_gap fresh measure device
 build/c/refusing_board: tests/c/refusing.c build/c/board
 	@$(CC) $(WARNINGS) -O2 -Iinclude -o $@ $(REFUSING:%=-Wl$(comma)--wrap=dxl_%) $(BOARD_SOURCES) $< build/lib/libmednukals.a \
 	    || $(call failed,compiling the refusing board)

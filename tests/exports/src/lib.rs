@@ -29,9 +29,17 @@ pub struct Answer {
     pub registered: Registered,
 }
 
+/// A reader's record: the held bytes stand at the start.
+#[repr(C)]
+#[derive(Clone, PartialEq, Eq, Debug)]
+pub struct Reader {
+    pub bytes: [u8; 1030],
+    pub count: usize,
+}
+
 mod raw {
     use super::test::{CoreStep, ValueStep};
-    use super::{Answer, Registered, Step};
+    use super::{Answer, Reader, Registered, Step};
 
     #[repr(C)]
     pub struct Verdict {
@@ -55,6 +63,8 @@ mod raw {
 
         pub fn dxl_feed(held: *mut u8, count: *mut usize, chunk: *const u8, n: usize, packet: *mut u8) -> Step;
         pub fn dxl_gap(held: *mut u8, count: *mut usize, packet: *mut u8) -> Step;
+        pub fn dxl_reader_feed(reader: *mut Reader, chunk: *const u8, n: usize, packet: *mut u8) -> Step;
+        pub fn dxl_reader_gap(reader: *mut Reader, packet: *mut u8) -> Step;
 
         pub fn dxl_fresh(table: *mut u8, n: usize) -> i64;
         pub fn dxl_measure(table: *mut u8, n: usize, position: i32, hardware_error: u8) -> i64;
@@ -110,6 +120,14 @@ pub fn feed(held: &mut [u8; 1030], count: &mut usize, chunk: &[u8], packet: &mut
 
 pub fn gap(held: &mut [u8; 1030], count: &mut usize, packet: &mut [u8; 1031]) -> Step {
     unsafe { raw::dxl_gap(held.as_mut_ptr(), count, packet.as_mut_ptr()) }
+}
+
+pub fn reader_feed(reader: &mut Reader, chunk: &[u8], packet: &mut [u8; 1031]) -> Step {
+    unsafe { raw::dxl_reader_feed(reader, chunk.as_ptr(), chunk.len(), packet.as_mut_ptr()) }
+}
+
+pub fn reader_gap(reader: &mut Reader, packet: &mut [u8; 1031]) -> Step {
+    unsafe { raw::dxl_reader_gap(reader, packet.as_mut_ptr()) }
 }
 
 pub fn fresh(table: &mut [u8]) -> i64 {

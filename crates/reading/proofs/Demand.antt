@@ -21,7 +21,7 @@ use Rattle.reading.proofs.Split.{before-append, before-le, from, packet
 
 module _ (R : Rules) (L : Laws R) where
   -- ---- the reader after the calls
-  fresh : (cs : List Call) → AtStart (model R) [] cs → after (model R) [] cs ≡ []
+  pub fresh : (cs : List Call) → AtStart (model R) [] cs → after (model R) [] cs ≡ []
   unfolding after
   fresh cs (inl e) = rw e
   fresh cs (inr e) = rw (e .1, after-append R L [] (e .0) (gap ∷ [])) (gap-silent R L (after (model R) [] (e .0)) (e .2))

@@ -1,7 +1,7 @@
 -- The supposition of demand 3 is what the test says; without noise it holds.
 use mathlib.Core.Path.{_≡_, refl, sym, ap, _∙_}
 use mathlib.Core.Bool.{Bool, true, false, _||_}
-use mathlib.Core.List.{List, [], _∷_, _++_}
+use mathlib.Core.List.{List, [], _∷_, _++_, List·Memᴰ, List·Memᴰ·head, List·Memᴰ·tail}
 use Prim.Native.Nat.{ℕ, _<_}
 use native.Mathlib.Omega.{arith}
 use borrow.Author.Tests.{ltb-true, lt-ltb}
@@ -10,7 +10,7 @@ use lib.ListN.{length, take, drop, take-append-drop}
 use lib.Seq.{length-take-le}
 use Rattle.reading.specs.Rules.{Verdict, isPacket, isBadChecksum, isWaiting, isNothing, Rules, Laws}
 use Rattle.reading.specs.Promise.{NoneAcross}
-use Rattle.reading.specs.Across.{WithoutNoise, longerThan, reachesAcross, AcrossDecided}
+use Rattle.reading.specs.Across.{WithoutNoise, NoneWithout, longerThan, reachesAcross, AcrossDecided}
 
 or-false : (a b : Bool) → (a || b) ≡ false → (a ≡ false) × (b ≡ false)
 or-false false b e = (refl, e)
@@ -21,6 +21,18 @@ neither a b e f = rw (e, f)
 
 pub without-noise : (R : Rules) → WithoutNoise R
 without-noise R beyond x y z e a = absurd (omega arith)
+
+-- what starts in the noise starts with a byte of the noise
+starts-in : (noise x beyond t : List ℕ) (b : ℕ) → noise ++ beyond ≡ x ++ (b ∷ t) → length x < length noise → List·Memᴰ b noise
+starts-in [] x beyond t b e h = absurd (omega arith)
+starts-in (d ∷ noise) [] beyond t b e h = let i : b ≡ d = cc in List·Memᴰ·head i
+starts-in (d ∷ noise) (a ∷ x) beyond t b e h = List·Memᴰ·tail (starts-in noise x beyond t b (cc) (omega arith))
+
+pub none-without : (R : Rules) (start : ℕ) → ((w : List ℕ) → R .WellFormed w → (t : List ℕ) × (w ≡ start ∷ t))
+    → NoneWithout R start
+none-without R start begins noise beyond absent x y z e a c w =
+    let s = begins y w in
+    absent (starts-in noise x beyond (s .0 ++ z) start (e ∙ ap (λ (l : List ℕ). x ++ (l ++ z)) (s .1)) a)
 
 module _ (R : Rules) (L : Laws R) (beyond : List ℕ) where
   -- ---- where the test fails nothing reaches across

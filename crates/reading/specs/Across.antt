@@ -2,7 +2,7 @@
 -- of which noise it holds. And what is promised of every list of calls, as one record.
 use mathlib.Core.Path.{_≡_}
 use mathlib.Core.Bool.{Bool, false, _||_}
-use mathlib.Core.List.{List, [], _∷_, _++_, map}
+use mathlib.Core.List.{List, [], _∷_, _++_, map, List·Memᴰ}
 use Prim.Native.Nat.{ℕ}
 use lib.Dec.{ltb}
 use lib.ListN.{length}
@@ -15,6 +15,10 @@ use Rattle.reading.specs.Promise.{joined, AtStart, since, Finished, AllW
 -- no noise: nothing reaches across
 abbrev pub WithoutNoise : Rules → Type 0
 WithoutNoise R = (beyond : List ℕ) → NoneAcross R [] beyond
+
+-- noise in which the byte that packets begin with does not stand: nothing reaches across
+abbrev pub NoneWithout : Rules → ℕ → Type 0
+NoneWithout R start = (noise beyond : List ℕ) → ¬ List·Memᴰ start noise → NoneAcross R noise beyond
 
 -- a packet of more than n bytes
 abbrev pub longerThan : ℕ → Verdict → Bool

@@ -52,7 +52,7 @@ module _ (R : Rules) (L : Laws R) where
       )
       (gap-then (after (model R) h (since chunks (f .0))) (r .0) (f .2))
 
-  took-calls : (h : List ℕ) (chunks : List (List ℕ)) (g : ℕ)
+  pub took-calls : (h : List ℕ) (chunks : List (List ℕ)) (g : ℕ)
       → took (model R) h (since chunks g) ≡ took (model R) h (feeds chunks)
   took-calls h chunks g =
       rw (

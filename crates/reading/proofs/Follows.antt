@@ -40,7 +40,7 @@ module _ (R : Rules) (M : AnyReader) (F : Follows R M) where
       (follows-given (M .next x c) (call R h c .held) cs (n .0) (n .1 ∙ ap (λ (k : List ℕ). call R k c .held) e))
 
   -- what a call answers after other calls
-  follows-answer : (x : M .State) (h : List ℕ) (cs : List Call) (c : Call) → F .Legal x → F .held x ≡ h
+  pub follows-answer : (x : M .State) (h : List ℕ) (cs : List Call) (c : Call) → F .Legal x → F .held x ≡ h
       → M .answer (after M x cs) c ≡ call R (after (model R) h cs) c .answer
   follows-answer x h cs c l e =
       let n = follows-after x h cs l e in

@@ -8,9 +8,9 @@ use lib.Dec.{ltb}
 use lib.ListN.{length}
 use Rattle.reading.specs.Rules.{Verdict, isPacket, isBadChecksum, isWaiting, isNothing, Rules}
 use Rattle.reading.specs.Reading.{packet}
-use Rattle.reading.specs.Calls.{Call, FewestRule, HeldBound, FinishedEmpty}
+use Rattle.reading.specs.Calls.{Call, gap, FewestRule, HeldBound, FinishedEmpty}
 use Rattle.reading.specs.Lists.{AnyReader, model, after, took, given}
-use Rattle.reading.specs.Promise.{joined, AtStart, since, Finished, AllWellFormed, NoneAcross, Demand3}
+use Rattle.reading.specs.Promise.{joined, EndsSilent, AtStart, since, Finished, AllWellFormed, NoneAcross, Demand3}
 
 -- no noise: nothing reaches across
 abbrev pub WithoutNoise : Rules → Type 0
@@ -51,10 +51,23 @@ CleanLine R M =
     → (took M (after M x earlier) (since chunks g) ≡ joined packets)
     × (given M (after M x earlier) (since chunks g) ≡ map packet packets)
 
+-- Such a list of calls, for any packets: each is one chunk, and one gap call follows. It finishes the gap, and the reader is at
+-- a start again.
+pub record OnePerChunk (R : Rules) (M : AnyReader) (x : M .State) (packets : List (List ℕ)) : Type 0 where
+  pub all-taken : took M x (since packets 1) ≡ joined packets
+  pub all-given : given M x (since packets 1) ≡ map packet packets
+  pub finished : Finished M x packets 1
+  pub start-again : EndsSilent M x (since packets 1) gap
+
+abbrev pub PacketByPacket : Rules → AnyReader → Type 0
+PacketByPacket R M =
+    (x : M .State) → M .Fresh x → (packets : List (List ℕ)) → AllWellFormed R packets → OnePerChunk R M x packets
+
 -- what is promised of every list of calls on a reader M that goes by the rules R
 pub record CallPromises (R : Rules) (M : AnyReader) : Type 0 where
   pub demand-3 : Demand3 R M
   pub clean-line : CleanLine R M
+  pub packet-by-packet : PacketByPacket R M
   pub without-noise : WithoutNoise R
   pub across-decided : AcrossDecided R
   pub fewest-rule : FewestRule R

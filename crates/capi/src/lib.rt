@@ -18,6 +18,7 @@ ghost use Rattle.reader.specs.Records.{saidOn, leftBy, lent, packetOn, ReaderPr
 ghost use Rattle.device.specs.Answers.{callAnswer, callRegistered, callTable, callOut};
 ghost use Rattle.device.specs.Stays.{StaysAccepted};
 ghost use Rattle.exchange.specs.Exchange.{exchangeAnswer, exchangeRegistered, exchangeTable, exchangeBody, exchangeOut};
+ghost use Rattle.cases.specs.Cases.{CasesHold};
 ghost use Rattle.numbers.specs.Exported.{exported, exportedRefusal, stepNumbers, deviceNumbers};
 ghost use Rattle.capi.specs.Heard.{heardBy, idBy};
 
@@ -167,6 +168,7 @@ pub extern "C" fn dxl_exchange(
     ensures { λ _. ⌜ (now (table .exit) ≡ exchangeTable (now (table .entry)) registered (now (packet .entry)) (now (body .entry)) (now (reply .entry)))
         × (now (body .exit) ≡ exchangeBody (now (table .entry)) registered (now (packet .entry)) (now (body .entry)) (now (reply .entry)))
         × (now (reply .exit) ≡ exchangeOut (now (table .entry)) registered (now (packet .entry)) (now (body .entry)) (now (reply .entry))) ⌝ }
+    ensures { λ _. ⌜ CasesHold ⌝ }
 {
     numbers::answered(exchange::answer(table, registered, packet, body, reply))
 }

@@ -32,7 +32,7 @@ use Rattle.reactions.specs.Reactions.{heardInstruction}
 use Rattle.device.specs.Device.{carryOut}
 use Rattle.status.specs.Status.{replyBytes}
 use Rattle.instructions.specs.declared.RegisteredWrite.{RegisteredWrite}
-use Rattle.cases.specs.Cases.{Case, packet, stuffing, exchange, apart, across, carriedOut, Claim, table}
+use Rattle.cases.specs.Cases.{Case, packet, stuffing, exchange, apart, across, carriedOut, Claim, table, CasesHold}
 
 -- ---- equality as a test
 
@@ -129,6 +129,6 @@ each (d ∷ cs) e c m =
     (λ i. each cs (and-right (right d) (allRight cs) e) c i) (List·Memᴰ·cases-cons m)
 
 -- the test is computed here
-pub cases-hold : (c : Case) → List·Memᴰ c table → Claim c
+pub cases-hold : CasesHold
 unfolding reachesAcross reduceIf shift shifts crcByte crcFrom stuffAfter wellAfter unstuffAfter lengthOf bodyOf checksumRight withChecksum packetOf frontAgrees lengthAgrees verdict registers permitsBy numberAt valueAt bytesOf put freshened everyByte everyTouched limitsOrdered goalWithin writeRule readRule read write heardInstruction carryOut
 cases-hold = each table refl

@@ -1,7 +1,7 @@
 -- The worked examples that are proved. Most are printed in the maker's pages.
 use mathlib.Core.Path.{_≡_}
 use mathlib.Core.Bool.{true}
-use mathlib.Core.List.{List, [], _∷_}
+use mathlib.Core.List.{List, [], _∷_, List·Memᴰ}
 use Prim.Native.Nat.{ℕ}
 use lib.IntN.{pos}
 use lib.ListN.{length, take, drop}
@@ -108,3 +108,6 @@ table =
     ∷ across lacksFF pingTo1
     ∷ across (take 1 pingTo1) (drop 1 pingTo1)
     ∷ []
+
+abbrev pub CasesHold : Type 0
+CasesHold = (c : Case) → List·Memᴰ c table → Claim c

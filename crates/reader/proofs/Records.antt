@@ -80,11 +80,12 @@ module _ (r : Reader) (c : Call) (h : r .count ≤ 1030) where
 
 -- ---- lists of calls
 
-pub follows : Follows protocol2 records
+abbrev Legal : Reader → Type 0
+Legal r = r .count ≤ 1030
+
+pub follows : Follows protocol2 records Legal heldIn
 follows =
     record {
-      Legal = λ r. r .count ≤ 1030;
-      held = heldIn;
       fresh = λ r e. (rw e (omega arith), rw e);
       same-taken =
           λ r c h.
@@ -103,7 +104,7 @@ never-refused : NeverRefused
 unfolding follows
 never-refused r e cs c =
     let f = follows .fresh r e in
-    let n = follows-after protocol2 records follows r [] cs (f .0) (f .1) in
+    let n = follows-after protocol2 records Legal heldIn follows r [] cs (f .0) (f .1) in
     let x = after records r cs in
     ap (λ (s : Said). s .refusal) (said-told x c (n .0))
     ∙ refusal-told x c (n .0) (call protocol2 (heldIn x) c .answer) (call protocol2 (heldIn x) c .taken)
@@ -134,7 +135,8 @@ followed-by-1030 s = (λ h. omega arith, λ h. omega arith)
 pub reader-promises : ReaderPromises
 reader-promises =
     record {
-      calls = call-promises protocol2 laws records follows;
+      follows = follows;
+      calls = call-promises protocol2 laws records Legal heldIn follows;
       never-refused = never-refused;
       followed-by-1030 = followed-by-1030;
       none-without-ff = none-without-ff;

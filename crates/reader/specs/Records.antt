@@ -10,7 +10,7 @@ use lib.ListN.{length, take}
 use Rattle.lists.specs.Answer.{unlessRefused}
 use Rattle.reading.specs.Reading.{Event, packet, badChecksum}
 use Rattle.reading.specs.Calls.{Call, call}
-use Rattle.reading.specs.Lists.{AnyReader, after}
+use Rattle.reading.specs.Lists.{AnyReader, after, Follows}
 use Rattle.reading.specs.Promise.{Followed}
 use Rattle.reading.specs.Across.{NoneWithout, CallPromises}
 use Rattle.packet_front.specs.Front.{idOf}
@@ -71,7 +71,9 @@ FollowedBy1030 = (s : List ℕ) → (Followed protocol2 s → 1030 ≤ length s)
 
 -- what is promised of every list of calls on the records
 pub record ReaderPromises : Type 0 where
-  -- demand 3 with what it stands on, by the rules of Protocol 2.0
+  -- a record that holds at most 1,030 bytes keeps to the rules of Protocol 2.0
+  pub follows : Follows protocol2 records (λ r. r .count ≤ 1030) heldIn
+  -- demand 3, with what holds it in place
   pub calls : CallPromises protocol2 records
   pub never-refused : NeverRefused
   pub followed-by-1030 : FollowedBy1030

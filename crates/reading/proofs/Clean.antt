@@ -100,25 +100,25 @@ module _ (R : Rules) (L : Laws R) where
     all-given : given (model R) [] (since packets 1) ≡ map packet packets
     all-given = clean packets 1 packets good all-taken (0, omega arith, gap-silent)
 
-  module _ (M : AnyReader) (F : Follows R M) where
+  module _ (M : AnyReader) (Legal : M .State → Type 0) (held : M .State → List ℕ) (F : Follows R M Legal held) where
     clean-line : CleanLine R M
     clean-line x is-fresh earlier start chunks g packets good is f =
         let s = F .fresh x is-fresh in
-        let n = follows-after R M F x [] earlier (s .0) (s .1) in
+        let n = follows-after R M Legal held F x [] earlier (s .0) (s .1) in
         let y = after M x earlier in
         let h = n .1 ∙ fresh R L earlier start in (
-          follows-took R M F y [] (since chunks g) (n .0) h ∙ is,
-          follows-given R M F y [] (since chunks g) (n .0) h ∙ clean chunks g packets good is f,
+          follows-took R M Legal held F y [] (since chunks g) (n .0) h ∙ is,
+          follows-given R M Legal held F y [] (since chunks g) (n .0) h ∙ clean chunks g packets good is f,
         )
 
     packet-by-packet : PacketByPacket R M
     packet-by-packet x is-fresh packets good =
         let s = F .fresh x is-fresh in
         let one = since packets 1 in
-        let a = follows-answer R M F x [] (since packets 0) gap (s .0) (s .1) ∙ gap-silent packets good in
+        let a = follows-answer R M Legal held F x [] (since packets 0) gap (s .0) (s .1) ∙ gap-silent packets good in
         record {
-          all-taken = follows-took R M F x [] one (s .0) (s .1) ∙ all-taken packets good;
-          all-given = follows-given R M F x [] one (s .0) (s .1) ∙ all-given packets good;
+          all-taken = follows-took R M Legal held F x [] one (s .0) (s .1) ∙ all-taken packets good;
+          all-given = follows-given R M Legal held F x [] one (s .0) (s .1) ∙ all-given packets good;
           finished = (0, omega arith, a);
           start-again = (since packets 0, sym (append-assoc (feeds packets) [] (gap ∷ [])), a);
         }
@@ -126,7 +126,8 @@ module _ (R : Rules) (L : Laws R) where
     pub call-promises : CallPromises R M
     call-promises =
         record {
-          demand-3 = follows-demand R M F L;
+          laws = L;
+          demand-3 = follows-demand R M Legal held F L;
           clean-line = clean-line;
           packet-by-packet = packet-by-packet;
           without-noise = without-noise R;

@@ -6,7 +6,7 @@ use mathlib.Core.List.{List, [], _∷_, _++_, map, List·Memᴰ}
 use Prim.Native.Nat.{ℕ}
 use lib.Dec.{ltb}
 use lib.ListN.{length}
-use Rattle.reading.specs.Rules.{Verdict, isPacket, isBadChecksum, isWaiting, isNothing, Rules}
+use Rattle.reading.specs.Rules.{Verdict, isPacket, isBadChecksum, isWaiting, isNothing, Rules, Laws}
 use Rattle.reading.specs.Reading.{packet}
 use Rattle.reading.specs.Calls.{Call, gap, FewestRule, HeldBound, FinishedEmpty}
 use Rattle.reading.specs.Lists.{AnyReader, model, after, took, given}
@@ -65,6 +65,7 @@ PacketByPacket R M =
 
 -- what is promised of every list of calls on a reader M that goes by the rules R
 pub record CallPromises (R : Rules) (M : AnyReader) : Type 0 where
+  pub laws : Laws R
   pub demand-3 : Demand3 R M
   pub clean-line : CleanLine R M
   pub packet-by-packet : PacketByPacket R M

@@ -40,77 +40,73 @@ def missing_tests(text):
                 yield f"the test {name} of {file} is cited and not there"
 
 
-HEAD = re.compile(r"(?:(?:abbrev|unfoldable|pub) )*(?P<sort>record |data )?(?P<name>[^\s(]+)(?P<rest> .*)?$")
+BEGINS = re.compile(r"(?:(?:abbrev|unfoldable|pub) )*(?P<sort>record |data )?(?P<name>[^\s(]+)")
+USES = re.compile(r"^(?:ghost )?use Rattle·(\w+)(?:·specs)?\.specs\.(\w+)\.\{(.*)\};?$", flags=re.M)
 
 
 def definitions(source):
-    """Name, sort, signature and whole text of each definition in a file of specs/, also of those in a `module _ .. where`."""
-    scopes, found = [0], []
+    """Name, sort, type and whole text of each definition in a file of specs/, also in a `module _ .. where`."""
+    scopes, found, in_type = [0], [], False
     for line in source.splitlines():
-        words = line.strip()
+        words, indent = line.strip(), len(line) - len(line.lstrip())
         if not words or words.startswith(("--", "use ", "pub mod ", "mod ")):
             continue
-        indent = len(line) - len(line.lstrip())
         while indent < scopes[-1]:
             scopes.pop()
         if words.startswith("module "):
             scopes.append(indent + 2)
             continue
-        head = HEAD.match(words)
-        marked = re.match(r"(abbrev|unfoldable|pub|record|data) ", words) or re.match(r"\S+ : ", words)
-        if indent == scopes[-1] and marked:
-            found.append([head["name"], (head["sort"] or "").strip(), [], [], False])
-        if not found:
-            continue
-        name, sort, signature, whole, closed = found[-1]
-        whole.append(words)
-        # a signature goes on until its first clause, that of a record until its `where`
-        closed = closed or (not sort and indent == scopes[-1] and not marked)
-        if not closed:
-            signature.append(words)
-        found[-1][4] = closed or (bool(sort) and words.endswith("where"))
-    return [(name, sort, " ".join(signature), " ".join(whole)) for name, sort, signature, whole, _ in found]
+        if indent == scopes[-1]:
+            # a definition begins with its type; its clauses stand below it, and begin with its name alone
+            in_type = bool(re.match(r"(abbrev|unfoldable|pub|record|data) |\S+ : ", words))
+            if in_type:
+                head = BEGINS.match(words)
+                found.append({"name": head["name"], "sort": head["sort"], "type": "", "text": ""})
+        found[-1]["text"] += " " + words
+        if in_type:
+            found[-1]["type"] += " " + words
+            in_type = not words.endswith(" where")
+    return found
 
 
-def imported(source, crate):
+def brought_in(source):
     """What each name that a file brings in from some specs/ stands for: the crate, the file and the name there."""
     names = {}
-    for home, own, file, items in re.findall(r"^(?:ghost )?use Rattle·(\w+?)(·specs)?\.?\.?specs\.(\w+)\.\{(.*)\}", source, flags=re.M):
+    for crate, file, items in USES.findall(source):
         for item in items.split(", "):
             name, _, other = item.partition(" as ")
-            names[other or name] = (home, file, name)
+            names[other or name] = (crate, file, name)
     return names
 
 
-def words_of(text):
-    return re.findall(r"[^\s(){},;.]+", text)
+def named_in(text, scope):
+    return [scope[word] for word in re.findall(r"[^\s(){},;.]+", text) if word in scope]
 
 
 def unpromised():
-    """The statements in specs/ that no contract leads to."""
-    texts, statements, scopes = {}, {}, {}
+    """The statements in specs/, whose types end in `Type 0` or `Type 1`, that no contract leads to."""
+    named, statements = {}, {}
     for path in sorted(Path("crates").glob("*/specs/*.antt")):
-        crate, file, source = path.parts[1], path.stem, path.read_text(encoding="utf-8")
+        source = path.read_text(encoding="utf-8")
         own = definitions(source)
-        scopes[crate, file] = imported(source, crate) | {name: (crate, file, name) for name, *_ in own}
-        for name, sort, signature, whole in own:
-            texts[crate, file, name] = texts.get((crate, file, name), "") + " " + whole
-            if sort != "data" and re.search(r"\bType [01](?: where)?$", signature):
-                statements[crate, file, name] = path
-    led_to, open_ends = set(), []
+        place = {d["name"]: (path.parts[1], path.stem, d["name"]) for d in own}
+        scope = brought_in(source) | place
+        for d in own:
+            named[place[d["name"]]] = named_in(d["text"], scope)
+            if d["sort"] != "data " and re.search(r" Type [01]( where)?$", d["type"]):
+                statements[place[d["name"]]] = path
+    ahead, led_to = [], set()
     for path in sorted(Path("crates").glob("*/src/**/*.rt")):
         source = path.read_text(encoding="utf-8")
-        scope = imported(source, path.parts[1])
         for clause in re.findall(r"\bensures \{(.*?)⌝ \}", source, flags=re.S):
-            open_ends += [scope[word] for word in words_of(clause) if word in scope]
-    while open_ends:
-        place = open_ends.pop()
-        if place not in led_to and place in texts:
+            ahead += named_in(clause, brought_in(source))
+    while ahead:
+        place = ahead.pop()
+        if place not in led_to:
             led_to.add(place)
-            scope = scopes[place[:2]]
-            open_ends += [scope[word] for word in words_of(texts[place]) if word in scope]
+            ahead += named.get(place, [])
     for place in sorted(statements.keys() - led_to):
-        yield f"the statement {place[2]} in {statements[place]} is promised by no function: no ensures leads to it"
+        yield f"no function promises {place[2]} of {statements[place]}: no ensures leads to it"
 
 
 def main():

@@ -44,7 +44,7 @@ module _ (R : Rules) (L : Laws R) where
   finished-after : (h : List ℕ) (chunks : List (List ℕ)) (g : ℕ) → Finished (model R) h chunks g
       → after (model R) h (since chunks g) ≡ []
   finished-after h chunks g f =
-      let r = gaps-split (f .0) g (f .1) in
+      let r = gaps-split (f .0) g (omega (arith, f .1)) in
       rw (
         r .1,
         ← append-assoc (feeds chunks) (gaps (f .0)) (gap ∷ gaps (r .0)),

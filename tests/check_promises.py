@@ -3,6 +3,7 @@
 Every must-fail edit that the page cites is there, and every edit that is there is cited; every file and test that it cites is
 there too.
 No public function requires anything, and each contract names what it is lent to write as it is at exit.
+Every statement in specs/ is promised: some function's `ensures` names it, or a definition that such a clause leads to.
 """
 import re
 import sys
@@ -39,6 +40,75 @@ def missing_tests(text):
                 yield f"the test {name} of {file} is cited and not there"
 
 
+BEGINS = re.compile(r"(?:(?:abbrev|unfoldable|pub) )*(?P<sort>record |data )?(?P<name>[^\s(]+)")
+USES = re.compile(r"^(?:ghost )?use Rattle·(\w+)(?:·specs)?\.specs\.(\w+)\.\{(.*)\};?$", flags=re.M)
+
+
+def definitions(source):
+    """Name, sort, type and whole text of each definition in a file of specs/, also in a `module _ .. where`."""
+    scopes, found, in_type = [0], [], False
+    for line in source.splitlines():
+        words, indent = line.strip(), len(line) - len(line.lstrip())
+        if not words or words.startswith(("--", "use ", "pub mod ", "mod ")):
+            continue
+        while indent < scopes[-1]:
+            scopes.pop()
+        if words.startswith("module "):
+            scopes.append(indent + 2)
+            continue
+        if indent == scopes[-1]:
+            # a definition begins with its type; its clauses stand below it, and begin with its name alone
+            in_type = bool(re.match(r"(abbrev|unfoldable|pub|record|data) |\S+ : ", words))
+            if in_type:
+                head = BEGINS.match(words)
+                found.append({"name": head["name"], "sort": head["sort"], "type": "", "text": ""})
+        found[-1]["text"] += " " + words
+        if in_type:
+            found[-1]["type"] += " " + words
+            in_type = not words.endswith(" where")
+    return found
+
+
+def brought_in(source):
+    """What each name that a file brings in from some specs/ stands for: the crate, the file and the name there."""
+    names = {}
+    for crate, file, items in USES.findall(source):
+        for item in items.split(", "):
+            name, _, other = item.partition(" as ")
+            names[other or name] = (crate, file, name)
+    return names
+
+
+def named_in(text, scope):
+    return [scope[word] for word in re.findall(r"[^\s(){},;.]+", text) if word in scope]
+
+
+def unpromised():
+    """The statements in specs/, whose types end in `Type 0` or `Type 1`, that no contract leads to."""
+    named, statements = {}, {}
+    for path in sorted(Path("crates").glob("*/specs/*.antt")):
+        source = path.read_text(encoding="utf-8")
+        own = definitions(source)
+        place = {d["name"]: (path.parts[1], path.stem, d["name"]) for d in own}
+        scope = brought_in(source) | place
+        for d in own:
+            named[place[d["name"]]] = named_in(d["text"], scope)
+            if d["sort"] != "data " and re.search(r" Type [01]( where)?$", d["type"]):
+                statements[place[d["name"]]] = path
+    ahead, led_to = [], set()
+    for path in sorted(Path("crates").glob("*/src/**/*.rt")):
+        source = path.read_text(encoding="utf-8")
+        for clause in re.findall(r"\bensures \{(.*?)⌝ \}", source, flags=re.S):
+            ahead += named_in(clause, brought_in(source))
+    while ahead:
+        place = ahead.pop()
+        if place not in led_to:
+            led_to.add(place)
+            ahead += named.get(place, [])
+    for place in sorted(statements.keys() - led_to):
+        yield f"no function promises {place[2]} of {statements[place]}: no ensures leads to it"
+
+
 def main():
     text = PAGE.read_text(encoding="utf-8")
     crates = {path.name for path in Path("crates").iterdir() if path.is_dir()}
@@ -54,6 +124,7 @@ def main():
     faults += [f"the file {file} is cited and not there" for file in sorted(files) if not any((p / file).exists() for p in places)]
     faults += missing_tests(text)
     faults += weak_contracts()
+    faults += unpromised()
     return report("promises", faults, f"{len(edits)} must-fail edits, each cited and there; {len(files)} files cited and there")
 
 

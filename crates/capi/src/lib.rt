@@ -10,14 +10,15 @@ ghost use mathlib.Core.Option.{none};
 ghost use Rattle.crc.specs.Crc.{crcFrom};
 ghost use Rattle.stuffing.specs.Answers.{removalAnswer, removalOut};
 ghost use Rattle.encoder.specs.Encoding.{encodeAnswer, encodeOut};
+ghost use Rattle.encoder.specs.RoundTrip.{RoundTrip};
 ghost use Rattle.table_rules.specs.Outcomes.{inTable};
 ghost use Rattle.control_table.specs.Answers.{freshOut, measureOut};
 ghost use Rattle.reading.specs.Calls.{feed as Call·feed, gap as Call·gap};
-ghost use Rattle.reading.specs.Promise.{Demand3};
-ghost use Rattle.packet.specs.Verdict.{protocol2};
-ghost use Rattle.reader.specs.Records.{saidOn, leftBy, lent, packetOn, records, NeverRefused};
+ghost use Rattle.reader.specs.Records.{saidOn, leftBy, lent, packetOn, ReaderPromises};
 ghost use Rattle.device.specs.Answers.{callAnswer, callRegistered, callTable, callOut};
+ghost use Rattle.device.specs.Stays.{StaysAccepted};
 ghost use Rattle.exchange.specs.Exchange.{exchangeAnswer, exchangeRegistered, exchangeTable, exchangeBody, exchangeOut};
+ghost use Rattle.cases.specs.Cases.{CasesHold};
 ghost use Rattle.numbers.specs.Exported.{exported, exportedRefusal, stepNumbers, deviceNumbers};
 ghost use Rattle.capi.specs.Heard.{heardBy, idBy};
 
@@ -40,6 +41,7 @@ pub extern "C" fn dxl_encode(
 ) -> i64
     ensures { λ r. ⌜ r ≡ exported (encodeAnswer id (instruction ∷ now (params .entry)) (now (out .entry)) at) ⌝ }
     ensures { λ _. ⌜ now (out .exit) ≡ encodeOut id (instruction ∷ now (params .entry)) (now (out .entry)) at ⌝ }
+    ensures { λ _. ⌜ RoundTrip ⌝ }
 {
     numbers::encoded(encoder::encode(id, instruction, params, out, at))
 }
@@ -82,7 +84,7 @@ pub extern "C" fn dxl_feed(
     ensures { λ r. ⌜ r ≡ stepNumbers (saidOn (lent (now (held .entry)) (now (count .entry))) (Call·feed (now (chunk .entry)))) ⌝ }
     ensures { λ _. ⌜ lent (now (held .exit)) (now (count .exit)) ≡ leftBy (lent (now (held .entry)) (now (count .entry))) (Call·feed (now (chunk .entry))) ⌝ }
     ensures { λ _. ⌜ now (packet .exit) ≡ packetOn (lent (now (held .entry)) (now (count .entry))) (Call·feed (now (chunk .entry))) (now (packet .entry)) ⌝ }
-    ensures { λ _. ⌜ Demand3 protocol2 records × NeverRefused ⌝ }
+    ensures { λ _. ⌜ ReaderPromises ⌝ }
 {
     let n = *count;
     let told = reader::feed_into(held, n, chunk, packet);
@@ -100,6 +102,7 @@ pub extern "C" fn dxl_gap(
     ensures { λ r. ⌜ r ≡ stepNumbers (saidOn (lent (now (held .entry)) (now (count .entry))) Call·gap) ⌝ }
     ensures { λ _. ⌜ lent (now (held .exit)) (now (count .exit)) ≡ leftBy (lent (now (held .entry)) (now (count .entry))) Call·gap ⌝ }
     ensures { λ _. ⌜ now (packet .exit) ≡ packetOn (lent (now (held .entry)) (now (count .entry))) Call·gap (now (packet .entry)) ⌝ }
+    ensures { λ _. ⌜ ReaderPromises ⌝ }
 {
     let n = *count;
     let told = reader::gap_into(held, n, packet);
@@ -143,6 +146,7 @@ pub extern "C" fn dxl_device(
         (callRegistered (now (table .entry)) registered (heardBy kind) (idBy kind id) (now (body .entry)) (now (reply .entry))) ⌝ }
     ensures { λ _. ⌜ (now (table .exit) ≡ callTable (now (table .entry)) registered (heardBy kind) (idBy kind id) (now (body .entry)) (now (reply .entry)))
         × (now (reply .exit) ≡ callOut (now (table .entry)) registered (heardBy kind) (idBy kind id) (now (body .entry)) (now (reply .entry))) ⌝ }
+    ensures { λ _. ⌜ StaysAccepted ⌝ }
 {
     let heard = heard_by(kind);
     let heard_id = id_by(kind, id);
@@ -164,6 +168,7 @@ pub extern "C" fn dxl_exchange(
     ensures { λ _. ⌜ (now (table .exit) ≡ exchangeTable (now (table .entry)) registered (now (packet .entry)) (now (body .entry)) (now (reply .entry)))
         × (now (body .exit) ≡ exchangeBody (now (table .entry)) registered (now (packet .entry)) (now (body .entry)) (now (reply .entry)))
         × (now (reply .exit) ≡ exchangeOut (now (table .entry)) registered (now (packet .entry)) (now (body .entry)) (now (reply .entry))) ⌝ }
+    ensures { λ _. ⌜ CasesHold ⌝ }
 {
     numbers::answered(exchange::answer(table, registered, packet, body, reply))
 }

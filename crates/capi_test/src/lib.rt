@@ -11,7 +11,8 @@ ghost use Rattle.lists.specs.Write.{overwritten};
 ghost use Rattle.stuffing.specs.Stuffing.{stuff};
 ghost use Rattle.stuffing.specs.Answers.{checked};
 ghost use Rattle.reading.specs.Calls.{fed};
-ghost use Rattle.packet_front.specs.Begun.{lacks};
+ghost use Rattle.reading.specs.Progress.{Settles};
+ghost use Rattle.packet_front.specs.Begun.{lacks, settledBy};
 ghost use Rattle.packet.specs.Verdict.{verdict, answerFor, protocol2};
 ghost use Rattle.framer.specs.Core.{CoreCall};
 ghost use Rattle.reader.specs.Answer.{saidFor, leftFor};
@@ -48,6 +49,7 @@ pub extern "C" fn dxl_test_stuff(first: u8, rest: &[u8], out: &mut [u8]) -> usiz
 #[no_mangle]
 pub extern "C" fn dxl_test_verdict(segment: &[u8], offset: usize) -> VerdictNumbers
     ensures { λ r. ⌜ r ≡ verdictNumbers (answerFor (verdict (drop offset (now (segment .entry)))) (lacks (drop offset (now (segment .entry))))) ⌝ }
+    ensures { λ _. ⌜ Settles protocol2 settledBy ⌝ }
 {
     match packet::judge(segment, offset) {
         Verdict::Nothing => VerdictNumbers {

@@ -1,7 +1,7 @@
 -- Every case of the table holds: one test, which the checker computes over the whole table, and one law that turns it into
 -- each case's claim.
 use mathlib.Core.Path.{_≡_, refl, sym, ap, ap₂, _∙_, subst}
-use mathlib.Core.Bool.{Bool, true, false, _&&_}
+use mathlib.Core.Bool.{Bool, true, false, not, _&&_}
 use mathlib.Core.List.{List, [], _∷_, List·Memᴰ, List·Memᴰ·cases-cons, List·Memᴰ·not-nil}
 use mathlib.Core.Logic.{⊎-elim}
 use Prim.Native.Nat.{ℕ}
@@ -9,14 +9,17 @@ use native.Mathlib.Omega.{arith}
 use lib.Dec.{eqb}
 use lib.ListN.{length, replicate}
 use borrow.Author.Tests.{eqb-true}
-use Rattle.lists.proofs.Bools.{and-left, and-right}
+use Rattle.lists.proofs.Bools.{and-left, and-right, both-ways}
 use Rattle.reading.specs.Rules.{Verdict, isPacket, isBadChecksum, isWaiting, isNothing}
+use Rattle.reading.specs.Across.{reachesAcross}
+use Rattle.reading.proofs.Across.{across-decided}
 use Rattle.crc.specs.Crc.{reduceIf, shift, shifts, crcByte, crcFrom}
 use Rattle.stuffing.specs.Stuffing.{stuffAfter, stuff, wellAfter, wellStuffed, unstuffAfter, unstuff}
 use Rattle.packet_front.specs.Front.{lengthOf}
 use Rattle.packet.specs.Packet.{bodyOf, checksumRight}
 use Rattle.packet_front.specs.Begun.{frontAgrees, lengthAgrees}
-use Rattle.packet.specs.Verdict.{verdict}
+use Rattle.packet.specs.Verdict.{verdict, protocol2}
+use Rattle.packet.proofs.Laws.{laws}
 use Rattle.encoder.specs.Writing.{withChecksum, packetOf}
 use Rattle.registers.specs.Registers.{registers, permitsBy}
 use Rattle.lists.specs.Numbers.{numberAt, bytesOf}
@@ -30,7 +33,7 @@ use Rattle.reactions.specs.Reactions.{heardInstruction}
 use Rattle.device.specs.Device.{carryOut}
 use Rattle.status.specs.Status.{replyBytes}
 use Rattle.instructions.specs.declared.RegisteredWrite.{RegisteredWrite}
-use Rattle.cases.specs.Cases.{Case, packet, stuffing, exchange, carriedOut, Claim, table}
+use Rattle.cases.specs.Cases.{Case, packet, stuffing, exchange, apart, across, carriedOut, Claim, table, CasesHold}
 
 -- ---- equality as a test
 
@@ -73,6 +76,10 @@ is-dropped w e =
     ∙ ap (λ (b : List ℕ). record { address = 0; count = 0; bytes = b })
     (same-lists (w .bytes) (replicate 8 0) (and-right (eqb (w .count) 0) (same (w .bytes) (replicate 8 0)) r))
 
+fails : (a : Bool) → not a ≡ true → a ≡ false
+fails false e = refl
+fails true e = let z : _≡_ {A = ℕ} 0 1 = cc in absurd (omega arith)
+
 -- ---- the test of a case, and of the table
 
 abbrev right : Case → Bool
@@ -81,6 +88,8 @@ right (stuffing body stuffed) = same (stuff body) stuffed && (wellStuffed stuffe
 right (exchange before bytes status slot after) =
     let c = carriedOut before bytes in
     same (replyBytes (c .reply)) status && (eqb (c .reply .slot) slot && (same (c .table) after && isDropped (c .registered)))
+right (apart noise beyond) = not (reachesAcross protocol2 noise beyond)
+right (across noise beyond) = reachesAcross protocol2 noise beyond
 
 claimed : (c : Case) → right c ≡ true → Claim c
 claimed (packet id body bytes) e =
@@ -106,6 +115,9 @@ claimed (exchange before bytes status slot after) e =
       same-lists (c .table) after (and-left d f q),
       is-dropped (c .registered) (and-right d f q),
     )
+claimed (apart noise beyond) e = across-decided protocol2 laws noise beyond .0 (fails (reachesAcross protocol2 noise beyond) e)
+claimed (across noise beyond) e =
+    λ n. both-ways (reachesAcross protocol2 noise beyond) e (across-decided protocol2 laws noise beyond .1 n)
 
 abbrev allRight : List Case → Bool
 allRight [] = true
@@ -118,6 +130,6 @@ each (d ∷ cs) e c m =
     (λ i. each cs (and-right (right d) (allRight cs) e) c i) (List·Memᴰ·cases-cons m)
 
 -- the test is computed here
-pub cases-hold : (c : Case) → List·Memᴰ c table → Claim c
-unfolding reduceIf shift shifts crcByte crcFrom stuffAfter wellAfter unstuffAfter lengthOf bodyOf checksumRight withChecksum packetOf frontAgrees lengthAgrees verdict registers permitsBy numberAt valueAt bytesOf put freshened everyByte everyTouched limitsOrdered goalWithin writeRule readRule read write heardInstruction carryOut
+pub cases-hold : CasesHold
+unfolding reachesAcross reduceIf shift shifts crcByte crcFrom stuffAfter wellAfter unstuffAfter lengthOf bodyOf checksumRight withChecksum packetOf frontAgrees lengthAgrees verdict registers permitsBy numberAt valueAt bytesOf put freshened everyByte everyTouched limitsOrdered goalWithin writeRule readRule read write heardInstruction carryOut
 cases-hold = each table refl

@@ -1,13 +1,14 @@
 -- The worked examples that are proved. Most are printed in the maker's pages.
 use mathlib.Core.Path.{_≡_}
 use mathlib.Core.Bool.{true}
-use mathlib.Core.List.{List, [], _∷_}
+use mathlib.Core.List.{List, [], _∷_, List·Memᴰ}
 use Prim.Native.Nat.{ℕ}
 use lib.IntN.{pos}
-use lib.ListN.{length}
+use lib.ListN.{length, take, drop}
 use Rattle.reading.specs.Rules.{isPacket}
+use Rattle.reading.specs.Promise.{NoneAcross}
 use Rattle.stuffing.specs.Stuffing.{stuff, wellStuffed, unstuff}
-use Rattle.packet.specs.Verdict.{verdict}
+use Rattle.packet.specs.Verdict.{verdict, protocol2}
 use Rattle.encoder.specs.Writing.{packetOf}
 use Rattle.registers.specs.Registers.{goalPosition}
 use Rattle.items.specs.Items.{put}
@@ -25,6 +26,10 @@ pub data Case : Type 0 where
   stuffing : List ℕ → List ℕ → Case
   -- a control table and a packet as received: the status packet, the reply slot, and the table that is left
   exchange : List ℕ → List ℕ → List ℕ → ℕ → List ℕ → Case
+  -- noise, and the bytes beyond it: no packet reaches across the noise's end, as demand 3 supposes
+  apart : List ℕ → List ℕ → Case
+  -- one does
+  across : List ℕ → List ℕ → Case
 
 -- what a device without a registered write makes of a packet as received
 abbrev pub carriedOut : List ℕ → List ℕ → Carried
@@ -39,6 +44,8 @@ Claim (exchange before bytes status slot after) =
     × (carriedOut before bytes .reply .slot ≡ slot)
     × (carriedOut before bytes .table ≡ after)
     × (carriedOut before bytes .registered ≡ dropped)
+Claim (apart noise beyond) = NoneAcross protocol2 noise beyond
+Claim (across noise beyond) = ¬ NoneAcross protocol2 noise beyond
 
 -- ---- the packets
 
@@ -67,6 +74,10 @@ writeGoal =
 abbrev pub writeStatus : List ℕ
 writeStatus = 0xFF ∷ 0xFF ∷ 0xFD ∷ 0x00 ∷ 0x01 ∷ 0x04 ∷ 0x00 ∷ 0x55 ∷ 0x00 ∷ 0xA1 ∷ 0x0C ∷ []
 
+-- a Read with one parameter but for its last byte, which is FF: the first byte of whatever packet follows makes it whole
+abbrev pub lacksFF : List ℕ
+lacksFF = 0xFF ∷ 0xFF ∷ 0xFD ∷ 0x00 ∷ 0x01 ∷ 0x04 ∷ 0x00 ∷ 0x02 ∷ 0x41 ∷ 0x21 ∷ []
+
 -- ---- the cases
 
 -- a fresh table with 166 measured
@@ -91,4 +102,12 @@ table =
     ∷ exchange freshTable pingToAll pingStatus 1 freshTable
     ∷ exchange at166 readPosition readStatus 0 at166
     ∷ exchange freshTable writeGoal writeStatus 0 (put freshTable goalPosition 512)
+    -- noise that is a packet itself and ends right before one; a packet that ends with the first byte beyond the noise, and one
+    -- that begins with the last byte of the noise
+    ∷ apart pingTo1 pingStatus
+    ∷ across lacksFF pingTo1
+    ∷ across (take 1 pingTo1) (drop 1 pingTo1)
     ∷ []
+
+abbrev pub CasesHold : Type 0
+CasesHold = (c : Case) → List·Memᴰ c table → Claim c

@@ -1,27 +1,31 @@
 -- The records keep to the rules, so demand 3 holds of them; from a fresh one on no call is refused.
 use mathlib.Core.Path.{_≡_, refl, sym, ap, _∙_}
+use mathlib.Core.Bool.{cond}
 use mathlib.Core.List.{List, []}
 use mathlib.Core.Option.{Option, none, some}
 use Prim.Native.Nat.{ℕ, _-_, _≤_}
 use native.Mathlib.Omega.{arith}
-use borrow.Author.Tests.{le-leb}
+use borrow.Author.Tests.{le-leb, eq-eqb}
+use lib.Dec.{eqb}
 use lib.ListN.{length, take, replicate, length-take}
 use lib.Seq.{take-at}
 use Rattle.reading.specs.Reading.{Event, packet, badChecksum}
 use Rattle.reading.specs.Calls.{Call, call}
 use Rattle.reading.specs.Lists.{after, Follows}
-use Rattle.reading.specs.Promise.{Demand3}
 use Rattle.reading.proofs.Held.{held-bound}
-use Rattle.reading.proofs.Follows.{follows-after, follows-demand}
+use Rattle.reading.proofs.Follows.{follows-after}
+use Rattle.reading.proofs.Clean.{call-promises}
+use Rattle.packet_front.specs.Front.{idOf}
 use Rattle.packet.specs.Verdict.{protocol2}
 use Rattle.packet.proofs.Laws.{laws}
+use Rattle.packet.proofs.Begins.{none-without-ff}
 use Rattle.reader.specs.declared.Heard.{Heard}
 use Rattle.reader.specs.declared.Heard.the-variants.{Packet, BadChecksum, Silent, Refused}
 use Rattle.reader.specs.declared.Answer.{Answer}
 use Rattle.reader.specs.declared.Reader.{Reader}
 use Rattle.lists.specs.Write.{padded}
 use Rattle.reader.specs.Answer.{Said, saidBy, said, toldBy, told, leftFor}
-use Rattle.reader.specs.Records.{heldIn, saidOn, leftBy, eventIn, records, NeverRefused, FollowedBy1030}
+use Rattle.reader.specs.Records.{heldIn, saidOn, leftBy, eventIn, records, NeverRefused, FollowedBy1030, ReaderPromises}
 
 -- ---- one call on a record that is not refused
 
@@ -64,7 +68,9 @@ module _ (r : Reader) (c : Call) (h : r .count ≤ 1030) where
   event-told : (a : Option Event) (n k : ℕ) → eventIn (toldBy a n k) ≡ a
   event-told none n k = refl
   event-told (some (packet w)) n k =
-      ap (λ (s : List ℕ). some (packet s)) (take-at w (replicate (1031 - length w) 0) (length w) refl)
+      ap (λ (s : List ℕ). cond (eqb (idOf w) (idOf s)) (some (packet s)) none)
+      (take-at w (replicate (1031 - length w) 0) (length w) refl)
+      ∙ rw (eq-eqb (idOf w) (idOf w) refl)
   event-told (some (badChecksum id)) n k = refl
 
   refusal-told : (a : Option Event) (n k : ℕ) → toldBy a n k .refusal ≡ none
@@ -74,11 +80,12 @@ module _ (r : Reader) (c : Call) (h : r .count ≤ 1030) where
 
 -- ---- lists of calls
 
-pub follows : Follows protocol2 records
+abbrev Legal : Reader → Type 0
+Legal r = r .count ≤ 1030
+
+pub follows : Follows protocol2 records Legal heldIn
 follows =
     record {
-      Legal = λ r. r .count ≤ 1030;
-      held = heldIn;
       fresh = λ r e. (rw e (omega arith), rw e);
       same-taken =
           λ r c h.
@@ -93,14 +100,11 @@ follows =
       same-next = λ r c h. (left-legal r c h, left-held r c h);
     }
 
-pub records-demand : Demand3 protocol2 records
-records-demand = follows-demand protocol2 records follows laws
-
-pub never-refused : NeverRefused
+never-refused : NeverRefused
 unfolding follows
 never-refused r e cs c =
     let f = follows .fresh r e in
-    let n = follows-after protocol2 records follows r [] cs (f .0) (f .1) in
+    let n = follows-after protocol2 records Legal heldIn follows r [] cs (f .0) (f .1) in
     let x = after records r cs in
     ap (λ (s : Said). s .refusal) (said-told x c (n .0))
     ∙ refusal-told x c (n .0) (call protocol2 (heldIn x) c .answer) (call protocol2 (heldIn x) c .taken)
@@ -123,5 +127,17 @@ record-left a bytes r c e b =
     sym (held-by (a .heard) (a .taken) (a .bytes) (a .held)) ∙ ap (λ (s : Said). s .held) e in
     λ i. record { bytes = b i; count = k i }
 
-pub followed-by-1030 : FollowedBy1030
+followed-by-1030 : FollowedBy1030
 followed-by-1030 s = (λ h. omega arith, λ h. omega arith)
+
+-- ---- all that is promised
+
+pub reader-promises : ReaderPromises
+reader-promises =
+    record {
+      follows = follows;
+      calls = call-promises protocol2 laws records Legal heldIn follows;
+      never-refused = never-refused;
+      followed-by-1030 = followed-by-1030;
+      none-without-ff = none-without-ff;
+    }

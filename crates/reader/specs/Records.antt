@@ -1,15 +1,19 @@
 -- The reader's record and the calls on it, and demand 3 over lists of these calls. The contracts of `feed` and `gap`, and of the
 -- exports to C, cite `saidOn` and `leftBy`, of which the reader `records` is made.
 use mathlib.Core.Path.{_≡_}
+use mathlib.Core.Bool.{cond}
 use mathlib.Core.List.{List}
 use mathlib.Core.Option.{Option, none, some}
 use Prim.Native.Nat.{ℕ, _≤_}
+use lib.Dec.{eqb}
 use lib.ListN.{length, take}
 use Rattle.lists.specs.Answer.{unlessRefused}
 use Rattle.reading.specs.Reading.{Event, packet, badChecksum}
 use Rattle.reading.specs.Calls.{Call, call}
-use Rattle.reading.specs.Lists.{AnyReader, after}
+use Rattle.reading.specs.Lists.{AnyReader, after, Follows}
 use Rattle.reading.specs.Promise.{Followed}
+use Rattle.reading.specs.Across.{NoneWithout, CallPromises}
+use Rattle.packet_front.specs.Front.{idOf}
 use Rattle.packet.specs.Verdict.{protocol2}
 use Rattle.reader.specs.declared.Reader.{Reader}
 use Rattle.reader.specs.Answer.{Kind, aPacket, aBadChecksum, noEvent, Said, saidFor, leftFor}
@@ -35,9 +39,10 @@ lent bytes count = record { bytes = bytes; count = count }
 unfoldable pub packetOn : Reader → Call → List ℕ → List ℕ
 packetOn r c old = unlessRefused (saidOn r c .refusal) old (saidOn r c .bytes)
 
--- the event that an answer gives: the bytes of a packet, whose ID `saidOn` gives too, or the ID of a bad checksum
+-- the event that an answer gives: the bytes of a packet, where the answer's ID is theirs and none otherwise, or the ID of a bad
+-- checksum
 abbrev pub eventOfKind : Kind → ℕ → ℕ → List ℕ → Option Event
-eventOfKind aPacket id n bytes = some (packet (take n bytes))
+eventOfKind aPacket id n bytes = cond (eqb id (idOf (take n bytes))) (some (packet (take n bytes))) none
 eventOfKind aBadChecksum id n bytes = some (badChecksum id)
 eventOfKind noEvent id n bytes = none
 
@@ -63,3 +68,14 @@ NeverRefused = (r : Reader) → r .count ≡ 0 → (cs : List Call) (c : Call) �
 -- "at least 1,030 bytes have followed the damage": what `Followed` asks for, with the longest packet of Protocol 2.0
 abbrev pub FollowedBy1030 : Type 0
 FollowedBy1030 = (s : List ℕ) → (Followed protocol2 s → 1030 ≤ length s) × (1030 ≤ length s → Followed protocol2 s)
+
+-- what is promised of every list of calls on the records
+pub record ReaderPromises : Type 0 where
+  -- a record that holds at most 1,030 bytes keeps to the rules of Protocol 2.0
+  pub follows : Follows protocol2 records (λ r. r .count ≤ 1030) heldIn
+  -- demand 3, with what holds it in place
+  pub calls : CallPromises protocol2 records
+  pub never-refused : NeverRefused
+  pub followed-by-1030 : FollowedBy1030
+  -- noise in which no byte is FF
+  pub none-without-ff : NoneWithout protocol2 0xFF

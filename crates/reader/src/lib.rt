@@ -7,10 +7,9 @@ ghost use lib.ListN.{length, take, getD};
 ghost use Rattle.reading.specs.Reading.{closed};
 ghost use Rattle.reading.specs.Calls.{first, fed, gapped};
 ghost use Rattle.reading.specs.Calls.{feed as Call·feed, gap as Call·gap};
-ghost use Rattle.reading.specs.Promise.{Demand3};
 ghost use Rattle.packet.specs.Verdict.{protocol2};
 ghost use Rattle.reader.specs.Answer.{sizeIn, heardAs, said, saidFor, leftFor, Tells, packetFor};
-ghost use Rattle.reader.specs.Records.{saidOn, leftBy, records, NeverRefused};
+ghost use Rattle.reader.specs.Records.{saidOn, leftBy, ReaderPromises};
 
 // What a call answers: a packet with its ID and its byte count, a bad checksum with its ID, no event (of a gap call: nothing
 // is left), or the refusal of a record that holds too much.
@@ -155,7 +154,7 @@ pub fn gap_value(held: &mut [u8; 1030], count: usize) -> Answer
 // call gives no event, also where the rest is empty: events may lie in what is held.
 pub fn feed(reader: Reader, chunk: &[u8]) -> Fed
     ensures { λ r. ⌜ (said (r .answer) ≡ saidOn reader (Call·feed (now (chunk .entry)))) × (r .reader ≡ leftBy reader (Call·feed (now (chunk .entry)))) ⌝ }
-    ensures { λ _. ⌜ Demand3 protocol2 records × NeverRefused ⌝ }
+    ensures { λ _. ⌜ ReaderPromises ⌝ }
 {
     let count = reader.count;
     let mut next = reader;
@@ -170,6 +169,7 @@ pub fn feed(reader: Reader, chunk: &[u8]) -> Fed
 // A gap call: the next event as if the segment ended with what is held. Call it until it says that nothing is left.
 pub fn gap(reader: Reader) -> Fed
     ensures { λ r. ⌜ (said (r .answer) ≡ saidOn reader Call·gap) × (r .reader ≡ leftBy reader Call·gap) ⌝ }
+    ensures { λ _. ⌜ ReaderPromises ⌝ }
 {
     let count = reader.count;
     let mut left = reader;

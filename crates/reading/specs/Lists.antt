@@ -59,9 +59,7 @@ module _ (M : AnyReader) where
 
 -- A reader keeps to the rules where what it holds is all that matters: while it is legal, as a fresh one is, each call takes,
 -- answers and leaves what the call of the rules does.
-pub record Follows (R : Rules) (M : AnyReader) : Type 1 where
-  pub Legal : M .State → Type 0
-  pub held : M .State → List ℕ
+pub record Follows (R : Rules) (M : AnyReader) (Legal : M .State → Type 0) (held : M .State → List ℕ) : Type 0 where
   pub fresh : (x : M .State) → M .Fresh x → Legal x × (held x ≡ [])
   pub same-taken : (x : M .State) (c : Call) → Legal x → M .taken x c ≡ call R (held x) c .taken
   pub same-answer : (x : M .State) (c : Call) → Legal x → M .answer x c ≡ call R (held x) c .answer

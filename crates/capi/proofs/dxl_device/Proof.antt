@@ -1,4 +1,5 @@
 use mathlib.Core.Path.{sym, ap₂, _∙_}
+use Rattle.device.proofs.Stays.{stays-accepted}
 use Rattle.numbers.specs.Exported.{deviceNumbers}
 use borrow.Author.Needs.{needs}
 use Rattle.capi.proofs.dxl_device.Statement.{statement}
@@ -28,7 +29,7 @@ returns c =
     let e = h .hear .ensures in
     let i = h .before .before .before in
     rw (sym (i .before .heard-by .ensures), sym (i .id-by .ensures))
-    (c .response .ensures ∙ ap₂ deviceNumbers (e .0) (e .1 .0), (e .1 .1 .0, e .1 .1 .1))
+    (c .response .ensures ∙ ap₂ deviceNumbers (e .0) (e .1 .0), ((e .1 .1 .0, e .1 .1 .1), stays-accepted))
 
 pub dxl-device-spec : {M : Type 1} → statement M
 dxl-device-spec =

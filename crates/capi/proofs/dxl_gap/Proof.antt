@@ -3,6 +3,7 @@ use Rattle.reading.specs.Calls.{gap, call}
 use Rattle.packet.specs.Verdict.{protocol2}
 use Rattle.reader.specs.Records.{heldIn, lent, saidOn, leftBy, packetOn}
 use Rattle.reader.proofs.Answers.{packet-said}
+use Rattle.reader.proofs.Records.{reader-promises}
 use Rattle.numbers.proofs.Steps.{numbers-told, held-told}
 use borrow.Author.Needs.{needs}
 use Rattle.capi.proofs.dxl_gap.Statement.{statement}
@@ -24,7 +25,7 @@ returns c =
     let e = c .before .gap-into .ensures in
     let packet-is = e .1 .1 ∙ packet-said (a .count .now) (call protocol2 (heldIn r) (gap)) (a .packet .now) in (
       c .told .ensures ∙ numbers-told (t .heard) (t .taken) (t .held) s (e .0),
-      (ap₂ lent (e .1 .0) (held-told (t .heard) (t .taken) (t .held) s (e .0)), packet-is),
+      (ap₂ lent (e .1 .0) (held-told (t .heard) (t .taken) (t .held) s (e .0)), (packet-is, reader-promises)),
     )
 
 pub dxl-gap-spec : {M : Type 1} → statement M

@@ -1,6 +1,6 @@
 use Rattle.reading.specs.Calls.{call}
 use Rattle.reader.specs.Records.{saidOn}
-use Rattle.reader.proofs.Records.{record-left, records-demand, never-refused}
+use Rattle.reader.proofs.Records.{record-left, reader-promises}
 use Prim.Native.Nat.{_-_}
 use borrow.Author.Needs.{needs}
 use Rattle.reader.proofs.feed.Statement.{statement}
@@ -14,7 +14,7 @@ unfolding saidOn call
 returns c =
     let e = c .feed-value .ensures in (
       (e .0, record-left (c .feed-value .result) _ _ _ (e .0) (e .1)),
-      (records-demand, never-refused),
+      reader-promises,
     )
 
 pub feed-spec : {M : Type 1} → statement M

@@ -85,9 +85,9 @@ pub extern "C" fn dxl_feed(
     ensures { λ _. ⌜ Demand3 protocol2 records × NeverRefused ⌝ }
 {
     let n = *count;
-    let told = reader::feed_into(held, n, chunk, packet);
-    *count = told.held;
-    numbers::told(told)
+    let step = framer::feed_in(held, n, chunk, packet);
+    *count = step.held;
+    numbers::step(step)
 }
 
 // A gap call, likewise.
@@ -102,9 +102,9 @@ pub extern "C" fn dxl_gap(
     ensures { λ _. ⌜ now (packet .exit) ≡ packetOn (lent (now (held .entry)) (now (count .entry))) Call·gap (now (packet .entry)) ⌝ }
 {
     let n = *count;
-    let told = reader::gap_into(held, n, packet);
-    *count = told.held;
-    numbers::told(told)
+    let step = framer::gap_in(held, n, packet);
+    *count = step.held;
+    numbers::step(step)
 }
 
 fn heard_by(kind: u8) -> Heard

@@ -87,9 +87,9 @@ pub extern "C" fn dxl_feed(
     ensures { λ _. ⌜ ReaderPromises ⌝ }
 {
     let n = *count;
-    let told = reader::feed_into(held, n, chunk, packet);
-    *count = told.held;
-    numbers::told(told)
+    let step = framer::feed_in(held, n, chunk, packet);
+    *count = step.held;
+    numbers::step(step)
 }
 
 // A gap call, likewise.
@@ -105,9 +105,9 @@ pub extern "C" fn dxl_gap(
     ensures { λ _. ⌜ ReaderPromises ⌝ }
 {
     let n = *count;
-    let told = reader::gap_into(held, n, packet);
-    *count = told.held;
-    numbers::told(told)
+    let step = framer::gap_in(held, n, packet);
+    *count = step.held;
+    numbers::step(step)
 }
 
 fn heard_by(kind: u8) -> Heard

@@ -1,5 +1,5 @@
 -- How a call's parts come together: what a window leaves to deliver, and a full buffer with one byte more.
-use mathlib.Core.Path.{_≡_, refl, sym, ap, _∙_}
+use mathlib.Core.Path.{_≡_, refl, sym, ap, ap₂, _∙_}
 use mathlib.Core.List.{List, [], _∷_, _++_}
 use mathlib.Core.Option.{some}
 use Prim.Native.Nat.{ℕ, suc, _+_, _-_, _≤_, _<_}
@@ -17,10 +17,11 @@ use Rattle.windows.specs.declared.Sight.{Sight}
 use Rattle.windows.specs.declared.Sight.the-variants.{Packet, BadChecksum, Waiting}
 use Rattle.windows.specs.declared.Stop.{Stop}
 use Rattle.windows.specs.declared.Stop.the-variants.{Done, Passed, Full}
+use Rattle.packet_front.specs.Front.{idOf}
 use Rattle.framer.specs.declared.Step.{Step}
-use Rattle.framer.specs.declared.Event.the-variants.{Packet as Gave·Packet, BadChecksum as Gave·BadChecksum}
-use Rattle.windows.specs.Scan.{onFrom, sizeOf, Seen, replyOf, Ends, Stops, Filled}
-use Rattle.framer.specs.Step.{Replied}
+use Rattle.framer.specs.declared.StepEvent.the-variants.{Packet as Gave·Packet, BadChecksum as Gave·BadChecksum, Silent}
+use Rattle.windows.specs.Scan.{onFrom, sizeOf, Waits, Seen, replyOf, Ends, Stops, Filled}
+use Rattle.framer.specs.Replied.{Replied}
 use Rattle.windows.proofs.Windows.{stops-take}
 
 pub room-for : (n m k : ℕ) → n ≤ m → k ≡ m → n ≤ k
@@ -75,7 +76,14 @@ module _ (R : Rules) (L : Laws R) where
       → fed R h₀ c₀ ≡ afterTaking (taken + n) (fed R [] (drop (taken + n) c₀))
   passed-fed h₀ c₀ h taken n a b = reached-more R h₀ c₀ h [] taken n a b .same
 
-  -- a gap call whose scan found an event
+  -- a gap call whose scan found nothing
+  pub gap-nothing : (s held bytes : List ℕ) (at k : ℕ) (step : Step) → Waits R closed s 0 at k
+      → step ≡ record { taken = 0; held = 0; event = Silent } → Replied (gapped (first R closed s)) step held bytes
+  gap-nothing s held bytes at k step w e =
+      rw (w .first-is, e)
+      (record { taken-is = refl; event-is = refl; count-is = refl; held-is = refl; bytes-are = refl })
+
+  -- and one whose scan found an event
   pub gap-decided : (s : List ℕ) (v : Sight) → ((at k : ℕ) → v ≡ Waiting at k → ⊥) → Seen R closed s 0 v
       → (onFrom v ≤ length s) × (sizeOf v ≤ R .longest) × (gapped (first R closed s) ≡ replyOf s 0 v)
   gap-decided s (Packet at n) w d = (d .fits, omega (arith, d .short), ap gapped (d .first-is))
@@ -120,9 +128,10 @@ module _ (R : Rules) (L : Laws R) where
         stops-take R L h (drop taken c₀) held more past 0 k 1 0 w (w .patient .some) (omega arith) (rw one) in
         rw y at (reached-more R h₀ c₀ h more taken (past + 1) a t)
 
-    pub full-packet : (n : ℕ) (r : Step) (held′ bytes : List ℕ) → R .verdict more ≡ isPacket n
-        → r ≡ record { taken = next + 1; count = 0; event = Gave·Packet n } → bytes ≡ more → Replied (fed R h₀ c₀) r held′ bytes
-    full-packet n r held′ bytes e i j =
+    pub full-packet : (n id : ℕ) (r : Step) (held′ bytes : List ℕ) → R .verdict more ≡ isPacket n
+        → r ≡ record { taken = next + 1; held = 0; event = Gave·Packet id n } → id ≡ idOf bytes → bytes ≡ more
+        → Replied (fed R h₀ c₀) r held′ bytes
+    full-packet n id r held′ bytes e i d j =
         let m : n ≡ suc (length held) = last-byte R L held held (getD c₀ next 0) n (w .waits) e in
         let l : n ≡ length more = omega (arith, more-length) in
         let all : take n more ≡ more = take-all n more (omega arith) in
@@ -132,14 +141,14 @@ module _ (R : Rules) (L : Laws R) where
         rw (reached-event R h₀ c₀ more [] (next + 1) (packet more) more-reached f, i, j)
         (record {
           taken-is = refl;
-          event-is = ap Gave·Packet l;
+          event-is = ap₂ Gave·Packet (rw j at d) l;
           count-is = refl;
           held-is = refl;
           bytes-are = take-all (length more) more (omega arith);
         })
 
     pub full-bad : (id n : ℕ) (r : Step) (held′ bytes : List ℕ) → R .verdict more ≡ isBadChecksum id
-        → r ≡ record { taken = next + 1; count = n; event = Gave·BadChecksum id } → n ≡ length held → held′ ≡ drop 1 more
+        → r ≡ record { taken = next + 1; held = n; event = Gave·BadChecksum id } → n ≡ length held → held′ ≡ drop 1 more
         → Replied (fed R h₀ c₀) r held′ bytes
     full-bad id n r held′ bytes e i m j =
         let f : first R open′ more ≡ event (badChecksum id) (drop 1 more) =

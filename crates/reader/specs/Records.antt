@@ -6,8 +6,7 @@ use mathlib.Core.List.{List}
 use mathlib.Core.Option.{Option, none, some}
 use Prim.Native.Nat.{ℕ, _≤_}
 use lib.Dec.{eqb}
-use lib.ListN.{length, take}
-use Rattle.lists.specs.Answer.{unlessRefused}
+use lib.ListN.{length, take, replicate}
 use Rattle.reading.specs.Reading.{Event, packet, badChecksum}
 use Rattle.reading.specs.Calls.{Call, call}
 use Rattle.reading.specs.Lists.{AnyReader, after, Follows}
@@ -15,39 +14,40 @@ use Rattle.reading.specs.Promise.{Followed}
 use Rattle.reading.specs.Across.{NoneWithout, CallPromises}
 use Rattle.packet_front.specs.Front.{idOf}
 use Rattle.packet.specs.Verdict.{protocol2}
+use Rattle.framer.specs.declared.Step.{Step}
+use Rattle.framer.specs.declared.StepEvent.{StepEvent}
+use Rattle.framer.specs.declared.StepEvent.the-variants.{Packet, BadChecksum, Silent, Refused}
+use Rattle.framer.specs.Answer.{stepFor, heldFor, packetFor}
 use Rattle.reader.specs.declared.Reader.{Reader}
-use Rattle.reader.specs.Answer.{Kind, aPacket, aBadChecksum, noEvent, Said, saidFor, leftFor}
 
 -- bytes past the count are ignored
 abbrev pub heldIn : Reader → List ℕ
 heldIn r = take (r .count) (r .bytes)
 
 -- what a call answers
-unfoldable pub saidOn : Reader → Call → Said
-saidOn r c = saidFor (r .count) (call protocol2 (heldIn r) c)
+unfoldable pub saidOn : Reader → Call → Step
+saidOn r c = stepFor (r .count) (call protocol2 (heldIn r) c)
 
 -- how it leaves the record: the bytes past its count are 0, and a refusal leaves it as it was
 unfoldable pub leftBy : Reader → Call → Reader
 leftBy r c =
-    record { bytes = leftFor (r .count) (r .bytes) (call protocol2 (heldIn r) c); count = saidOn r c .held }
+    record { bytes = heldFor (r .count) (r .bytes) (call protocol2 (heldIn r) c); count = saidOn r c .held }
 
 -- the record by its parts, as C lends it
 abbrev pub lent : List ℕ → ℕ → Reader
 lent bytes count = record { bytes = bytes; count = count }
 
--- and what a call leaves of the packet buffer that is lent beside it: the bytes of the answer, unless it is refused
+-- and what a call leaves of the packet buffer that is lent beside it: the packet and 0 after it, unless the call is refused
 unfoldable pub packetOn : Reader → Call → List ℕ → List ℕ
-packetOn r c old = unlessRefused (saidOn r c .refusal) old (saidOn r c .bytes)
+packetOn r c old = packetFor (r .count) old (call protocol2 (heldIn r) c)
 
--- the event that an answer gives: the bytes of a packet, where the answer's ID is theirs and none otherwise, or the ID of a bad
--- checksum
-abbrev pub eventOfKind : Kind → ℕ → ℕ → List ℕ → Option Event
-eventOfKind aPacket id n bytes = cond (eqb id (idOf (take n bytes))) (some (packet (take n bytes))) none
-eventOfKind aBadChecksum id n bytes = some (badChecksum id)
-eventOfKind noEvent id n bytes = none
-
-abbrev pub eventIn : Said → Option Event
-eventIn s = eventOfKind (s .kind) (s .id) (s .count) (s .bytes)
+-- the event that an answer gives, beside the packet buffer: the bytes of a packet, where the answer has their ID, or the ID of a
+-- bad checksum
+abbrev pub eventIn : StepEvent → List ℕ → Option Event
+eventIn (Packet id n) bytes = cond (eqb id (idOf (take n bytes))) (some (packet (take n bytes))) none
+eventIn (BadChecksum id) bytes = some (badChecksum id)
+eventIn Silent bytes = none
+eventIn Refused bytes = none
 
 -- The records as a reader, of which demand 3 is promised: a fresh one is any with count 0, whatever lies past it.
 abbrev pub records : AnyReader
@@ -56,14 +56,14 @@ records =
       State = Reader;
       Fresh = λ r. r .count ≡ 0;
       taken = λ r c. saidOn r c .taken;
-      answer = λ r c. eventIn (saidOn r c);
+      answer = λ r c. eventIn (saidOn r c .event) (packetOn r c (replicate 1031 0));
       next = λ r c. leftBy r c;
     }
 
 -- "at most 1,030 bytes are held, so none of these calls gives 25": from a fresh record on no call is refused, whatever came
 -- before
 abbrev pub NeverRefused : Type 0
-NeverRefused = (r : Reader) → r .count ≡ 0 → (cs : List Call) (c : Call) → saidOn (after records r cs) c .refusal ≡ none
+NeverRefused = (r : Reader) → r .count ≡ 0 → (cs : List Call) (c : Call) → ¬ (saidOn (after records r cs) c .event ≡ Refused)
 
 -- "at least 1,030 bytes have followed the damage": what `Followed` asks for, with the longest packet of Protocol 2.0
 abbrev pub FollowedBy1030 : Type 0

@@ -79,7 +79,8 @@ deliver-requires : tie.Need-deliver-requires Inv-loop μ-loop
 deliver-requires c κs =
     let r = c .before .before .before .before .before in
     let d = filled-done protocol2 laws _ _ _ _ (filled r) _ _ _ (c .before .before .before .seen .given .1) in
-    (ends-on protocol2 laws _ _ (held′ r) _ _ _ (d .1) (d .2), d .1, room-for _ _ _ (d .2 .short) (p r .loop .inv .2))
+    let l = p r .loop .inv .2 in
+    (ends-on protocol2 laws _ _ (held′ r) _ _ _ (d .1) (d .2), d .1, room-for _ _ _ (d .2 .short) l, l)
 
 same-length : tie.Need-same-length Inv-loop μ-loop
 same-length c = search needs
@@ -157,6 +158,9 @@ judge-longest-requires c κs =
 enum-known-size : tie.Need-enum-known-size Inv-loop μ-loop
 enum-known-size c = search needs
 
+id-in-requires : tie.Need-id-in-requires Inv-loop μ-loop
+id-in-requires c κs = search needs
+
 stepped-requires : tie.Need-stepped-requires Inv-loop μ-loop
 stepped-requires c κs = search needs
 
@@ -168,11 +172,13 @@ same-length-6 c = search needs
 
 returns-3 : tie.Need-returns-3 Inv-loop μ-loop
 returns-3 c =
-    let g = c .before .before .before .before .before .before .before .before .before .before .before .before .before in
+    let e = c .before .before .before .before in
+    let b = e .before .before .before .before .before .before in
+    let g = b .before .before .before .before .before in
     let d = full g in
-    let j = c .before .before .before .before .before .before .before .before .judge-longest .ensures in
-    full-packet protocol2 laws _ _ _ (held′ (k g)) _ _ _ (p (k g) .loop .inv .3) (d .1 .1) (d .0) (size g) _ _ _ _
-    (was-packet _ _ _ (sym (j .0) ∙ c .before .before .size .given .1)) (c .stepped .ensures) (j .1 .0)
+    let j = b .judge-longest .ensures in
+    full-packet protocol2 laws _ _ _ (held′ (k g)) _ _ _ (p (k g) .loop .inv .3) (d .1 .1) (d .0) (size g) _ _ _ _ _
+    (was-packet _ _ _ (sym (j .0) ∙ e .size .given .1)) (c .stepped .ensures) (c .before .id-in .ensures) (j .1 .0)
 
 enum-known-id : tie.Need-enum-known-id Inv-loop μ-loop
 enum-known-id c = search needs
@@ -240,6 +246,7 @@ feed-slices-spec =
     add-taken-2
     judge-longest-requires
     enum-known-size
+    id-in-requires
     stepped-requires
     same-length-5
     same-length-6

@@ -4,7 +4,7 @@ use mathlib.Core.Option.{Option, none, some}
 use Prim.Native.Nat.{ℕ}
 use lib.Dec.{leb, eqb}
 use lib.ListN.{length}
-use Rattle.lists.specs.Answer.{firstFailing, unlessRefused}
+use Rattle.lists.specs.Answer.{Answer as Lists·Answer, count, refused as Lists·refused, firstFailing, unlessRefused}
 use Rattle.lists.specs.Write.{overwritten}
 use Rattle.registers.specs.Registers.{tableSize}
 use Rattle.instructions.specs.Registered.{keptBy}
@@ -14,18 +14,25 @@ use Rattle.instructions.specs.declared.RegisteredWrite.{RegisteredWrite}
 use Rattle.status.specs.declared.Reply.{Reply}
 use Rattle.reactions.specs.declared.Heard.{Heard}
 use Rattle.device.specs.declared.Replied.{Replied}
-use Rattle.device.specs.declared.Replied.the-variants.{Sent, NotTable, BadId, BadRegistered, NoRoom}
+use Rattle.device.specs.declared.Replied.the-variants.{Sent, NotTable, BadId, BadRegistered, NoRoom, BadReplyId, LongReply}
 use Rattle.status.specs.Status.{replyBytes}
+
+-- of table and registered write
+unfoldable pub stateRefusal : List ℕ → RegisteredWrite → Option ℕ
+stateRefusal table w = firstFailing ((eqb (length table) tableSize, 21) ∷ (leb (ownId table) 252, 22) ∷ (leb (w .count) 8, 23) ∷ [])
+
+-- of the reply buffer
+unfoldable pub roomRefusal : List ℕ → Option ℕ
+roomRefusal out = firstFailing ((leb 32 (length out), 24) ∷ [])
+
+-- the first refusal of two
+abbrev pub orElse : Option ℕ → Option ℕ → Option ℕ
+orElse none second = second
+orElse (some number) second = some number
 
 -- faults of the caller come first, whatever was heard
 unfoldable pub callRefusal : List ℕ → RegisteredWrite → List ℕ → Option ℕ
-callRefusal table w out =
-    firstFailing
-    ((eqb (length table) tableSize, 21)
-    ∷ (leb (ownId table) 252, 22)
-    ∷ (leb (w .count) 8, 23)
-    ∷ (leb 32 (length out), 24)
-    ∷ [])
+callRefusal table w out = orElse (stateRefusal table w) (roomRefusal out)
 
 -- the status's byte count and the reply slot, both 0 when silent; or a refusal by its number
 pub data Answer : Type 0 where
@@ -38,6 +45,13 @@ repliedAnswer NotTable = refused 21
 repliedAnswer BadId = refused 22
 repliedAnswer BadRegistered = refused 23
 repliedAnswer NoRoom = refused 24
+repliedAnswer BadReplyId = refused 11
+repliedAnswer LongReply = refused 12
+
+-- what the function that sends answers, with the reply slot
+abbrev pub withSlot : Lists·Answer → ℕ → Answer
+withSlot (count n) slot = sent n slot
+withSlot (Lists·refused number) slot = refused number
 
 abbrev pub answeredBy : Option ℕ → Reply → Answer
 answeredBy none reply = sent (length (replyBytes reply)) (reply .slot)

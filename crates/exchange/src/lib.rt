@@ -56,10 +56,10 @@ pub fn answer(
             registered,
         };
     }
-    let idle = device::idle(&table[..], registered, &out[..]);
-    let Replied::Sent(_, _) = idle else {
+    let refused = device::call_refusal(&table[..], registered, &out[..]);
+    let Replied::Sent(_, _) = refused else {
         return Answered {
-            exchanged: Exchanged::Device(idle),
+            exchanged: Exchanged::Device(refused),
             registered,
         };
     };

@@ -103,7 +103,7 @@ module _ (table : List ℕ) (w : RegisteredWrite) (address : ℕ) where
       pub reg-write-sized : isDone o ≡ true → length table ≡ tableSize
       reg-write-sized d = good-write table address bytes (sym e ∙ done-none o d) .sized
 
-      pub reg-write-done : isDone o ≡ true → doneWith 0 [] (registering address bytes) ≡ doneOf (regWrite table w address bytes)
+      pub reg-write-done : isDone o ≡ true → doneWith 0 [] (registering table address bytes) ≡ doneOf (regWrite table w address bytes)
       unfolding regWrite
       reg-write-done d = rw (good-rule table (writeRule table address bytes) o e (reg-write-sized d) d)
 

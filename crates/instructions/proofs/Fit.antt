@@ -174,7 +174,7 @@ module _ (table : List ℕ) (w : RegisteredWrite) (f : FitTable table) where
     reg-write-fit address bytes = by-rule (writeRule table address bytes) refl
       where
         by-rule : (r : Option ℕ) → writeRule table address bytes ≡ r
-            → Fit (leaving (unlessRefused r table (put table registeredInstruction 1)) (keptBy r w (registering address bytes)) (errorOf r) [])
+            → Fit (leaving (unlessRefused r table (put table registeredInstruction 1)) (keptBy r w (registering table address bytes)) (errorOf r) [])
         by-rule none e = record { fit-table = said-fit table f 1; short = write-short table address bytes (in-table table f _ e) }
         by-rule (some number) e = kept-fit number []
 

@@ -50,7 +50,7 @@ write table w address bytes =
 unfoldable pub regWrite : List ℕ → RegisteredWrite → ℕ → List ℕ → Effect
 regWrite table w address bytes =
     let refusal = writeRule table address bytes in
-    leaving (unlessRefused refusal table (put table registeredInstruction 1)) (keptBy refusal w (registering address bytes)) (errorOf refusal) []
+    leaving (unlessRefused refusal table (put table registeredInstruction 1)) (keptBy refusal w (registering table address bytes)) (errorOf refusal) []
 
 -- the registered write is dropped, and then judged afresh
 unfoldable pub action : List ℕ → RegisteredWrite → Effect

@@ -6,8 +6,9 @@ use lib.ListN.{length, take, replicate}
 use Rattle.lists.specs.Write.{padded}
 use Rattle.instructions.specs.declared.RegisteredWrite.{RegisteredWrite}
 
-abbrev pub registering : ℕ → List ℕ → RegisteredWrite
-registering address bytes = record { address = address; count = length bytes; bytes = padded 8 bytes }
+-- a write that was judged on this table; nothing of the table is kept with it
+abbrev pub registering : List ℕ → ℕ → List ℕ → RegisteredWrite
+registering table address bytes = record { address = address; count = length bytes; bytes = padded 8 bytes }
 
 -- a dropped one is all 0
 abbrev pub dropped : RegisteredWrite

@@ -147,6 +147,16 @@ pub fn response(answer: Response) -> DeviceNumbers
             slot: 0,
             registered,
         },
+        Replied::BadReplyId => DeviceNumbers {
+            count: -11,
+            slot: 0,
+            registered,
+        },
+        Replied::LongReply => DeviceNumbers {
+            count: -12,
+            slot: 0,
+            registered,
+        },
     }
 }
 

@@ -55,7 +55,7 @@ module _ (table : List ℕ) (w : RegisteredWrite) where
   refused-reg-write address bytes = by-rule (writeRule table address bytes)
     where
       by-rule : (r : Option ℕ)
-          → Refused (leaving (unlessRefused r table (put table registeredInstruction 1)) (keptBy r w (registering address bytes)) (errorOf r) [])
+          → Refused (leaving (unlessRefused r table (put table registeredInstruction 1)) (keptBy r w (registering table address bytes)) (errorOf r) [])
       by-rule none = good _ refl
       by-rule (some number) = stays _ _ _ _ refl refl
 

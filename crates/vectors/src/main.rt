@@ -113,6 +113,8 @@ fn print_reply(replied: Replied, out: &[u8]) {
         Replied::BadId => print_refusal(),
         Replied::BadRegistered => print_refusal(),
         Replied::NoRoom => print_refusal(),
+        Replied::BadReplyId => print_refusal(),
+        Replied::LongReply => print_refusal(),
     }
 }
 
@@ -252,14 +254,6 @@ fn hear_segment(
     registered
 }
 
-fn nothing_registered() -> RegisteredWrite {
-    RegisteredWrite {
-        address: 0,
-        count: 0,
-        bytes: [0u8; 8],
-    }
-}
-
 fn new_device(table: &mut [u8; 136], id: u8, low: u8, high: u8) {
     let position = (low as u16) + (high as u16) * 256;
     control_table::fresh(table);
@@ -286,7 +280,7 @@ fn record(
         if bytes.len() == 3 {
             new_device(table, bytes[0], bytes[1], bytes[2]);
         }
-        nothing_registered()
+        instructions::dropped()
     } else {
         hear_segment(bytes, table, registered)
     }
@@ -294,7 +288,7 @@ fn record(
 
 // Answers the count of bytes in the records that were read.
 fn records(input: &[u8], table: &mut [u8; 136]) -> usize {
-    let mut registered = nothing_registered();
+    let mut registered = instructions::dropped();
     let mut at = 0;
     while 2 <= input.len() - at {
         let n = size(input[at + 1]);

@@ -1,26 +1,22 @@
-//! The core of a feeding call, and the feeding call by value: both beside the reference, call by call.
+//! The feeding call by value, beside the reference, call by call.
 
 use compare::{hex, must_agree, record, segment, worst_noise, Comparison, Difference, Guarded};
-use exports::test::{core_feed, feed_value, CoreStep, ValueStep};
+use exports::test::{feed_value, Fed};
+use exports::Reader;
 use reference::{feed_record, packet_of, Rng, Step, LONGEST_PACKET, MOST_HELD};
 use std::hint::black_box;
 
-/// One record that is read on three times: by the core, by value, and by the reference.
+/// One record that is read on twice: by value, and by the reference.
 struct Life {
-    core: Guarded,
-    by_value: Guarded,
+    held: Guarded,
     expected: Guarded,
     count: usize,
-    /// The core's packet buffer, filled with another byte before each call.
-    packet: Guarded,
-    filler: u8,
 }
 
 impl Life {
     fn new(rng: &mut Rng, held: [u8; MOST_HELD], count: usize) -> Life {
         let held = Guarded::new(rng, &held);
-        let packet = Guarded::new(rng, &[0; LONGEST_PACKET]);
-        Life { core: held.clone(), by_value: held.clone(), expected: held, count, packet, filler: 0 }
+        Life { expected: held.clone(), held, count }
     }
 
     fn feed(&mut self, chunk: &[u8]) -> Step {
@@ -28,53 +24,29 @@ impl Life {
         let mut packet = [0; LONGEST_PACKET];
         let step = feed_record(self.expected.array_mut(), &mut self.count, chunk, &mut packet);
         let given = || format!("count {count} of {}, chunk {}", hex(&held), hex(chunk));
-        must_agree(self.core_gives(count, chunk, step, &packet, &given));
         must_agree(self.value_gives(count, chunk, step, packet, &given));
         step
     }
 
-    /// The core clears no packet buffer, so that no byte past the packet is looked at; a refusal leaves it.
-    fn core_gives(
-        &mut self,
-        count: usize,
-        chunk: &[u8],
-        step: Step,
-        packet: &[u8; LONGEST_PACKET],
-        given: &dyn Fn() -> String,
-    ) -> Result<(), Difference> {
-        let comparison = Comparison { export: "dxl_test_core_feed", given };
-        self.filler = self.filler.wrapping_add(1);
-        self.packet.bytes_mut().fill(self.filler);
-        let mut wanted_packet = self.packet.clone();
-        let mut lent = chunk.to_vec();
-        let got = core_feed(self.core.array_mut(), count, &lent, self.packet.array_mut());
-        let id = if step.kind == 2 { step.id } else { 0 };
-        let wanted = CoreStep { taken: step.taken, held: self.count, count: step.count, kind: step.kind, id };
-        comparison.same("the answer", got, wanted)?;
-        comparison.same_guarded("the held bytes", &self.core, &self.expected)?;
-        comparison.same_bytes("the chunk", black_box(&mut lent), chunk)?;
-        if step.kind != 25 {
-            wanted_packet.bytes_mut()[..step.count].copy_from_slice(&packet[..step.count]);
-            let free = self.packet.bytes()[step.count..].to_vec();
-            wanted_packet.bytes_mut()[step.count..].copy_from_slice(&free);
-        }
-        comparison.same_guarded("the packet buffer", &self.packet, &wanted_packet)
-    }
-
+    /// The record that was lent stays as it was; the one that is answered is the next.
     fn value_gives(
         &mut self,
         count: usize,
         chunk: &[u8],
         step: Step,
-        bytes: [u8; LONGEST_PACKET],
+        packet: [u8; LONGEST_PACKET],
         given: &dyn Fn() -> String,
     ) -> Result<(), Difference> {
         let comparison = Comparison { export: "dxl_test_feed_value", given };
+        let before = self.held.clone();
         let mut lent = chunk.to_vec();
-        let got = feed_value(self.by_value.array_mut(), count, &lent);
+        let got = feed_value(black_box(&mut self.held).array_mut(), count, &lent);
+        comparison.same_guarded("the lent record", &self.held, &before)?;
+        self.held.bytes_mut().copy_from_slice(&got.reader.bytes);
         let Step { taken, count, kind, id } = step;
-        comparison.same("the answer", got, ValueStep { taken, held: self.count, count, kind, id, bytes })?;
-        comparison.same_guarded("the held bytes", &self.by_value, &self.expected)?;
+        let wanted_reader = Reader { bytes: *self.expected.array_mut(), count: self.count };
+        let wanted = Fed { step: exports::Step { taken, count, kind, id }, packet, reader: wanted_reader };
+        comparison.same("the answer", got, wanted)?;
         comparison.same_bytes("the chunk", black_box(&mut lent), chunk)
     }
 

@@ -4,6 +4,7 @@ use instructions::RegisteredWrite;
 use numbers::DeviceNumbers;
 use numbers::StepNumbers;
 use reactions::Heard;
+use reader::Reader;
 ghost use mathlib.Core.Path.{_≡_};
 ghost use mathlib.Core.List.{_∷_};
 ghost use mathlib.Core.Option.{none};
@@ -107,6 +108,41 @@ pub extern "C" fn dxl_gap(
     let n = *count;
     let step = framer::gap_in(held, n, packet);
     *count = step.held;
+    numbers::step(step)
+}
+
+// A feeding call on a reader's record, in place: its held bytes are lent on, and none is copied.
+#[no_mangle]
+pub extern "C" fn dxl_reader_feed<'r, 'c, 'p>(
+    reader: &'r mut Reader,
+    chunk: &'c [u8],
+    packet: &'p mut [u8; 1031],
+) -> StepNumbers
+    ensures { λ r. ⌜ (r ≡ stepNumbers (saidOn (now (reader .entry)) (Call·feed (now (chunk .entry)))))
+        × (now (reader .exit) ≡ leftBy (now (reader .entry)) (Call·feed (now (chunk .entry))))
+        × (now (packet .exit) ≡ packetOn (now (reader .entry)) (Call·feed (now (chunk .entry))) (now (packet .entry)))
+        × Demand3 protocol2 records × NeverRefused ⌝ }
+{
+    let n = reader.count;
+    let step = framer::feed_in(&mut reader.bytes, n, chunk, packet);
+    reader.count = step.held;
+    numbers::step(step)
+}
+
+// A gap call on a reader's record, likewise.
+#[no_mangle]
+pub extern "C" fn dxl_reader_gap<'r, 'p>(
+    reader: &'r mut Reader,
+    packet: &'p mut [u8; 1031],
+) -> StepNumbers
+    ensures { λ r. ⌜ (r ≡ stepNumbers (saidOn (now (reader .entry)) Call·gap))
+        × (now (reader .exit) ≡ leftBy (now (reader .entry)) Call·gap)
+        × (now (packet .exit) ≡ packetOn (now (reader .entry)) Call·gap (now (packet .entry)))
+        × Demand3 protocol2 records × NeverRefused ⌝ }
+{
+    let n = reader.count;
+    let step = framer::gap_in(&mut reader.bytes, n, packet);
+    reader.count = step.held;
     numbers::step(step)
 }
 

@@ -121,7 +121,7 @@ pub extern "C" fn dxl_reader_feed<'r, 'c, 'p>(
     ensures { λ r. ⌜ (r ≡ stepNumbers (saidOn (now (reader .entry)) (Call·feed (now (chunk .entry)))))
         × (now (reader .exit) ≡ leftBy (now (reader .entry)) (Call·feed (now (chunk .entry))))
         × (now (packet .exit) ≡ packetOn (now (reader .entry)) (Call·feed (now (chunk .entry))) (now (packet .entry)))
-        × Demand3 protocol2 records × NeverRefused ⌝ }
+        × ReaderPromises ⌝ }
 {
     let n = reader.count;
     let step = framer::feed_in(&mut reader.bytes, n, chunk, packet);
@@ -138,7 +138,7 @@ pub extern "C" fn dxl_reader_gap<'r, 'p>(
     ensures { λ r. ⌜ (r ≡ stepNumbers (saidOn (now (reader .entry)) Call·gap))
         × (now (reader .exit) ≡ leftBy (now (reader .entry)) Call·gap)
         × (now (packet .exit) ≡ packetOn (now (reader .entry)) Call·gap (now (packet .entry)))
-        × Demand3 protocol2 records × NeverRefused ⌝ }
+        × ReaderPromises ⌝ }
 {
     let n = reader.count;
     let step = framer::gap_in(&mut reader.bytes, n, packet);

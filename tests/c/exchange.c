@@ -109,7 +109,7 @@ static void exchange(size_t chunk, int with_noise)
         expect(n_sent == 0, "a packet inside one that is still arriving is answered", chunk);
         line_was_silent();
     }
-    expect(count == 0, "bytes are held at the end", chunk);
+    expect(reader.count == 0, "bytes are held at the end", chunk);
     expect(n_sent == sizeof wanted && memcmp(sent, wanted, sizeof wanted) == 0, "the answers are not those printed", chunk);
     expect(last_slot == 1, "Ping to all is not answered in the slot of the own ID", chunk);
     expect(table[116] == 0 && table[117] == 2, "the goal position is not 512", chunk);

@@ -11,9 +11,9 @@ use Rattle.reading.specs.Reading.{packet}
 use Rattle.packet_front.specs.Front.{idOf}
 use Rattle.framer.specs.declared.StepEvent.{StepEvent}
 use Rattle.framer.specs.declared.StepEvent.the-variants.{Packet, BadChecksum}
-use Rattle.windows.specs.declared.Sight.{Sight}
-use Rattle.windows.specs.declared.Sight.the-variants.{Packet as Seen·Packet, BadChecksum as Seen·BadChecksum}
-use Rattle.windows.specs.declared.Sight.the-variants.{Waiting as Seen·Waiting}
+use Rattle.windows.specs.declared.Scanned.{Scanned}
+use Rattle.windows.specs.declared.Scanned.the-variants.{Packet as Seen·Packet, BadChecksum as Seen·BadChecksum}
+use Rattle.windows.specs.declared.Scanned.the-variants.{Waiting as Seen·Waiting}
 use Rattle.framer.specs.declared.Step.{Step}
 use Rattle.windows.specs.Scan.{onFrom, sizeOf, answerOf, replyOf}
 use Rattle.framer.specs.Answer.{bytesOf}
@@ -22,7 +22,7 @@ use Rattle.buffers.proofs.Parts.{part-is, placed-whole}
 
 -- ---- where reading goes on, and the packet's bytes
 
-module _ (v : Sight) (most : ℕ) where
+module _ (v : Scanned) (most : ℕ) where
   pub on-packet : (at n : ℕ) → v ≡ Seen·Packet at n → onFrom v ≤ most → at + n ≤ most
   on-packet at n e h = rw e at h
 
@@ -35,7 +35,7 @@ front old new buffer n e l = ap (λ (b : List ℕ). take n b) e ∙ take-at new 
 
 -- ---- the event
 
-module _ (src : List ℕ) (v : Sight) (bytes : List ℕ) where
+module _ (src : List ℕ) (v : Scanned) (bytes : List ℕ) where
   abbrev Told : StepEvent → Type 0
   Told e =
       (e ≡ eventWith (idOf bytes) (answerOf src v))
@@ -61,16 +61,16 @@ module _ (src : List ℕ) (v : Sight) (bytes : List ℕ) where
 -- ---- the step: the bytes of src from where reading goes on up to `end` are held
 
 -- bytes behind what was seen do not count
-answer-within : (src : List ℕ) (end : ℕ) (v : Sight) → onFrom v ≤ end → end ≤ length src
+answer-within : (src : List ℕ) (end : ℕ) (v : Scanned) → onFrom v ≤ end → end ≤ length src
     → answerOf (take end src) v ≡ answerOf src v
 answer-within src end (Seen·Packet at n) h k =
     ap (λ (w : List ℕ). some (packet w))
     (ap (λ (l : List ℕ). take n l) (sym (part-is at end src (omega arith) (omega arith)))
     ∙ take-take n (end - at) (drop at src) (omega arith))
 answer-within src end (Seen·BadChecksum at id) h k = refl
-answer-within src end (Seen·Waiting at n) h k = refl
+answer-within src end (Seen·Waiting at) h k = refl
 
-pub replied : (src old held bytes : List ℕ) (end taken on : ℕ) (v : Sight) (event : StepEvent) (r : Step)
+pub replied : (src old held bytes : List ℕ) (end taken on : ℕ) (v : Scanned) (event : StepEvent) (r : Step)
     → r ≡ record { taken = taken; held = end - on; event = event } → on ≡ onFrom v → onFrom v ≤ end → end ≤ length src
     → event ≡ eventWith (idOf bytes) (answerOf src v) → take (length (bytesOf (answerOf src v))) bytes ≡ bytesOf (answerOf src v)
     → held ≡ overwritten old (take (end - on) (drop on src)) → Replied (replyOf (take end src) taken v) r held bytes

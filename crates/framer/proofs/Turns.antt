@@ -12,9 +12,9 @@ use Rattle.reading.specs.Reading.{packet, badChecksum, open′, closed}
 use Rattle.reading.specs.Calls.{event, first, Reply, fed, gapped, feed, call}
 use Rattle.reading.specs.Progress.{afterTaking, Reached}
 use Rattle.reading.proofs.Held.{held-bound}
-use Rattle.reading.proofs.Progress.{first-at, last-byte, reached-more, reached-event, reached-nothing}
-use Rattle.windows.specs.declared.Sight.{Sight}
-use Rattle.windows.specs.declared.Sight.the-variants.{Packet, BadChecksum, Waiting}
+use Rattle.reading.proofs.Progress.{first-at, last-byte, silent-patient, reached-more, reached-event, reached-nothing}
+use Rattle.windows.specs.declared.Scanned.{Scanned}
+use Rattle.windows.specs.declared.Scanned.the-variants.{Packet, BadChecksum, Waiting}
 use Rattle.windows.specs.declared.Stop.{Stop}
 use Rattle.windows.specs.declared.Stop.the-variants.{Done, Passed, Full}
 use Rattle.packet_front.specs.Front.{idOf}
@@ -45,7 +45,7 @@ module _ (chunk : List ℕ) (from : ℕ) where
 module _ (R : Rules) (L : Laws R) where
   -- ---- a call that has come to its end
 
-  module _ (h c src : List ℕ) (end n : ℕ) (v : Sight) (within : end ≤ length src) (w : Ends R h c (take end src) n v) where
+  module _ (h c src : List ℕ) (end n : ℕ) (v : Scanned) (within : end ≤ length src) (w : Ends R h c (take end src) n v) where
     pub ends-on : onFrom v ≤ end
     ends-on = let f = w .fits in omega (arith, length-take-le end src within)
 
@@ -59,15 +59,15 @@ module _ (R : Rules) (L : Laws R) where
         ∙ ap (λ (m : ℕ). m - onFrom v) (length-take-le end src within) in
         omega arith
 
-  pub ends-after : (h c s : List ℕ) (before n : ℕ) (v : Sight) → Ends R h c s n v
+  pub ends-after : (h c s : List ℕ) (before n : ℕ) (v : Scanned) → Ends R h c s n v
       → afterTaking before (fed R h c) ≡ replyOf s (before + n) v
   ends-after h c s before n v w = ap (afterTaking before) (w .fed-is)
 
-  pub ends-fed : (h₀ c₀ h s : List ℕ) (taken n : ℕ) (v : Sight) → Reached R h₀ c₀ h taken → Ends R h (drop taken c₀) s n v
+  pub ends-fed : (h₀ c₀ h s : List ℕ) (taken n : ℕ) (v : Scanned) → Reached R h₀ c₀ h taken → Ends R h (drop taken c₀) s n v
       → fed R h₀ c₀ ≡ replyOf s (taken + n) v
   ends-fed h₀ c₀ h s taken n v a w = a .same ∙ ends-after h (drop taken c₀) s taken n v w
 
-  pub ends-rest : (chunk s : List ℕ) (from n : ℕ) (v : Sight) → Ends R [] (rest chunk from) s n v
+  pub ends-rest : (chunk s : List ℕ) (from n : ℕ) (v : Scanned) → Ends R [] (rest chunk from) s n v
       → afterTaking from (fed R [] (drop from chunk)) ≡ replyOf s (from + n) v
   ends-rest chunk s from n v w = ends-after [] (drop from chunk) s from n v (rw (rest-is chunk from) at w)
 
@@ -77,39 +77,39 @@ module _ (R : Rules) (L : Laws R) where
   passed-fed h₀ c₀ h taken n a b = reached-more R h₀ c₀ h [] taken n a b .same
 
   -- a gap call whose scan found nothing
-  pub gap-nothing : (s held bytes : List ℕ) (at k : ℕ) (step : Step) → Waits R closed s 0 at k
+  pub gap-nothing : (s held bytes : List ℕ) (at : ℕ) (step : Step) → Waits R closed s 0 at
       → step ≡ record { taken = 0; held = 0; event = Silent } → Replied (gapped (first R closed s)) step held bytes
-  gap-nothing s held bytes at k step w e =
+  gap-nothing s held bytes at step w e =
       rw (w .first-is, e)
       (record { taken-is = refl; event-is = refl; count-is = refl; held-is = refl; bytes-are = refl })
 
   -- and one whose scan found an event
-  pub gap-decided : (s : List ℕ) (v : Sight) → ((at k : ℕ) → v ≡ Waiting at k → ⊥) → Seen R closed s 0 v
+  pub gap-decided : (s : List ℕ) (v : Scanned) → ((at : ℕ) → v ≡ Waiting at → ⊥) → Seen R closed s 0 v
       → (onFrom v ≤ length s) × (sizeOf v ≤ R .longest) × (gapped (first R closed s) ≡ replyOf s 0 v)
   gap-decided s (Packet at n) w d = (d .fits, omega (arith, d .short), ap gapped (d .first-is))
   gap-decided s (BadChecksum at id) w d = (d .fits, omega arith, ap gapped (d .first-is))
-  gap-decided s (Waiting at k) w d = absurd (w at k refl)
+  gap-decided s (Waiting at) w d = absurd (w at refl)
 
   -- ---- how the held bytes stopped
 
-  pub filled-rest : (h chunk held : List ℕ) (from : ℕ) (stop : Stop) → Filled R h (rest chunk from) held stop
-      → Filled R h (drop from chunk) held stop
-  filled-rest h chunk held from stop f = rw (rest-is chunk from) at f
+  pub filled-rest : (h chunk old held : List ℕ) (from : ℕ) (stop : Stop) → Filled R h (rest chunk from) old held stop
+      → Filled R h (drop from chunk) old held stop
+  filled-rest h chunk old held from stop f = rw (rest-is chunk from) at f
 
-  module _ (h chunk held : List ℕ) (stop : Stop) (f : Filled R h chunk held stop) where
-    pub filled-done : (v : Sight) (end n : ℕ) → stop ≡ Done v end n → Filled R h chunk held (Done v end n)
+  module _ (h chunk old held : List ℕ) (stop : Stop) (f : Filled R h chunk old held stop) where
+    pub filled-done : (v : Scanned) (end n : ℕ) → stop ≡ Done v end n → Filled R h chunk old held (Done v end n)
     filled-done v end n e = rw e at f
 
-    pub filled-passed : (n : ℕ) → stop ≡ Passed n → Filled R h chunk held (Passed n)
+    pub filled-passed : (n : ℕ) → stop ≡ Passed n → Filled R h chunk old held (Passed n)
     filled-passed n e = rw e at f
 
-    pub filled-full : (n : ℕ) → stop ≡ Full n → Filled R h chunk held (Full n)
+    pub filled-full : (n : ℕ) → stop ≡ Full n → Filled R h chunk old held (Full n)
     filled-full n e = rw e at f
 
   -- ---- a full buffer and one byte more
 
-  module _ (h₀ c₀ h held : List ℕ) (taken past k : ℕ) (a : Reached R h₀ c₀ h taken)
-      (w : Stops R h (drop taken c₀) held past 0 k) (here : past < length (drop taken c₀)) (full : R .longest ≡ length held + 1) where
+  module _ (h₀ c₀ h held : List ℕ) (taken past : ℕ) (a : Reached R h₀ c₀ h taken)
+      (w : Stops R h (drop taken c₀) held past 0) (here : past < length (drop taken c₀)) (full : R .longest ≡ length held + 1) where
     abbrev next : ℕ
     next = taken + past
 
@@ -124,8 +124,8 @@ module _ (R : Rules) (L : Laws R) where
         let y : taken + (past + 1) ≡ next + 1 = omega arith in
         let one : take 1 (drop past (drop taken c₀)) ≡ getD c₀ next 0 ∷ [] =
         ap (λ (l : List ℕ). take 1 l) (drop-drop past taken c₀ ∙ drop-cons c₀ next 0 (omega (arith, length-drop taken c₀))) in
-        let t =
-        stops-take R L h (drop taken c₀) held more past 0 k 1 0 w (w .patient .some) (omega arith) (rw one) in
+        let p = silent-patient R held (omega arith) (w .waits) in
+        let t = stops-take R L h (drop taken c₀) held more past 0 1 1 0 w p (omega arith) (omega arith) (rw one) in
         rw y at (reached-more R h₀ c₀ h more taken (past + 1) a t)
 
     pub full-packet : (n id : ℕ) (r : Step) (held′ bytes : List ℕ) → R .verdict more ≡ isPacket n

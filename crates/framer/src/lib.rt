@@ -1,6 +1,6 @@
 // The reader's feeding and gap calls, in place on the caller's held bytes and packet buffer.
 use packet::Verdict;
-use windows::Sight;
+use windows::Scanned;
 use windows::Stop;
 ghost use mathlib.Core.Path.{_≡_};
 ghost use mathlib.Core.List.{[], _∷_, _++_};
@@ -40,14 +40,14 @@ fn stepped(taken: usize, held: usize, event: StepEvent) -> Step
 }
 
 // Where reading goes on.
-fn on_from(seen: Sight) -> usize
+fn on_from(seen: Scanned) -> usize
     requires { ⌜ onFrom seen < 2 ^ 64 ⌝ }
     ensures { λ r. ⌜ r ≡ onFrom seen ⌝ }
 {
     match seen {
-        Sight::Packet { at, count } => at + count,
-        Sight::BadChecksum { at, id: _ } => at + 1,
-        Sight::Waiting { at, lacks: _ } => at,
+        Scanned::Packet { at, count } => at + count,
+        Scanned::BadChecksum { at, id: _ } => at + 1,
+        Scanned::Waiting { at } => at,
     }
 }
 
@@ -60,25 +60,25 @@ fn id_in(packet: &[u8]) -> u8
 }
 
 // The event of what was seen of the bytes src; a packet's bytes go to the packet buffer, and its ID is read there.
-fn tell(src: &[u8], seen: Sight, packet: &mut [u8]) -> StepEvent
+fn tell(src: &[u8], seen: Scanned, packet: &mut [u8]) -> StepEvent
     requires { ⌜ (onFrom seen ≤ length (now src)) × (sizeOf seen ≤ length (now packet)) × (length (now packet) ≡ 1031) ⌝ }
     ensures { λ r. ⌜ r ≡ eventWith (idOf (now (packet .exit))) (answerOf (now (src .entry)) seen) ⌝ }
     ensures { λ _. ⌜ take (length (bytesOf (answerOf (now (src .entry)) seen))) (now (packet .exit))
         ≡ bytesOf (answerOf (now (src .entry)) seen) ⌝ }
 {
     match seen {
-        Sight::Packet { at, count } => {
+        Scanned::Packet { at, count } => {
             buffers::place(packet, 0, &src[at..at + count]);
             let id = id_in(packet);
             StepEvent::Packet { id, size: count }
         }
-        Sight::BadChecksum { at: _, id } => StepEvent::BadChecksum { id },
-        Sight::Waiting { at: _, lacks: _ } => StepEvent::Silent,
+        Scanned::BadChecksum { at: _, id } => StepEvent::BadChecksum { id },
+        Scanned::Waiting { at: _ } => StepEvent::Silent,
     }
 }
 
 // The event goes out, and the held bytes from where reading goes on stay.
-fn deliver(held: &mut [u8], seen: Sight, end: usize, taken: usize, packet: &mut [u8]) -> Step
+fn deliver(held: &mut [u8], seen: Scanned, end: usize, taken: usize, packet: &mut [u8]) -> Step
     requires { ⌜ (onFrom seen ≤ end) × (end ≤ length (now held)) × (sizeOf seen ≤ length (now packet))
         × (length (now packet) ≡ 1031) ⌝ }
     ensures { λ r. ⌜ Replied (replyOf (take end (now (held .entry))) taken seen) r (now (held .exit)) (now (packet .exit)) ⌝ }
@@ -93,7 +93,7 @@ fn deliver(held: &mut [u8], seen: Sight, end: usize, taken: usize, packet: &mut 
 fn deliver_chunk(
     held: &mut [u8],
     chunk: &[u8],
-    seen: Sight,
+    seen: Scanned,
     end: usize,
     before: usize,
     packet: &mut [u8],
@@ -175,7 +175,7 @@ fn gap_slices(held: &mut [u8], count: usize, packet: &mut [u8]) -> Step
         (now (held .exit)) (now (packet .exit)) ⌝ }
 {
     let seen = windows::scan_closed(&held[..count]);
-    if let Sight::Waiting { at: _, lacks: _ } = seen {
+    if let Scanned::Waiting { at: _ } = seen {
         return stepped(0, 0, StepEvent::Silent);
     }
     deliver(held, seen, count, 0, packet)

@@ -30,7 +30,7 @@ same-length c = search needs
 returns : tie.Need-returns
 returns c =
     let g = c .before in
-    gap-nothing protocol2 laws _ _ _ _ _ _ (rw (g .enum-told .given .1) at (c .before .before .before .scan-closed .ensures))
+    gap-nothing protocol2 laws _ _ _ _ _ (rw (g .enum-told .given .1) at (c .before .before .before .scan-closed .ensures))
     (c .stepped .ensures)
 
 deliver-requires : tie.Need-deliver-requires
@@ -38,7 +38,7 @@ deliver-requires c κs =
     let s = c .before .before .before .before .before .before .before in
     let k = c .before .before in
     let d = gap-decided protocol2 laws _ (k .before .scan-closed .result)
-    (λ at k′ e. miss (0 ∷ 1 ∷ []) 2 tt (rw e at (k .match .keys2))) (k .before .scan-closed .ensures) in
+    (λ at e. miss (0 ∷ 1 ∷ []) 2 tt (rw e at (k .match .keys2))) (k .before .scan-closed .ensures) in
     (room-for _ _ _ (d .0) (sym (length-take-le _ _ (search needs))), search needs, room-for _ _ _ (d .1) (s .pre .2), s .pre .2)
 
 same-length-2 : tie.Need-same-length-2
@@ -51,7 +51,7 @@ returns-2 : tie.Need-returns-2
 returns-2 c =
     let k = c .before .before .before .before .before .before .before in
     let d = gap-decided protocol2 laws _ (k .before .scan-closed .result)
-    (λ at k′ e. miss (0 ∷ 1 ∷ []) 2 tt (rw e at (k .match .keys2))) (k .before .scan-closed .ensures) in
+    (λ at e. miss (0 ∷ 1 ∷ []) 2 tt (rw e at (k .match .keys2))) (k .before .scan-closed .ensures) in
     rw (d .2) (c .before .before .before .before .deliver .ensures)
 
 pub gap-slices-spec : {M : Type 1} → statement M

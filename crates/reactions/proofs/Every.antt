@@ -7,7 +7,7 @@ use lib.ListN.{length, getD}
 use Rattle.instructions.specs.Instructions.{Effect, refusing, ping, read, write, regWrite, action, reboot, factoryReset}
 use Rattle.instructions.proofs.Options.{pick}
 use Rattle.parameters.specs.Parameters.{wordAt, syncSearch}
-use Rattle.reactions.specs.Reactions.{Reaction, unchanged, ownId, heardUndefined, syncReadBy, syncWriteBy, heardSyncRead, heardSyncWrite, heardInstruction, reaction}
+use Rattle.reactions.specs.Reactions.{Reaction, unchanged, ownId, heardUndefined, byEntry, heardSyncRead, heardSyncWrite, heardInstruction, reaction}
 use Rattle.instructions.specs.declared.RegisteredWrite.{RegisteredWrite}
 use Rattle.parameters.specs.declared.Found.{Found}
 use Rattle.parameters.specs.declared.Found.the-variants.{At, Nothing}
@@ -24,20 +24,16 @@ module _ (P : Effect → Type 0) where
       (writes : (address : ℕ) (bytes : List ℕ) → P (write table w address bytes))
       (reg-writes : (address : ℕ) (bytes : List ℕ) → P (regWrite table w address bytes)) (actions : P (action table w))
       (reboots : P (reboot table w)) (resets : (option : ℕ) → P (factoryReset table w option)) where
-    sync-read : (found : Found) (params : List ℕ) → P (syncReadBy found table w params .effect)
-    sync-read (At slot at) params = reads (wordAt params 0) (wordAt params 2)
-    sync-read Nothing params = idle
-
-    sync-write : (found : Found) (params : List ℕ) → P (syncWriteBy found table w params .effect)
-    sync-write (At slot at) params = writes _ _
-    sync-write Nothing params = idle
+    by-entry : (found : Found) (act : ℕ → ℕ → Reaction) → ((slot at : ℕ) → P (act slot at .effect)) → P (byEntry found table w act .effect)
+    by-entry (At slot at) act f = f slot at
+    by-entry Nothing act f = idle
 
     heard-sync-read : (all : Bool) (params : List ℕ) → P (heardSyncRead all table w params .effect)
-    heard-sync-read true params = sync-read (syncSearch 1 (ownId table) params) params
+    heard-sync-read true params = by-entry (syncSearch 1 (ownId table) params) _ (λ slot at. reads (wordAt params 0) (wordAt params 2))
     heard-sync-read false params = refusals 0x02
 
     heard-sync-write : (all : Bool) (params : List ℕ) → P (heardSyncWrite all table w params .effect)
-    heard-sync-write true params = sync-write (syncSearch (1 + wordAt params 2) (ownId table) params) params
+    heard-sync-write true params = by-entry (syncSearch (1 + wordAt params 2) (ownId table) params) _ (λ slot at. writes _ _)
     heard-sync-write false params = refusals 0x02
 
     instruction : (i : ℕ) (all : Bool) (params : List ℕ) → P (heardInstruction i all table w params .effect)

@@ -11,7 +11,7 @@ use borrow.Author.Tests.{eq-eqb, ne-eqb, le-leb, lt-leb}
 use Rattle.registers.specs.Registers.{tableSize}
 use Rattle.instructions.specs.Instructions.{Effect, refusing, ping, read}
 use Rattle.parameters.specs.Parameters.{wordAt, syncSearch}
-use Rattle.reactions.specs.Reactions.{Voice, silent, speaks, ownOnly, reaction, Reaction, reacting, counted, ownId, unchanged, heardPing, heardRead, heardUndefined, syncReadBy, heardSyncRead, heardInstruction}
+use Rattle.reactions.specs.Reactions.{Voice, silent, speaks, ownOnly, reaction, Reaction, reacting, counted, ownId, unchanged, heardPing, heardRead, heardUndefined, byEntry, syncReadBy, heardSyncRead, heardInstruction}
 use Rattle.reactions.specs.declared.Heard.{Heard}
 use Rattle.reactions.specs.declared.Heard.the-variants.{Packet, BadChecksum}
 use Rattle.parameters.specs.declared.Found.{Found}
@@ -97,7 +97,8 @@ module _ (table : List ℕ) (w : RegisteredWrite) where
   sync-read-keeps false params = refl
   sync-read-keeps true params = by-entry (syncSearch 1 (ownId table) params)
     where
-      by-entry : (found : Found) → table ≡ syncReadBy found table w params .effect .table
+      by-entry : (found : Found)
+          → table ≡ byEntry found table w (λ slot at. syncReadBy table w slot (wordAt params 0) (wordAt params 2)) .effect .table
       by-entry (At slot at) = refl
       by-entry Nothing = refl
 

@@ -76,26 +76,36 @@ heardFactoryReset all table w params =
 abbrev pub heardUndefined : Bool → List ℕ → RegisteredWrite → Reaction
 heardUndefined all table w = reacting (refusing table w 0x02) (ownOnly all 2)
 
--- ---- Sync lists: address, length, entries; they are sent to all devices
+-- ---- lists with an entry for each device; they are sent to all devices
 
-abbrev pub syncReadBy : Found → List ℕ → RegisteredWrite → List ℕ → Reaction
-syncReadBy (At slot at) table w params = reacting (read table w (wordAt params 0) (wordAt params 2)) (speaks 1 slot)
-syncReadBy Nothing table w params = reacting (unchanged table w) silent
+-- by the own entry, if there is one: the slot and the offset at which it stands
+abbrev pub byEntry : Found → List ℕ → RegisteredWrite → (ℕ → ℕ → Reaction) → Reaction
+byEntry (At slot at) table w act = act slot at
+byEntry Nothing table w act = reacting (unchanged table w) silent
 
-abbrev pub syncWriteBy : Found → List ℕ → RegisteredWrite → List ℕ → Reaction
-syncWriteBy (At slot at) table w params =
-    reacting (write table w (wordAt params 0) (take (wordAt params 2) (drop (at + 1) params))) silent
-syncWriteBy Nothing table w params = reacting (unchanged table w) silent
+-- answered in the slot of its entry
+abbrev pub syncReadBy : List ℕ → RegisteredWrite → ℕ → ℕ → ℕ → Reaction
+syncReadBy table w slot address n = reacting (read table w address n) (speaks 1 slot)
+
+-- not answered
+abbrev pub syncWriteBy : List ℕ → RegisteredWrite → ℕ → List ℕ → Reaction
+syncWriteBy table w address bytes = reacting (write table w address bytes) silent
+
+-- ---- Sync lists: address, length, entries
 
 -- an entry is an ID
 abbrev pub heardSyncRead : Bool → List ℕ → RegisteredWrite → List ℕ → Reaction
 heardSyncRead all table w params =
-    cond all (syncReadBy (syncSearch 1 (ownId table) params) table w params) (reacting (refusing table w 0x02) (speaks 1 0))
+    cond all
+    (byEntry (syncSearch 1 (ownId table) params) table w (λ slot at. syncReadBy table w slot (wordAt params 0) (wordAt params 2)))
+    (reacting (refusing table w 0x02) (speaks 1 0))
 
 -- an entry is an ID and as many bytes as the length says
 abbrev pub heardSyncWrite : Bool → List ℕ → RegisteredWrite → List ℕ → Reaction
 heardSyncWrite all table w params =
-    cond all (syncWriteBy (syncSearch (1 + wordAt params 2) (ownId table) params) table w params)
+    cond all
+    (byEntry (syncSearch (1 + wordAt params 2) (ownId table) params) table w
+    (λ slot at. syncWriteBy table w (wordAt params 0) (take (wordAt params 2) (drop (at + 1) params))))
     (reacting (refusing table w 0x02) (speaks 2 0))
 
 -- ---- whatever is heard

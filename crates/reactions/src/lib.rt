@@ -9,7 +9,7 @@ ghost use mathlib.Core.List.{[]};
 ghost use lib.Dec.{eqb};
 ghost use lib.ListN.{length};
 ghost use Rattle.registers.specs.Registers.{tableSize};
-ghost use Rattle.reactions.specs.Reactions.{silent, ownOnly, heardPing, heardRead, heardWrite, heardRegWrite, heardAction, heardReboot, heardFactoryReset, heardSyncRead, heardSyncWrite, heardInstruction};
+ghost use Rattle.reactions.specs.Reactions.{silent, ownOnly, heardPing, heardRead, heardWrite, heardRegWrite, heardAction, heardReboot, heardFactoryReset, syncReadBy, syncWriteBy, heardSyncRead, heardSyncWrite, heardInstruction};
 ghost use Rattle.reactions.specs.Reactions.{reaction as Reactions·reaction};
 ghost use Rattle.instructions.specs.Steps.{doneWith};
 ghost use Rattle.reactions.specs.Steps.{reactedBy, reactedOf, sizedReaction};
@@ -193,6 +193,40 @@ fn heard_factory_reset(
     own_only(done, all, 2)
 }
 
+// A read by the own entry of a list, answered in its slot.
+fn sync_read_by(
+    table: &[u8],
+    registered: RegisteredWrite,
+    slot: usize,
+    address: u16,
+    count: u16,
+) -> Reacted
+    requires { ⌜ length (now table) ≡ tableSize ⌝ }
+    ensures { λ r. ⌜ r ≡ reactedOf (syncReadBy (now (table .entry)) registered slot address count) ⌝ }
+{
+    let done = instructions::read(table, registered, address, count);
+    Reacted {
+        done,
+        speaks: true,
+        level: 1,
+        slot,
+    }
+}
+
+// A write by the own entry of a list, not answered.
+fn sync_write_by(
+    table: &mut [u8],
+    registered: RegisteredWrite,
+    address: u16,
+    bytes: &[u8],
+) -> Reacted
+    requires { ⌜ length (now table) ≡ tableSize ⌝ }
+    ensures { λ r. ⌜ r ≡ reactedOf (syncWriteBy (now (table .entry)) registered address (now (bytes .entry))) ⌝ }
+    ensures { λ _. ⌜ now (table .exit) ≡ syncWriteBy (now (table .entry)) registered address (now (bytes .entry)) .effect .table ⌝ }
+{
+    unanswered(instructions::write(table, registered, address, bytes))
+}
+
 fn heard_sync_read(table: &[u8], registered: RegisteredWrite, all: bool, params: &[u8]) -> Reacted
     requires { ⌜ length (now table) ≡ tableSize ⌝ }
     ensures { λ r. ⌜ r ≡ reactedOf (heardSyncRead all (now (table .entry)) registered (now (params .entry))) ⌝ }
@@ -203,18 +237,9 @@ fn heard_sync_read(table: &[u8], registered: RegisteredWrite, all: bool, params:
     let Found::At(slot, _) = parameters::sync_search(params, 0, table[7]) else {
         return quiet(registered);
     };
-    let done = instructions::read(
-        table,
-        registered,
-        parameters::word_at(params, 0),
-        parameters::word_at(params, 2),
-    );
-    Reacted {
-        done,
-        speaks: true,
-        level: 1,
-        slot,
-    }
+    let address = parameters::word_at(params, 0);
+    let n = parameters::word_at(params, 2);
+    sync_read_by(table, registered, slot, address, n)
 }
 
 fn heard_sync_write(
@@ -236,13 +261,8 @@ fn heard_sync_write(
     };
     let from = at + 1;
     let to = from + n as usize;
-    let done = instructions::write(
-        table,
-        registered,
-        parameters::word_at(params, 0),
-        &params[from..to],
-    );
-    unanswered(done)
+    let address = parameters::word_at(params, 0);
+    sync_write_by(table, registered, address, &params[from..to])
 }
 
 fn react(

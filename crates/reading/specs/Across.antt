@@ -51,9 +51,9 @@ CleanLine R M =
     → (took M (after M x earlier) (since chunks g) ≡ joined packets)
     × (given M (after M x earlier) (since chunks g) ≡ map packet packets)
 
--- Such a list of calls, for any packets: each is one chunk, and one gap call follows. It finishes the gap, and the reader is at
--- a start again.
-pub record OnePerChunk (R : Rules) (M : AnyReader) (x : M .State) (packets : List (List ℕ)) : Type 0 where
+-- Such calls, for any packets: each packet is one chunk, and one gap call follows. It finishes the gap, and the reader is at a
+-- start again.
+pub record OnePerChunk (M : AnyReader) (x : M .State) (packets : List (List ℕ)) : Type 0 where
   pub all-taken : took M x (since packets 1) ≡ joined packets
   pub all-given : given M x (since packets 1) ≡ map packet packets
   pub finished : Finished M x packets 1
@@ -61,7 +61,7 @@ pub record OnePerChunk (R : Rules) (M : AnyReader) (x : M .State) (packets : Lis
 
 abbrev pub PacketByPacket : Rules → AnyReader → Type 0
 PacketByPacket R M =
-    (x : M .State) → M .Fresh x → (packets : List (List ℕ)) → AllWellFormed R packets → OnePerChunk R M x packets
+    (x : M .State) → M .Fresh x → (packets : List (List ℕ)) → AllWellFormed R packets → OnePerChunk M x packets
 
 -- what is promised of every list of calls on a reader M that goes by the rules R
 pub record CallPromises (R : Rules) (M : AnyReader) : Type 0 where

@@ -17,8 +17,10 @@ ghost use Rattle.control_table.specs.Answers.{freshOut, measureOut};
 ghost use Rattle.reading.specs.Calls.{feed as Call·feed, gap as Call·gap};
 ghost use Rattle.reader.specs.Records.{saidOn, leftBy, lent, packetOn, ReaderPromises};
 ghost use Rattle.device.specs.Answers.{callAnswer, callRegistered, callTable, callOut};
-ghost use Rattle.device.specs.Stays.{StaysAccepted};
+ghost use Rattle.device.specs.Promises.{DevicePromises};
 ghost use Rattle.exchange.specs.Exchange.{exchangeAnswer, exchangeRegistered, exchangeTable, exchangeBody, exchangeOut};
+ghost use Rattle.exchange.specs.Stays.{StaysAccepted};
+ghost use Rattle.exchange.specs.Promises.{ExchangePromises};
 ghost use Rattle.cases.specs.Cases.{CasesHold};
 ghost use Rattle.numbers.specs.Exported.{exported, exportedRefusal, stepNumbers, deviceNumbers};
 ghost use Rattle.capi.specs.Heard.{heardBy, idBy};
@@ -61,6 +63,7 @@ pub extern "C" fn dxl_unstuff(body: &[u8], out: &mut [u8]) -> i64
 pub extern "C" fn dxl_fresh(table: &mut [u8]) -> i64
     ensures { λ r. ⌜ r ≡ exportedRefusal (inTable (now (table .entry)) none) ⌝ }
     ensures { λ _. ⌜ now (table .exit) ≡ freshOut (now (table .entry)) ⌝ }
+    ensures { λ _. ⌜ StaysAccepted ⌝ }
 {
     numbers::outcome(control_table::fresh(table))
 }
@@ -70,6 +73,7 @@ pub extern "C" fn dxl_fresh(table: &mut [u8]) -> i64
 pub extern "C" fn dxl_measure(table: &mut [u8], position: i32, hardware_error: u8) -> i64
     ensures { λ r. ⌜ r ≡ exportedRefusal (inTable (now (table .entry)) none) ⌝ }
     ensures { λ _. ⌜ now (table .exit) ≡ measureOut (now (table .entry)) position «hardware_error» ⌝ }
+    ensures { λ _. ⌜ StaysAccepted ⌝ }
 {
     numbers::outcome(control_table::measure(table, position, hardware_error))
 }
@@ -182,14 +186,15 @@ pub extern "C" fn dxl_device(
         (callRegistered (now (table .entry)) registered (heardBy kind) (idBy kind id) (now (body .entry)) (now (reply .entry))) ⌝ }
     ensures { λ _. ⌜ (now (table .exit) ≡ callTable (now (table .entry)) registered (heardBy kind) (idBy kind id) (now (body .entry)) (now (reply .entry)))
         × (now (reply .exit) ≡ callOut (now (table .entry)) registered (heardBy kind) (idBy kind id) (now (body .entry)) (now (reply .entry))) ⌝ }
-    ensures { λ _. ⌜ StaysAccepted ⌝ }
+    ensures { λ _. ⌜ DevicePromises × StaysAccepted ⌝ }
 {
     let heard = heard_by(kind);
     let heard_id = id_by(kind, id);
     numbers::response(device::hear(table, registered, heard, heard_id, body, reply))
 }
 
-// The device call on a packet as received, whose body goes to `body` without its stuffing.
+// The device call on a packet as received, whose body goes to `body` without its stuffing. What is no well-formed packet is met with
+// silence.
 #[no_mangle]
 pub extern "C" fn dxl_exchange(
     table: &mut [u8],
@@ -204,7 +209,7 @@ pub extern "C" fn dxl_exchange(
     ensures { λ _. ⌜ (now (table .exit) ≡ exchangeTable (now (table .entry)) registered (now (packet .entry)) (now (body .entry)) (now (reply .entry)))
         × (now (body .exit) ≡ exchangeBody (now (table .entry)) registered (now (packet .entry)) (now (body .entry)) (now (reply .entry)))
         × (now (reply .exit) ≡ exchangeOut (now (table .entry)) registered (now (packet .entry)) (now (body .entry)) (now (reply .entry))) ⌝ }
-    ensures { λ _. ⌜ CasesHold ⌝ }
+    ensures { λ _. ⌜ ExchangePromises × CasesHold ⌝ }
 {
     numbers::answered(exchange::answer(table, registered, packet, body, reply))
 }

@@ -30,8 +30,9 @@ use Rattle.table_rules.specs.Rules.{everyTouched, limitsOrdered, goalWithin, wr
 use Rattle.instructions.specs.Registered.{dropped}
 use Rattle.instructions.specs.Instructions.{read, write}
 use Rattle.reactions.specs.Reactions.{heardInstruction}
-use Rattle.device.specs.Device.{carryOut}
+use Rattle.device.specs.Device.{heeded}
 use Rattle.status.specs.Status.{replyBytes}
+use Rattle.exchange.specs.Exchange.{idHeard}
 use Rattle.instructions.specs.declared.RegisteredWrite.{RegisteredWrite}
 use Rattle.cases.specs.Cases.{Case, packet, stuffing, exchange, apart, across, carriedOut, Claim, table, CasesHold}
 
@@ -131,5 +132,5 @@ each (d ∷ cs) e c m =
 
 -- the test is computed here
 pub cases-hold : CasesHold
-unfolding reachesAcross reduceIf shift shifts crcByte crcFrom stuffAfter wellAfter unstuffAfter lengthOf bodyOf checksumRight withChecksum packetOf frontAgrees lengthAgrees verdict registers permitsBy numberAt valueAt bytesOf put freshened everyByte everyTouched limitsOrdered goalWithin writeRule readRule read write heardInstruction carryOut
+unfolding reachesAcross reduceIf shift shifts crcByte crcFrom stuffAfter wellAfter unstuffAfter lengthOf bodyOf checksumRight withChecksum packetOf frontAgrees lengthAgrees verdict registers permitsBy numberAt valueAt bytesOf put freshened everyByte everyTouched limitsOrdered goalWithin writeRule readRule read write heardInstruction heeded idHeard
 cases-hold = each table refl

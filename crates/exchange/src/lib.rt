@@ -2,6 +2,7 @@
 use device::Replied;
 use device::Response;
 use instructions::RegisteredWrite;
+use packet::Verdict;
 use reactions::Heard;
 use stuffing::Checked;
 ghost use mathlib.Core.Path.{_≡_};
@@ -19,11 +20,14 @@ pub struct Answered {
     pub registered: RegisteredWrite,
 }
 
-// The packet's ID. Where its byte is not there, 255, which no device has.
+// The packet's ID. Where the bytes are not one well-formed packet and no more, 255, which no device has.
 fn id_heard(packet: &[u8]) -> u8
     ensures { λ r. ⌜ r ≡ idHeard (now (packet .entry)) ⌝ }
 {
-    if packet.len() <= 4 {
+    let Verdict::Packet(n) = packet::judge(packet, 0) else {
+        return 255;
+    };
+    if n != packet.len() {
         return 255;
     }
     packet[4]

@@ -2,11 +2,11 @@
 use mathlib.Core.List.{List, [], _∷_}
 use mathlib.Core.Option.{Option, none, some}
 use Prim.Native.Nat.{ℕ}
-use lib.Dec.{leb, eqb}
+use lib.Dec.{leb}
 use lib.ListN.{length}
 use Rattle.lists.specs.Answer.{Answer as Lists·Answer, count, refused as Lists·refused, firstFailing, unlessRefused}
 use Rattle.lists.specs.Write.{overwritten}
-use Rattle.registers.specs.Registers.{tableSize}
+use Rattle.table_rules.specs.Outcomes.{inTable}
 use Rattle.instructions.specs.Registered.{keptBy}
 use Rattle.reactions.specs.Reactions.{ownId}
 use Rattle.device.specs.Device.{carryOut}
@@ -19,7 +19,7 @@ use Rattle.status.specs.Status.{replyBytes}
 
 -- of table and registered write
 unfoldable pub stateRefusal : List ℕ → RegisteredWrite → Option ℕ
-stateRefusal table w = firstFailing ((eqb (length table) tableSize, 21) ∷ (leb (ownId table) 252, 22) ∷ (leb (w .count) 8, 23) ∷ [])
+stateRefusal table w = inTable table (firstFailing ((leb (ownId table) 252, 22) ∷ (leb (w .count) 8, 23) ∷ []))
 
 -- of the reply buffer
 unfoldable pub roomRefusal : List ℕ → Option ℕ

@@ -11,7 +11,7 @@ use borrow.Author.Tests.{eq-eqb, ne-eqb, le-leb, lt-leb}
 use Rattle.registers.specs.Registers.{tableSize}
 use Rattle.instructions.specs.Instructions.{Effect, refusing, ping, read}
 use Rattle.parameters.specs.Parameters.{wordAt, syncSearch}
-use Rattle.reactions.specs.Reactions.{Voice, silent, speaks, ownOnly, reaction, Reaction, reacting, counted, ownId, unchanged, heardPing, heardRead, heardUndefined, byEntry, syncReadBy, heardSyncRead, heardInstruction}
+use Rattle.reactions.specs.Reactions.{Voice, silent, speaks, ownOnly, reaction, Reaction, reacting, counted, ownId, heardPing, heardRead, heardUndefined, byEntry, syncReadBy, heardSyncRead, heardInstruction}
 use Rattle.reactions.specs.declared.Heard.{Heard}
 use Rattle.reactions.specs.declared.Heard.the-variants.{Packet, BadChecksum}
 use Rattle.parameters.specs.declared.Found.{Found}
@@ -141,7 +141,7 @@ module _ (table : List ℕ) (w : RegisteredWrite) (q : Reaction) where
   pub reaction-of-size : length table ≡ tableSize → sizedReaction table w q ≡ q
   reaction-of-size s = rw (eq-eqb (length table) tableSize s)
 
-  no-reaction : (length table ≡ tableSize → ⊥) → sizedReaction table w q ≡ reacting (unchanged table w) silent
+  no-reaction : (length table ≡ tableSize → ⊥) → sizedReaction table w q ≡ reacting (refusing table w 21) silent
   no-reaction n = rw (ne-eqb (length table) tableSize n)
 
   -- the two promises of `reaction`, by the reaction that the code shows
@@ -153,9 +153,9 @@ module _ (table : List ℕ) (w : RegisteredWrite) (q : Reaction) where
       → (r ≡ reactedOf (sizedReaction table w q)) × (t ≡ sizedReaction table w q .effect .table)
   reacted-of-size s p e = reacted-as p (e ∙ sym (reaction-of-size s))
 
-  pub not-reacted : (length table ≡ tableSize → ⊥) → (r : Reacted) (t : List ℕ) → r ≡ reactedBy silent (doneWith 0 [] w) → t ≡ table
+  pub not-reacted : (length table ≡ tableSize → ⊥) → (r : Reacted) (t : List ℕ) → r ≡ reactedBy silent (doneWith 21 [] w) → t ≡ table
       → (r ≡ reactedOf (sizedReaction table w q)) × (t ≡ sizedReaction table w q .effect .table)
-  not-reacted n = reacted-as (reacting (unchanged table w) silent) (sym (no-reaction n))
+  not-reacted n = reacted-as (reacting (refusing table w 21) silent) (sym (no-reaction n))
 
 -- ---- the reply
 

@@ -1,5 +1,5 @@
-// What the device makes of what it hears: which instruction is carried out, and how that is answered. On a table of another size
-// nothing is done, and nothing is answered.
+// What the device makes of what it hears: which instruction is carried out, and how that is answered. A table of another size is
+// refused: nothing is done, 21 stands in the place of the error number, and nothing is answered.
 use instructions::Done;
 use instructions::RegisteredWrite;
 use parameters::Found;
@@ -303,7 +303,7 @@ pub fn reaction(
     ensures { λ _. ⌜ now (table .exit) ≡ sizedReaction (now (table .entry)) registered (Reactions·reaction heard all (now (table .entry)) registered (now (body .entry))) .effect .table ⌝ }
 {
     if table.len() != 136 {
-        return quiet(registered);
+        return unanswered(instructions::without_data(21, registered));
     }
     let Heard::Packet = heard else {
         return own_only(instructions::without_data(3, registered), all, 2);

@@ -5,6 +5,7 @@ use mathlib.Core.Option.{Option, none, some}
 use Prim.Native.Nat.{ℕ}
 use lib.Dec.{eqb}
 use lib.ListN.{length}
+use Rattle.lists.specs.Answer.{unlessRefused}
 use Rattle.registers.specs.Registers.{tableSize}
 use Rattle.table_rules.specs.declared.Outcome.{Outcome}
 use Rattle.table_rules.specs.declared.Outcome.the-variants.{Done, DataRange, DataLength, DataLimit, NoAccess, NotTable}
@@ -26,6 +27,9 @@ isDone DataLimit = false
 isDone NoAccess = false
 isDone NotTable = false
 
--- 21 comes first
+-- A table of another size is refused before anything else, and stays as it is: every function on a table goes by these.
 abbrev pub inTable : List ℕ → Option ℕ → Option ℕ
 inTable table next = cond (eqb (length table) tableSize) next (some 21)
+
+abbrev pub onTable : List ℕ → List ℕ → List ℕ
+onTable table new = unlessRefused (inTable table none) table new

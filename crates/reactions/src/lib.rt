@@ -291,7 +291,7 @@ fn react(
     }
 }
 
-// An empty body counts as an undefined instruction; a bad checksum has no body.
+// An empty body counts as an undefined instruction; a bad checksum has no body. [D1-D27 D31-D34]
 pub fn reaction(
     table: &mut [u8],
     registered: RegisteredWrite,

@@ -200,8 +200,9 @@ fn clear_rest(held: &mut [u8], packet: &mut [u8], step: Step)
         ≡ take (sizeIn (step .event)) (now (packet .entry)) ++ replicate (length (now (packet .entry)) - sizeIn (step .event)) 0) ⌝ }
 {
     let event = step.event;
+    let size = size_of(event);
     buffers::clear(held, step.held);
-    buffers::clear(packet, size_of(event));
+    buffers::clear(packet, size);
 }
 
 // A feeding call on the caller's held bytes, of which there are `count`, and packet buffer: the fewest bytes of the chunk that

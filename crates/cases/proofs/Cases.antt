@@ -1,7 +1,7 @@
 -- Every case of the table holds: one test, which the checker computes over the whole table, and one law that turns it into
 -- each case's claim.
 use mathlib.Core.Path.{_≡_, refl, sym, ap, ap₂, _∙_, subst}
-use mathlib.Core.Bool.{Bool, true, false, _&&_}
+use mathlib.Core.Bool.{Bool, true, false, not, _&&_}
 use mathlib.Core.List.{List, [], _∷_, List·Memᴰ, List·Memᴰ·cases-cons, List·Memᴰ·not-nil}
 use mathlib.Core.Logic.{⊎-elim}
 use Prim.Native.Nat.{ℕ}
@@ -9,18 +9,22 @@ use native.Mathlib.Omega.{arith}
 use lib.Dec.{eqb}
 use lib.ListN.{length}
 use borrow.Author.Tests.{eqb-true}
-use Rattle.lists.proofs.Bools.{and-left, and-right}
+use Rattle.lists.proofs.Bools.{and-left, and-right, both-ways}
 use Rattle.reading.specs.Rules.{Verdict, isPacket, isBadChecksum, isWaiting, isNothing}
-use Rattle.crc16.specs.Crc.{reduceIf, shift, shifts, crcByte, crcFrom}
+use Rattle.reading.specs.Across.{reachesAcross}
+use Rattle.reading.proofs.Across.{across-decided}
+use Rattle.crc.specs.Crc.{reduceIf, shift, shifts, crcByte, crcFrom}
 use Rattle.stuffing.specs.Stuffing.{stuffAfter, stuff, wellAfter, wellStuffed, unstuffAfter, unstuff}
 use Rattle.stuffing.specs.Answers.{removalRefusal}
 use Rattle.packet_front.specs.Front.{lengthOf}
 use Rattle.packet.specs.Packet.{bodyOf, checksumRight}
 use Rattle.packet_front.specs.Begun.{frontAgrees, lengthAgrees}
-use Rattle.packet.specs.Verdict.{verdict}
+use Rattle.packet.specs.Verdict.{verdict, protocol2}
+use Rattle.packet.proofs.Laws.{laws}
 use Rattle.encoder.specs.Writing.{withChecksum, packetOf}
 use Rattle.registers.specs.Registers.{registers, permitsBy}
-use Rattle.items.specs.Items.{numberAt, valueAt, bytesOf, put}
+use Rattle.lists.specs.Numbers.{numberAt, bytesOf}
+use Rattle.items.specs.Items.{valueAt, put}
 use Rattle.control_table.specs.Fresh.{freshened}
 use Rattle.registers.specs.Registers.{everyByte}
 use Rattle.table_rules.specs.Rules.{everyTouched, limitsOrdered, goalWithin, writeRule, readRule}
@@ -32,7 +36,7 @@ use Rattle.device.specs.Answers.{Answer, sent, refused, stateRefusal, roomRefus
 use Rattle.exchange.specs.Exchange.{idHeard}
 use Rattle.instructions.specs.declared.RegisteredWrite.{RegisteredWrite}
 use Rattle.cases.specs.Exchanges.{Lent, answerTo, leftBy}
-use Rattle.cases.specs.Cases.{Case, packet, stuffing, exchange, Claim, table}
+use Rattle.cases.specs.Cases.{Case, packet, stuffing, exchange, apart, across, Claim, table, CasesHold}
 
 -- ---- equality as a test
 
@@ -107,12 +111,18 @@ same-lent k l e =
     ∙ ap₂ (λ (x y : List ℕ). record { table = l .table; registered = l .registered; body = x; reply = y })
     (same-lists (k .body) (l .body) (and-left b o q)) (same-lists (k .reply) (l .reply) (and-right b o q))
 
+fails : (a : Bool) → not a ≡ true → a ≡ false
+fails false e = refl
+fails true e = let z : _≡_ {A = ℕ} 0 1 = cc in absurd (omega arith)
+
 -- ---- the test of a case, and of the table
 
 abbrev right : Case → Bool
 right (packet id body bytes) = same (packetOf id body) bytes && isPacketOf (verdict bytes) (length bytes)
 right (stuffing body stuffed) = same (stuff body) stuffed && (wellStuffed stuffed && same (unstuff stuffed) body)
 right (exchange bytes before answer after) = sameAnswer (answerTo bytes before) answer && sameLent (leftBy bytes before) after
+right (apart noise beyond) = not (reachesAcross protocol2 noise beyond)
+right (across noise beyond) = reachesAcross protocol2 noise beyond
 
 claimed : (c : Case) → right c ≡ true → Claim c
 claimed (packet id body bytes) e =
@@ -129,6 +139,9 @@ claimed (exchange bytes before answer after) e =
     let a = sameAnswer (answerTo bytes before) answer in
     let b = sameLent (leftBy bytes before) after in
     (same-answer (answerTo bytes before) answer (and-left a b e), same-lent (leftBy bytes before) after (and-right a b e))
+claimed (apart noise beyond) e = across-decided protocol2 laws noise beyond .0 (fails (reachesAcross protocol2 noise beyond) e)
+claimed (across noise beyond) e =
+    λ n. both-ways (reachesAcross protocol2 noise beyond) e (across-decided protocol2 laws noise beyond .1 n)
 
 abbrev allRight : List Case → Bool
 allRight [] = true
@@ -141,6 +154,6 @@ each (d ∷ cs) e c m =
     (λ i. each cs (and-right (right d) (allRight cs) e) c i) (List·Memᴰ·cases-cons m)
 
 -- the test is computed here
-pub cases-hold : (c : Case) → List·Memᴰ c table → Claim c
-unfolding reduceIf shift shifts crcByte crcFrom stuffAfter wellAfter unstuffAfter lengthOf bodyOf checksumRight withChecksum packetOf frontAgrees lengthAgrees verdict registers permitsBy numberAt valueAt bytesOf put freshened everyByte everyTouched limitsOrdered goalWithin writeRule readRule read write action occurs searchFrom heardInstruction heeded stateRefusal roomRefusal callRefusal removalRefusal idHeard
+pub cases-hold : CasesHold
+unfolding reachesAcross reduceIf shift shifts crcByte crcFrom stuffAfter wellAfter unstuffAfter lengthOf bodyOf checksumRight withChecksum packetOf frontAgrees lengthAgrees verdict registers permitsBy numberAt valueAt bytesOf put freshened everyByte everyTouched limitsOrdered goalWithin writeRule readRule read write action occurs searchFrom heardInstruction heeded stateRefusal roomRefusal callRefusal removalRefusal idHeard
 cases-hold = each table refl

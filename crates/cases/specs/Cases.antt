@@ -1,12 +1,13 @@
 -- The worked examples that are proved. Most are printed in the maker's pages.
 use mathlib.Core.Path.{_≡_}
 use mathlib.Core.Bool.{true}
-use mathlib.Core.List.{List, [], _∷_, _++_}
+use mathlib.Core.List.{List, [], _∷_, _++_, List·Memᴰ}
 use Prim.Native.Nat.{ℕ}
-use lib.ListN.{length}
+use lib.ListN.{length, take, drop}
 use Rattle.reading.specs.Rules.{isPacket}
+use Rattle.reading.specs.Promise.{NoneAcross}
 use Rattle.stuffing.specs.Stuffing.{stuff, wellStuffed, unstuff}
-use Rattle.packet.specs.Verdict.{verdict}
+use Rattle.packet.specs.Verdict.{verdict, protocol2}
 use Rattle.encoder.specs.Writing.{packetOf}
 use Rattle.registers.specs.Registers.{goalPosition}
 use Rattle.items.specs.Items.{put}
@@ -23,12 +24,18 @@ pub data Case : Type 0 where
   stuffing : List ℕ → List ℕ → Case
   -- a packet as received, and what is lent to the call on it: its answer, and what it leaves
   exchange : List ℕ → Lent → Answer → Lent → Case
+  -- noise, and the bytes beyond it: no packet reaches across the noise's end, as demand 3 supposes
+  apart : List ℕ → List ℕ → Case
+  -- one does
+  across : List ℕ → List ℕ → Case
 
 -- what each case says
 abbrev pub Claim : Case → Type 0
 Claim (packet id body bytes) = (packetOf id body ≡ bytes) × (verdict bytes ≡ isPacket (length bytes))
 Claim (stuffing body stuffed) = (stuff body ≡ stuffed) × (wellStuffed stuffed ≡ true) × (unstuff stuffed ≡ body)
 Claim (exchange bytes before answer after) = (answerTo bytes before ≡ answer) × (leftBy bytes before ≡ after)
+Claim (apart noise beyond) = NoneAcross protocol2 noise beyond
+Claim (across noise beyond) = ¬ NoneAcross protocol2 noise beyond
 
 -- ---- the packets
 
@@ -56,6 +63,10 @@ writeGoal =
 
 abbrev pub writeStatus : List ℕ
 writeStatus = 0xFF ∷ 0xFF ∷ 0xFD ∷ 0x00 ∷ 0x01 ∷ 0x04 ∷ 0x00 ∷ 0x55 ∷ 0x00 ∷ 0xA1 ∷ 0x0C ∷ []
+
+-- a Read with one parameter but for its last byte, which is FF: the first byte of whatever packet follows makes it whole
+abbrev pub lacksFF : List ℕ
+lacksFF = 0xFF ∷ 0xFF ∷ 0xFD ∷ 0x00 ∷ 0x01 ∷ 0x04 ∷ 0x00 ∷ 0x02 ∷ 0x41 ∷ 0x21 ∷ []
 
 -- ---- the cases
 
@@ -93,4 +104,12 @@ table =
     (left registeredTable goalTooLarge 2 (0x01 ∷ 0x00 ∷ []) lengthStatus)
     -- no room for the body
     ∷ exchange pingTo1 (lent freshTable dropped 0) (refused 13) (lent freshTable dropped 0)
+    -- noise that is a packet itself and ends right before one; a packet that ends with the first byte beyond the noise, and one
+    -- that begins with the last byte of the noise
+    ∷ apart pingTo1 pingStatus
+    ∷ across lacksFF pingTo1
+    ∷ across (take 1 pingTo1) (drop 1 pingTo1)
     ∷ []
+
+abbrev pub CasesHold : Type 0
+CasesHold = (c : Case) → List·Memᴰ c table → Claim c

@@ -11,6 +11,7 @@ use Rattle.instructions.specs.declared.RegisteredWrite.{RegisteredWrite}
 use Rattle.reactions.specs.declared.Heard.{Heard}
 
 -- the error number of an instruction, 0 for none: that of its status, or of the status that it would have where it is not answered
+-- [D40]
 abbrev pub errorNumber : List ℕ → RegisteredWrite → Heard → ℕ → List ℕ → ℕ
 errorNumber table w heard id body = heeded table w heard id body .effect .error
 
@@ -25,6 +26,7 @@ module _ (table : List ℕ) (w : RegisteredWrite) (heard : Heard) (id : ℕ) (bo
     pub left-table : callTable table w heard id body out ≡ tableIfRefused table w heard body
     pub left-registered : callRegistered table w heard id body out ≡ registeredIfRefused w heard body
 
+-- [D40]
 pub record Demand1 : Type 0 where
   -- a call that is refused by its number
   pub refused-call : (table : List ℕ) (w : RegisteredWrite) (heard : Heard) (id : ℕ) (body out : List ℕ) (number : ℕ)

@@ -16,7 +16,7 @@ use Rattle.reactions.specs.Reactions.{ownId, Voice, silent, speaks, Reaction, r
 abbrev pub hardwareErrorIn : List ℕ → ℕ
 hardwareErrorIn table = getD table (hardwareError .address) 0
 
--- ID and status return level are those before the instruction, the alert is that after it
+-- ID and status return level are those before the instruction, the alert is that after it [D29 D30 D32]
 abbrev pub replyBy : Voice → List ℕ → Effect → Reply
 replyBy silent table e = silence
 replyBy (speaks least slot) table e =
@@ -38,5 +38,6 @@ heeded table w heard id body =
     cond (eqb id (ownId table)) (reaction heard false table w body)
     (cond (eqb id 254) (reaction heard true table w body) (reacting (unchanged table w) silent))
 
+-- [D1 K9]
 abbrev pub carryOut : List ℕ → RegisteredWrite → Heard → ℕ → List ℕ → Carried
 carryOut table w heard id body = carried table (heeded table w heard id body)

@@ -10,13 +10,13 @@ use Rattle.device.specs.Answers.{sent, callAnswer, callOut}
 use Rattle.instructions.specs.declared.RegisteredWrite.{RegisteredWrite}
 use Rattle.reactions.specs.declared.Heard.{Heard}
 
--- the n bytes are a status of the device whose ID, before the instruction, is `own`
+-- the n bytes are a status of the device whose ID, before the instruction, is `own` [D41]
 pub record IsStatus (own n : ℕ) (bytes : List ℕ) : Type 0 where
   pub formed : WellFormed bytes
   pub own-id : idOf bytes ≡ own
   pub short : n ≤ 21
 
--- after an answer of n bytes, if that is not silence, the first n of the reply buffer
+-- after an answer of n bytes, if that is not silence, the first n of the reply buffer [D41]
 abbrev pub StatusWritten : Type 0
 StatusWritten =
     (table : List ℕ) (w : RegisteredWrite) (heard : Heard) (id : ℕ) (body out : List ℕ) (n slot : ℕ)

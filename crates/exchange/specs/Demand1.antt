@@ -28,6 +28,7 @@ module _ (table : List ℕ) (w : RegisteredWrite) (packet : List ℕ) where
       pub left-table : exchangeTable table w packet body out ≡ tableIfRefused table w Packet (heardOf packet .body)
       pub left-registered : exchangeRegistered table w packet body out ≡ registeredIfRefused w Packet (heardOf packet .body)
 
+-- [D40]
 pub record Demand1 : Type 0 where
   pub refused-call : (table : List ℕ) (w : RegisteredWrite) (packet body out : List ℕ) (number : ℕ)
       → exchangeAnswer table w packet body out ≡ refused number → LeftAlone table w packet body out

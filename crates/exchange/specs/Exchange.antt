@@ -28,6 +28,7 @@ idBy (isBadChecksum id) packet = 255
 idBy isWaiting packet = 255
 idBy isNothing packet = 255
 
+-- [D38]
 unfoldable pub idHeard : List ℕ → ℕ
 idHeard packet = idBy (verdict packet) packet
 
@@ -35,11 +36,11 @@ pub record Message : Type 0 where
   pub id : ℕ
   pub body : List ℕ
 
--- what the device hears of a packet as received: the ID and the unstuffed body
+-- what the device hears of a packet as received: the ID and the unstuffed body [D38]
 abbrev pub heardOf : List ℕ → Message
 heardOf packet = record { id = idHeard packet; body = unstuff (bodyOf packet) }
 
--- a refusal by its number
+-- a refusal by its number [K5 N3 N4]
 abbrev pub exchangedAnswer : Exchanged → Answer
 exchangedAnswer (Device replied) = repliedAnswer replied
 exchangedAnswer BadStuffing = refused 14
@@ -72,6 +73,6 @@ module _ (table : List ℕ) (w : RegisteredWrite) (packet body out : List ℕ) w
   abbrev pub exchangeOut : List ℕ
   exchangeOut = unlessRefused bodyRefusal out (callOut table w Packet (heardOf packet .id) (heardOf packet .body) out)
 
-  -- the unstuffed body, unless either of them refuses; the bytes after it stay
+  -- the unstuffed body, unless either of them refuses; the bytes after it stay [D39]
   abbrev pub exchangeBody : List ℕ
   exchangeBody = unlessRefused exchangeRefusal body (overwritten body (heardOf packet .body))

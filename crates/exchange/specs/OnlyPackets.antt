@@ -30,7 +30,7 @@ module _ (table : List ℕ) (w : RegisteredWrite) (packet body out : List ℕ) w
     pub new-reply : exchangeOut table w packet body out ≡ callOut table w Packet (idOf packet) (unstuff (bodyOf packet)) out
     pub new-body : exchangeBody table w packet body out ≡ unlessRefused (callRefusal table w out) body (overwritten body (unstuff (bodyOf packet)))
 
--- the bytes are one well-formed packet, with room for its body, or they are not
+-- the bytes are one well-formed packet, with room for its body, or they are not [D38]
 pub record OnlyPackets : Type 0 where
   pub packets : (table : List ℕ) (w : RegisteredWrite) (packet body out : List ℕ) → WellFormed packet
       → length (unstuff (bodyOf packet)) ≤ length body → HeardOut table w packet body out

@@ -20,7 +20,7 @@ abbrev pub lastLent : RegisteredWrite → List Call → RegisteredWrite
 lastLent w [] = w
 lastLent w (call ∷ calls) = lastLent (lentBy w call) calls
 
--- from a state that is not refused
+-- from a state that is not refused [D42]
 pub record StaysAccepted : Type 0 where
   -- no list of calls in which every lent count is at most 8 leads to 21, 22 or 23
   pub stays : (s : State) (calls : List Call) → refusalIn s ≡ none → ((w : RegisteredWrite) → List·Memᴰ (lend w) calls → w .count ≤ 8)

@@ -35,6 +35,7 @@ fn id_heard(packet: &[u8]) -> u8
 
 // The packet's body goes to the body buffer without its stuffing, and the device hears it. Faults of the caller come first, in
 // the order of their tests here, and change nothing: not the body buffer either, which is written when all tests are passed.
+// [D38 D39 N3 N4 N6-N8 N10-N12 N14]
 pub fn answer(
     table: &mut [u8],
     registered: RegisteredWrite,

@@ -13,7 +13,8 @@ use borrow.Author.Tests.{eq-eqb, lt-ltb, ltb-true, ltb-false, leb-true}
 use Rattle.lists.specs.Answer.{unlessRefused}
 use Rattle.lists.proofs.Bools.{and-left, and-right, or-right}
 use Rattle.registers.specs.Registers.{Register, registers, tableSize, endOf, deviceId, goalPosition, minPosition, presentPosition, hardwareError, registeredInstruction}
-use Rattle.items.specs.Items.{bytesOf, put, unsigned, itemBytes, valueOf, valueInRange}
+use Rattle.lists.specs.Numbers.{bytesOf}
+use Rattle.items.specs.Items.{put, unsigned, itemBytes, valueOf, valueInRange}
 use Rattle.items.proofs.Signed.{value-byte}
 use Rattle.table_rules.specs.Rules.{touches, everyTouched, stored, writeRule}
 use Rattle.table_rules.specs.Outcomes.{inTable}
@@ -22,7 +23,7 @@ use Rattle.table_rules.proofs.Walks.{each}
 use Rattle.table_rules.proofs.Judged.{good-write}
 use Rattle.control_table.specs.Fresh.{freshened}
 use Rattle.control_table.specs.Answers.{freshOut, measureOut}
-use Rattle.control_table.proofs.Put.{bytes-length}
+use Rattle.lists.proofs.Numbers.{bytes-length}
 use Rattle.control_table.proofs.Theorems.{write-short, write-inside}
 use Rattle.resets.specs.Resets.{only, resetAtReboot, rebooted, resetRom}
 use Rattle.instructions.specs.Registered.{registering, dropped, bytesToWrite, keptBy}

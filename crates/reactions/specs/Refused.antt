@@ -19,9 +19,10 @@ isAction Packet (instruction ∷ params) = eqb instruction 0x05 && eqb (length p
 abbrev pub actsOn : RegisteredWrite → Heard → List ℕ → Bool
 actsOn w heard body = isAction heard body && not (eqb (w .count) 0)
 
--- byte 69 is 0 then, and every other byte is as it was
+-- byte 69 is 0 then, and every other byte is as it was [D40]
 abbrev pub tableIfRefused : List ℕ → RegisteredWrite → Heard → List ℕ → List ℕ
 tableIfRefused table w heard body = cond (actsOn w heard body) (set table 69 0) table
 
+-- [D40]
 abbrev pub registeredIfRefused : RegisteredWrite → Heard → List ℕ → RegisteredWrite
 registeredIfRefused w heard body = cond (actsOn w heard body) dropped w

@@ -10,7 +10,7 @@ use borrow.Author.Tests.{leb-true, eq-eqb}
 use lib.ListN.{length, take, drop, getD, set}
 use lib.Seq.{drop-cons, sets}
 use Rattle.registers.specs.Registers.{Register, registers, tableSize, endOf, deviceId, baudCode, writable}
-use Rattle.items.specs.Items.{bytesOf}
+use Rattle.lists.specs.Numbers.{bytesOf}
 use Rattle.control_table.specs.Fresh.{freshened}
 use Rattle.table_rules.specs.Rules.{stored}
 use Rattle.table_rules.specs.Outcomes.{inTable, onTable}

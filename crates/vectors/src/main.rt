@@ -7,11 +7,11 @@
 // Reading stops at a record that is cut short or of another form. The last line, `end BYTES`, has the count of bytes before it.
 // Until the first device comes the control table holds 0.
 use device::Replied;
+use framer::Step;
+use framer::StepEvent;
 use instructions::RegisteredWrite;
 use libc::STDIN_FILENO;
 use libc::STDOUT_FILENO;
-use reader::Heard;
-use reader::Told;
 use stuffing::Unstuffed;
 ghost use Prim.Native.Nat.{_≤_};
 
@@ -185,26 +185,26 @@ fn hear_bad_checksum(
     answer(table, registered, heard, id, b"")
 }
 
-fn is_event(heard: Heard) -> bool {
-    match heard {
-        Heard::Packet { .. } => true,
-        Heard::BadChecksum { .. } => true,
-        Heard::Silent => false,
-        Heard::Refused => false,
+fn is_event(event: StepEvent) -> bool {
+    match event {
+        StepEvent::Packet { .. } => true,
+        StepEvent::BadChecksum { .. } => true,
+        StepEvent::Silent => false,
+        StepEvent::Refused => false,
     }
 }
 
 fn hear_event(
     table: &mut [u8; 136],
     registered: RegisteredWrite,
-    heard: Heard,
+    event: StepEvent,
     found: &[u8; 1031],
 ) -> RegisteredWrite {
-    match heard {
-        Heard::Packet { id, size } => hear_packet(table, registered, id, first(found, size)),
-        Heard::BadChecksum { id } => hear_bad_checksum(table, registered, id),
-        Heard::Silent => registered,
-        Heard::Refused => registered,
+    match event {
+        StepEvent::Packet { id, size } => hear_packet(table, registered, id, first(found, size)),
+        StepEvent::BadChecksum { id } => hear_bad_checksum(table, registered, id),
+        StepEvent::Silent => registered,
+        StepEvent::Refused => registered,
     }
 }
 
@@ -215,11 +215,11 @@ fn next(
     count: usize,
     rest: &[u8],
     found: &mut [u8; 1031],
-) -> Told {
+) -> Step {
     if over {
-        reader::gap_into(held, count, found)
+        framer::gap_in(held, count, found)
     } else {
-        reader::feed_into(held, count, rest, found)
+        framer::feed_in(held, count, rest, found)
     }
 }
 
@@ -238,12 +238,12 @@ fn hear_segment(
     let mut over = false;
     let mut left: u64 = 18446744073709551615;
     while 0 < left {
-        let told = next(over, &mut held, count, &segment[at..], &mut found);
-        count = told.held;
-        at += least(told.taken, segment.len() - at);
-        let heard = told.heard;
-        if is_event(heard) {
-            registered = hear_event(table, registered, heard, &found);
+        let step = next(over, &mut held, count, &segment[at..], &mut found);
+        count = step.held;
+        at += least(step.taken, segment.len() - at);
+        let event = step.event;
+        if is_event(event) {
+            registered = hear_event(table, registered, event, &found);
         } else if over {
             break;
         } else {

@@ -34,7 +34,7 @@ is-status own r g h =
     (record {
       formed = status-formed r (g .short) (g .known);
       own-id = status-id r ∙ g .own-id (s .0);
-      short = status-length r (g .short) (ne-eqb (r .error) 0xFF (λ e. absurd (omega (arith, g .numbered))));
+      short = omega (arith, status-length r (g .short) (ne-eqb (r .error) 0xFF (λ e. absurd (omega (arith, g .numbered)))));
     })
 
 pub status-written : StatusWritten

@@ -5,7 +5,7 @@ SHELL := /bin/sh
 .DELETE_ON_ERROR:
 # rt works in one target/ folder, so two of its runs must never overlap.
 .NOTPARALLEL:
-.PHONY: help run checksum demo lib test fuzz replay bench memory mutants fmt clean kit format promises_test vectors_test c_test header_test demo_test rust_test
+.PHONY: help run checksum demo lib test fuzz replay bench memory mutants promises fmt clean kit format promises_test vectors_test c_test header_test demo_test rust_test
 .PHONY: fuzz_program replay_file
 
 # Each crate listed here becomes an archive for C: capi is libmednukals.a, capi_NAME is libmednukals_NAME.a.
@@ -37,6 +37,7 @@ help:
 	@echo 'make bench  measure the exports beside plain C, as ratios (RUNS=N repeats it and gives the medians)'
 	@echo 'make memory  print the size of records and answers, the stack depth of each export and the size of the archive'
 	@echo 'make mutants CRATE=NAME  change the source of a crate in one place at a time and sort what the checker says (DEFINITIONS=1: its definitions)'
+	@echo 'make promises  write docs/PROMISES.md from the comments in the tree, and say what a rule lacks'
 	@echo 'make fmt    format every Rattle file'
 	@echo 'make clean  remove build/ and target/'
 
@@ -106,7 +107,7 @@ build/c/board: $(BOARD_SOURCES) examples/pty_line.h include/mednukals.h build/li
 
 # The board again, with a library that refuses what the test asks it to.
 comma := ,
-REFUSING := encode unstuff feed gap fresh measure device
+REFUSING := encode unstuff reader_feed reader_gap fresh measure device
 build/c/refusing_board: tests/c/refusing.c build/c/board
 	@$(CC) $(WARNINGS) -O2 -Iinclude -o $@ $(REFUSING:%=-Wl$(comma)--wrap=dxl_%) $(BOARD_SOURCES) $< build/lib/libmednukals.a \
 	    || $(call failed,compiling the refusing board)
@@ -124,7 +125,7 @@ header_test: $(LIBS)
 
 promises_test:
 	@$(call need,python3)
-	@python3 tests/check_promises.py || $(call failed,docs/PROMISES.md beside the tree)
+	@python3 tools/promises.py --check || $(call failed,docs/PROMISES.md beside the tree; make promises writes it anew)
 	@python3 tests/check_believe.py || $(call failed,docs/BELIEVE.md beside the tree)
 
 # The rest is in tests/vectors, and rt ci holds the proved program to its stored run.
@@ -186,7 +187,13 @@ mutants:
 	@$(call need,rt)
 	@$(call need,python3)
 	@[ -n '$(CRATE)' ] || { echo 'mednukals: make mutants CRATE=NAME [DEFINITIONS=1] [SINCE=REV] [MOST=N] [SEED=S]' >&2; exit 1; }
-	@python3 tools/mutants.py $(CRATE) $(if $(DEFINITIONS),--definitions) $(if $(SINCE),--since '$(SINCE)') $(if $(MOST),--most $(MOST)) $(if $(SEED),--seed $(SEED))
+	@python3 tools/mutants.py $(CRATE) $(if $(DEFINITIONS),--definitions) $(if $(SINCE),--since '$(SINCE)') $(if $(MOST),--most $(MOST)) $(if $(SEED),--seed $(SEED)) $(if $(LIMIT),--limit $(LIMIT))
+
+# PROMISES is made from the comments in the tree.
+promises:
+	@$(call need,python3)
+	@python3 tools/promises.py
+	@python3 tests/check_believe.py --write
 
 fmt:
 	@$(call need,rt)

@@ -33,10 +33,10 @@ static int64_t seconds; /* 0: no end */
 static int tracing, self_test_only;
 
 /* What is lent to the library, as its header says. */
-static uint8_t held[DXL_MAX_HELD], packet[DXL_MAX_PACKET], body[DXL_MAX_BODY];
+static struct dxl_reader reader; /* all 0: a fresh one */
+static uint8_t packet[DXL_MAX_PACKET], body[DXL_MAX_BODY];
 static uint8_t table[DXL_TABLE_BYTES], reply[DXL_MIN_REPLY];
 static struct dxl_registered registered;
-static size_t count;
 
 static struct line line;
 static int64_t last_byte; /* when bytes came last */
@@ -174,8 +174,8 @@ static void hear(struct dxl_step step)
 static void bytes_came(const uint8_t *chunk, size_t n)
 {
     for (;;) {
-        struct dxl_step step = dxl_feed(held, &count, chunk, n, packet);
-        if (!is_event("dxl_feed", step))
+        struct dxl_step step = dxl_reader_feed(&reader, chunk, n, packet);
+        if (!is_event("dxl_reader_feed", step))
             return;
         chunk += step.taken;
         n -= step.taken;
@@ -185,10 +185,10 @@ static void bytes_came(const uint8_t *chunk, size_t n)
 
 static void line_was_silent(void)
 {
-    trace("gap, held", held, count);
+    trace("gap, held", reader.bytes, reader.count);
     for (;;) {
-        struct dxl_step step = dxl_gap(held, &count, packet);
-        if (!is_event("dxl_gap", step))
+        struct dxl_step step = dxl_reader_gap(&reader, packet);
+        if (!is_event("dxl_reader_gap", step))
             return;
         hear(step);
     }
@@ -233,7 +233,7 @@ static void move_arm(void)
 /* The segment ends here, unless bytes come earlier. Where none are held, a gap changes nothing. */
 static int64_t gap_end(void)
 {
-    return count > 0 ? last_byte + gap : LINE_NEVER;
+    return reader.count > 0 ? last_byte + gap : LINE_NEVER;
 }
 
 static int64_t earlier(int64_t a, int64_t b)
@@ -287,8 +287,8 @@ static void self_test(void)
     uint8_t ping[16];
     size_t n = accepted("dxl_encode", dxl_encode(table[ID], PING, body, 0, ping, sizeof ping, 0));
     expect_checksum(ping, n);
-    struct dxl_step step = dxl_feed(held, &count, ping, n, packet);
-    if (!is_event("dxl_feed", step) || step.count != n || memcmp(packet, ping, n) != 0)
+    struct dxl_step step = dxl_reader_feed(&reader, ping, n, packet);
+    if (!is_event("dxl_reader_feed", step) || step.count != n || memcmp(packet, ping, n) != 0)
         test_failed("the Ping is not read as it was encoded");
     size_t status = (size_t)carry_out(step).count;
     if (status == 0)

@@ -61,7 +61,8 @@ enum {
     DXL_MAX_BODY = 1022,   /* its body, stuffed or not */
     DXL_MAX_HELD = 1030,   /* the most bytes that a reader holds between two calls */
     DXL_TABLE_BYTES = 136, /* the control table */
-    DXL_MIN_REPLY = 32     /* the shortest reply buffer; every status packet of dxl_device fits */
+    DXL_MAX_STATUS = 21,   /* the longest status packet of dxl_device and dxl_exchange */
+    DXL_MIN_REPLY = 32     /* the shortest reply buffer that they accept */
 };
 
 /* The ID that addresses all devices. */
@@ -124,21 +125,22 @@ struct dxl_step {
  * event, and reading goes on at the next byte: a packet inside a damaged one is found. Anything else is passed over byte by byte,
  * without an event.
  *
- * The reader's record is the caller's: held and *count. It lives as long as the device.
- * - To begin, set *count to 0; held may then have any bytes.
- * - After that nobody but dxl_feed and dxl_gap writes held and *count. These keep *count at 1,030 or less and set
- *   held[*count] to held[1029] to 0. Any other record with *count at 1,030 or less is accepted too: its first *count bytes count
- *   as held, the others are ignored.
+ * The reader's record is the caller's, and lives as long as the device.
+ * - To begin, set its count to 0; its bytes may then be any.
+ * - After that nobody but the reader's calls writes it. These keep the count at 1,030 or less and set the bytes past it to 0. Any
+ *   other record with a count of 1,030 or less is accepted too: its first bytes, as many as the count says, are held, the others
+ *   are ignored.
  * - One call at a time on one record.
  *
- * The bytes that have come go to dxl_feed, chunk by chunk. After a silence of more than 1.5 ms dxl_gap ends the segment. The
- * library has no clock, so that the caller says when that is.
+ * The bytes that have come go to dxl_reader_feed, chunk by chunk. After a silence of more than 1.5 ms dxl_reader_gap ends the
+ * segment. The library has no clock, so that the caller says when that is. dxl_feed and dxl_gap are the same two calls on a
+ * record by its parts, where the caller keeps these elsewhere.
  *
- *     static uint8_t held[DXL_MAX_HELD], packet[DXL_MAX_PACKET], body[DXL_MAX_BODY];
+ *     static struct dxl_reader reader;          // all 0: a fresh one
+ *     static uint8_t packet[DXL_MAX_PACKET], body[DXL_MAX_BODY];
  *     static uint8_t table[DXL_TABLE_BYTES];    // filled once, by dxl_fresh
  *     static uint8_t reply[DXL_MIN_REPLY];
  *     static struct dxl_registered registered;  // all 0: none
- *     static size_t count;                      // 0: a fresh reader
  *
  *     static void hear(struct dxl_step step)
  *     {
@@ -155,7 +157,7 @@ struct dxl_step {
  *     void bytes_came(const uint8_t *chunk, size_t n)
  *     {
  *         for (;;) {
- *             struct dxl_step step = dxl_feed(held, &count, chunk, n, packet);
+ *             struct dxl_step step = dxl_reader_feed(&reader, chunk, n, packet);
  *             if (step.kind == DXL_NO_EVENT || step.kind == DXL_BAD_READER)
  *                 return;
  *             chunk += step.taken;
@@ -167,7 +169,7 @@ struct dxl_step {
  *     void line_was_silent(void)
  *     {
  *         for (;;) {
- *             struct dxl_step step = dxl_gap(held, &count, packet);
+ *             struct dxl_step step = dxl_reader_gap(&reader, packet);
  *             if (step.kind == DXL_NO_EVENT || step.kind == DXL_BAD_READER)
  *                 return;
  *             hear(step);
@@ -178,12 +180,18 @@ struct dxl_step {
  * memory was overwritten; examples/board.c, the same loop on a real line, tests for it after each call and stops.
  */
 
+/* The reader's record: the first count bytes are held. */
+struct dxl_reader {
+    uint8_t bytes[1030];
+    size_t count;
+};
+
 /*
  * Feeds a chunk: reads on in the held bytes and then in the chunk, up to the next event.
  *
- * held, count   the reader's record
- * chunk, n      the bytes that have come; any bytes of any number
- * packet        gets the packet of a DXL_PACKET event
+ * reader     the record
+ * chunk, n   the bytes that have come; any bytes of any number
+ * packet     gets the packet of a DXL_PACKET event
  *
  * Answers the next event, and as taken the fewest bytes of the chunk after which it is decided, which may be none; the caller
  * feeds the others again. Where no event is decided, answers DXL_NO_EVENT, and all n bytes are taken.
@@ -195,9 +203,10 @@ struct dxl_step {
  * packet becomes all 0. The held bytes after an event are all bytes taken so far from where reading goes on; after DXL_NO_EVENT
  * they are the beginning of what may be a packet and is not all there, or none.
  *
- * Refuses with kind DXL_BAD_READER where *count is above 1,030; taken, count and id are then 0, and held, *count and packet stay.
+ * Refuses with kind DXL_BAD_READER where the record's count is above 1,030; taken, count and id are then 0, and record and packet
+ * stay as they were.
  */
-struct dxl_step dxl_feed(uint8_t held[1030], size_t *count, const uint8_t *chunk, size_t n, uint8_t packet[1031]);
+struct dxl_step dxl_reader_feed(struct dxl_reader *reader, const uint8_t *chunk, size_t n, uint8_t packet[1031]);
 
 /*
  * Ends the segment: answers the next event in the held bytes where no more bytes follow, or DXL_NO_EVENT where nothing is left.
@@ -206,8 +215,12 @@ struct dxl_step dxl_feed(uint8_t held[1030], size_t *count, const uint8_t *chunk
  * gap is finished, and the reader holds nothing. Bytes fed earlier than that join those that are still held. Without gap calls a
  * packet behind noise may be told only when 1,030 bytes have followed the noise.
  *
- * packet and held are written as by dxl_feed, and it refuses as dxl_feed does; taken is always 0.
+ * packet and the record are written as by dxl_reader_feed, and it refuses as that does; taken is always 0.
  */
+struct dxl_step dxl_reader_gap(struct dxl_reader *reader, uint8_t packet[1031]);
+
+/* The same two calls on a record by its parts: held are its bytes, *count its count. */
+struct dxl_step dxl_feed(uint8_t held[1030], size_t *count, const uint8_t *chunk, size_t n, uint8_t packet[1031]);
 struct dxl_step dxl_gap(uint8_t held[1030], size_t *count, uint8_t packet[1031]);
 
 /*
@@ -252,7 +265,7 @@ struct dxl_answer {
  * body, n_body     DXL_PACKET: the unstuffed body, instruction and parameters, of any number of bytes; otherwise it is ignored
  * reply, n_reply   the buffer for the status packet
  *
- * Answers the status packet's byte count, 11 to 32, with its slot, 0 for silence, or
+ * Answers the status packet's byte count, 11 to 21, with its slot, 0 for silence, or
  *   -21  n_table is not 136
  *   -22  the table's ID (byte 7) is above 252
  *   -23  the registered write's count is above 8
@@ -269,19 +282,18 @@ struct dxl_answer dxl_device(uint8_t *table, size_t n_table, struct dxl_register
  * dxl_unstuff and dxl_device in one call: the device hears a packet as it was received.
  *
  * table, n_table, registered, reply, n_reply   as for dxl_device
- * packet, n_packet   the packet's bytes from its header to its checksum, as dxl_feed and dxl_gap leave them; n_packet is the
- *                    count that they answer. The reader has tested them, and here only the stuffing is tested: the ID is
- *                    byte 4, the body everything from byte 7 up to the last two bytes. Any other bytes are accepted too: fewer
- *                    than 5 are sent to nobody, fewer than 10 have an empty body
+ * packet, n_packet   the packet's bytes from its header to its checksum, as the reader's calls leave them; n_packet is the count
+ *                    that they answer. Bytes that are not exactly one well-formed packet, its checksum right, are silence: they
+ *                    change no table. A bad checksum has no bytes to hand on: dxl_device takes it by its kind
  * body, n_body       a buffer for the unstuffed body; DXL_MAX_BODY bytes are room enough for every packet of the reader
  *
  * Answers as dxl_device does of DXL_PACKET, the ID and the unstuffed body, or
- *   -14  the body is not well stuffed; never of a packet of the reader
+ *   -14  the body, everything from byte 7 up to the last two bytes, is not well stuffed; never of a packet of the reader
  *   -13  the unstuffed body has more than n_body bytes
  *   -21 to -24, as dxl_device
  *
- * The unstuffed body starts at byte 0 of body, also where the packet is for another device, and the bytes after it stay as they
- * were. Where the call refuses, all of body stays too. table, reply and the registered write become what dxl_device makes of them.
+ * The unstuffed body starts at byte 0 of body, also where the packet is for another device or the bytes are silence, and the
+ * bytes after it stay as they were. Where the call refuses, all of body stays too. table, reply and the registered write become what dxl_device makes of them.
  */
 struct dxl_answer dxl_exchange(uint8_t *table, size_t n_table, struct dxl_registered registered, const uint8_t *packet,
                                size_t n_packet, uint8_t *body, size_t n_body, uint8_t *reply, size_t n_reply);

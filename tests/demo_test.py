@@ -229,7 +229,7 @@ class BoardTest(unittest.TestCase):
             noise.kill()
 
     def test_refusals(self):
-        at_start = {"dxl_fresh": [21], "dxl_encode": [11, 12, 13], "dxl_feed": [25], "dxl_unstuff": [14, 13],
+        at_start = {"dxl_fresh": [21], "dxl_encode": [11, 12, 13], "dxl_reader_feed": [25], "dxl_unstuff": [14, 13],
                     "dxl_device": [21, 22, 23, 24], "dxl_measure": [21]}
         for call, number in [(call, number) for call, numbers in at_start.items() for number in numbers]:
             with self.subTest(call=call, number=number):
@@ -238,10 +238,10 @@ class BoardTest(unittest.TestCase):
                 self.assertRegex(errors, rf"^board: {call} refuses with {number}: (?!a number).*\n$")
 
     def test_refusal_of_a_gap(self):
-        with Board(program=REFUSING_BOARD, REFUSING="dxl_gap", REFUSAL="25") as board:
+        with Board(program=REFUSING_BOARD, REFUSING="dxl_reader_gap", REFUSAL="25") as board:
             board.send(PING[:3])
             self.assertEqual(board.process.wait(PATIENCE), 3)
-            self.assertEqual(board.said(), "board: dxl_gap refuses with 25: the reader's count is above 1,030\n")
+            self.assertEqual(board.said(), "board: dxl_reader_gap refuses with 25: the reader's count is above 1,030\n")
 
     def test_bytes_that_waited_are_no_gap(self):
         with Board("--gap", "500000") as board:

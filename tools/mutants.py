@@ -1,12 +1,13 @@
 #!/usr/bin/env python3
 """Changes the source of a crate in one place at a time and sorts what the checker says of each change.
 
-  mutants.py CRATE [--definitions] [--since REV] [--most N] [--seed S] [--list]
+  mutants.py CRATE [--definitions] [--since REV] [--most N] [--seed S] [--limit SECONDS] [--list]
 
 accepted    the crate is still proved: the change is equal in meaning, or a promise is too weak
 fact        a statement no longer holds: what one hopes for
 shape       the proof file no longer fits the code, which shows nothing of the promise
 no program  the compiler refuses the change, or the changed definition is none
+no verdict  the checks of the change took longer than the limit
 
 With --definitions the files of specs/ are changed and the code is not. What the crate itself does not notice is put to the crates
 that stand on it, one after the other: an accepted change is one that no code and no law of any of them notices. It tells of changes
@@ -17,9 +18,11 @@ With --since only lines are changed that are new since that commit, so that afte
 Each change is checked in a copy under target/mutants/, by the quick check; an accepted one is checked again from nothing.
 """
 import argparse
+import os
 import random
 import re
 import shutil
+import signal
 import subprocess
 import sys
 import time
@@ -36,10 +39,12 @@ WORDS = [("true", "false"), ("false", "true")]
 NUMBER = re.compile(r"(?<![\w.])(0x[0-9A-Fa-f]+|\d+)(?![\w.])")
 # the same in a definition, where tests are functions
 DEFINITION_SWAPS = [(" + ", " - "), (" - ", " + "), (" * ", " + "), (" / ", " % "), (" % ", " / "), (" && ", " || "), (" || ", " && "),
-                    ("leb ", "ltb "), ("ltb ", "leb "), ("take ", "drop "), ("drop ", "take ")]
+                    ("leb ", "ltb "), ("ltb ", "leb "), ("take ", "drop "), ("drop ", "take "), (" < ", " ≤ "), (" ≤ ", " < ")]
 HOMES = {"leb": "lib.Dec", "ltb": "lib.Dec", "take": "lib.ListN", "drop": "lib.ListN", "+": "Prim.Native.Nat", "-": "Prim.Native.Nat",
-         "%": "Prim.Native.Nat", "/": "Prim.Native.Nat", "&&": "mathlib.Core.Bool", "||": "mathlib.Core.Bool"}
-SIGNATURE = re.compile(r"^\s*(--|use |pub mod |(abbrev |unfoldable |pub |record |data |module )|\S+ : |$)")
+         "%": "Prim.Native.Nat", "/": "Prim.Native.Nat", "<": "Prim.Native.Nat", "≤": "Prim.Native.Nat", "&&": "mathlib.Core.Bool",
+         "||": "mathlib.Core.Bool", "true": "mathlib.Core.Bool", "false": "mathlib.Core.Bool"}
+# what says nothing of numbers; a field of a record is a statement, and is changed
+NO_DEFINITION = re.compile(r"^\s*(--|use |pub mod |mod |module |unfolding |$)")
 PASSED_OVER = re.compile(r"^\s*(//|ghost |use |mod |pub use |requires|ensures|#\[|pub struct|pub enum|\}|\{|$)")
 STATEMENT = re.compile(r"^\s*(?!let |return|pub |fn |while |if |\} else)\S.*;$")
 
@@ -103,7 +108,7 @@ def brought(text, word):
 def changed_definitions(text):
     lines = text.split("\n")
     for number, line in enumerate(lines):
-        if SIGNATURE.match(line) and " = " not in line:
+        if NO_DEFINITION.match(line):
             continue
         for old, new in DEFINITION_SWAPS:
             for found in re.finditer(r"(?<!\w)" + re.escape(old) if old[0] != " " else re.escape(old), line):
@@ -112,9 +117,12 @@ def changed_definitions(text):
                     yield number, other
         for old, new in WORDS:
             for found in re.finditer(rf"(?<![\w-]){old}(?![\w-])", line):
-                yield number, changed(text, number, line[:found.start()] + new + line[found.end():])
+                other = brought(changed(text, number, line[:found.start()] + new + line[found.end():]), new)
+                if other:
+                    yield number, other
         for found in NUMBER.finditer(line):
-            yield number, changed(text, number, line[:found.start()] + str(int(found.group(), 0) + 1) + line[found.end():])
+            if not line[:found.start()].endswith(("Type ", "-")):  # a universe, or a part of a name
+                yield number, changed(text, number, line[:found.start()] + str(int(found.group(), 0) + 1) + line[found.end():])
 
 
 def reordered(text):
@@ -135,9 +143,17 @@ def new_lines(path, since):
     return {first - 1 + k for first, count in parts for k in range(count)}
 
 
-def check(command, crate):
-    run = subprocess.run(["rt", command, crate], cwd=PLACE, capture_output=True, text=True)
-    return run.returncode, run.stdout + run.stderr
+def check(command, crate, until=None):
+    """The exit status and the words of rt; a run that is not over in time is ended, with all that it started."""
+    run = subprocess.Popen(["rt", command, crate], cwd=PLACE, stdout=subprocess.PIPE, stderr=subprocess.STDOUT, text=True,
+                           start_new_session=True)
+    try:
+        said, _ = run.communicate(timeout=until and max(until - time.monotonic(), 1))
+    except subprocess.TimeoutExpired:
+        os.killpg(run.pid, signal.SIGKILL)
+        run.communicate()
+        raise
+    return run.returncode, said
 
 
 def users(crate):
@@ -146,10 +162,19 @@ def users(crate):
     return [line.group(1) for line in listed if line and crate in line.group(2).split()]
 
 
-def verdict(crate, definitions):
-    code, said = check("dev", crate)
+def verdict(crate, definitions, limit):
+    until = time.monotonic() + limit
+    try:
+        return verdict_until(crate, definitions, until)
+    except subprocess.TimeoutExpired:
+        return "no verdict", ""
+
+
+def verdict_until(crate, definitions, until):
+    code, said = check("dev", crate, until)
     if code == 0 and "logic=proved" in said:
-        refusing = next((name for name in [crate, *(users(crate) if definitions else [])] if check("check", name)[0] != 0), None)
+        asked = [crate, *(users(crate) if definitions else [])]
+        refusing = next((name for name in asked if check("check", name, until)[0] != 0), None)
         return ("fact", f"noticed by {refusing}") if refusing else ("accepted", "")
     errors = [line for line in said.split("\n") if ": error" in line or "it is not proved that" in line or "no proof:" in line]
     if "logic=not-proved" not in said:
@@ -175,6 +200,7 @@ def main():
     parser.add_argument("--since", metavar="REV", help="change only lines that are new since that commit")
     parser.add_argument("--most", type=int, default=0, help="as many at the most, picked at random (0: all)")
     parser.add_argument("--seed", type=int, default=1)
+    parser.add_argument("--limit", type=int, default=600, metavar="SECONDS", help="for all checks of one change (600)")
     parser.add_argument("--list", action="store_true", help="only list the changes")
     asked = parser.parse_args()
     folder, kind_of_file, changes = ("specs", "*.antt", changed_definitions) if asked.definitions else ("src", "*.rt", mutants)
@@ -202,14 +228,14 @@ def main():
             continue
         target = PLACE / path.relative_to(ROOT)
         target.write_text(new)
-        kind, why = verdict(asked.crate, asked.definitions)
+        kind, why = verdict(asked.crate, asked.definitions, asked.limit)
         target.write_text(path.read_text())
         counts[kind] = counts.get(kind, 0) + 1
         print(f"[{k}/{len(found)}, {time.time() - began:.0f} s] {kind}: {place}: {old}  =>  {after}", flush=True)
         if kind == "shape" or why.startswith("noticed by"):
             print(f"    {why[:160]}", flush=True)
     if not asked.list:
-        print(", ".join(f"{counts.get(kind, 0)} {kind}" for kind in ("accepted", "fact", "shape", "no program")))
+        print(", ".join(f"{counts.get(kind, 0)} {kind}" for kind in ("accepted", "fact", "shape", "no program", "no verdict")))
 
 
 if __name__ == "__main__":

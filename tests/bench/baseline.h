@@ -18,8 +18,7 @@ int64_t baseline_encode(uint8_t id, uint8_t instruction, const uint8_t *params, 
 
 struct dxl_step baseline_feed(uint8_t held[1030], size_t *count, const uint8_t *chunk, size_t n, uint8_t packet[1031]);
 struct dxl_step baseline_gap(uint8_t held[1030], size_t *count, uint8_t packet[1031]);
-struct core_step baseline_core_feed(uint8_t held[1030], size_t count, const uint8_t *chunk, size_t n, uint8_t packet[1031]);
-struct value_step baseline_feed_value(uint8_t held[1030], size_t count, const uint8_t *chunk, size_t n);
+struct fed_value baseline_feed_value(const uint8_t held[1030], size_t count, const uint8_t *chunk, size_t n);
 
 int64_t baseline_fresh(uint8_t *table, size_t n);
 int64_t baseline_measure(uint8_t *table, size_t n, int32_t position, uint8_t hardware_error);

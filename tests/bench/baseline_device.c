@@ -346,6 +346,18 @@ static int64_t removed(const uint8_t *stuffed, size_t n, uint8_t *out)
     return count;
 }
 
+/* Exactly one packet, by every rule but that of its stuffing, which is tested before. */
+static int is_packet(const uint8_t *packet, size_t n)
+{
+    static const uint8_t header[4] = {0xFF, 0xFF, 0xFD, 0x00};
+    if (n < 10 || n > DXL_MAX_PACKET || memcmp(packet, header, sizeof header) != 0 || packet[4] == 253 || packet[4] == 255
+        || (size_t)(packet[5] | packet[6] << 8) != n - 7)
+        return 0;
+    /* going on from the checksum of FF FF FD 00, as ours does */
+    uint16_t crc = baseline_crc16(0x0E28, packet + 4, n - 6);
+    return packet[n - 2] == (crc & 255) && packet[n - 1] == crc >> 8;
+}
+
 struct dxl_answer baseline_exchange(uint8_t *table, size_t n_table, struct dxl_registered registered, const uint8_t *packet,
                                     size_t n_packet, uint8_t *body, size_t n_body, uint8_t *reply, size_t n_reply)
 {
@@ -359,6 +371,6 @@ struct dxl_answer baseline_exchange(uint8_t *table, size_t n_table, struct dxl_r
     if (refused.count < 0)
         return refused;
     removed(stuffed, n_stuffed, body);
-    uint8_t id = n_packet > 4 ? packet[4] : 255;
+    uint8_t id = is_packet(packet, n_packet) ? packet[4] : 255;
     return baseline_device(table, n_table, registered, DXL_PACKET, id, body, (size_t)count, reply, n_reply);
 }

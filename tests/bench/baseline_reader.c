@@ -78,17 +78,12 @@ static void hold(const struct row *row, size_t from, size_t to, uint8_t *held, s
     memset(held + *count, 0, DXL_MAX_HELD - *count);
 }
 
-/* What happens to the packet buffer past the packet. */
-enum rest { LEFT, CLEARED };
-
-static void end_packet(uint8_t *packet, size_t count, enum rest rest)
+static void end_packet(uint8_t *packet, size_t count)
 {
-    if (rest == CLEARED)
-        memset(packet + count, 0, DXL_MAX_PACKET - count);
+    memset(packet + count, 0, DXL_MAX_PACKET - count);
 }
 
-static struct dxl_step read_on(uint8_t *held, size_t *count, const uint8_t *chunk, size_t n, uint8_t *packet, int closed,
-                               enum rest rest)
+static struct dxl_step read_on(uint8_t *held, size_t *count, const uint8_t *chunk, size_t n, uint8_t *packet, int closed)
 {
     struct dxl_step step = {0, 0, DXL_NO_EVENT, 0};
     if (*count > DXL_MAX_HELD) {
@@ -122,11 +117,11 @@ static struct dxl_step read_on(uint8_t *held, size_t *count, const uint8_t *chun
         } else {
             step.kind = DXL_BAD_CHECKSUM;
         }
-        end_packet(packet, step.count, rest);
+        end_packet(packet, step.count);
         hold(&row, right ? at + size : at + 1, decided, held, count);
         return step;
     }
-    end_packet(packet, 0, rest);
+    end_packet(packet, 0);
     step.taken = n;
     hold(&row, at, row.all, held, count);
     return step;
@@ -134,33 +129,21 @@ static struct dxl_step read_on(uint8_t *held, size_t *count, const uint8_t *chun
 
 struct dxl_step baseline_feed(uint8_t held[1030], size_t *count, const uint8_t *chunk, size_t n, uint8_t packet[1031])
 {
-    return read_on(held, count, chunk, n, packet, 0, CLEARED);
+    return read_on(held, count, chunk, n, packet, 0);
 }
 
 struct dxl_step baseline_gap(uint8_t held[1030], size_t *count, uint8_t packet[1031])
 {
     static const uint8_t none[1];
-    return read_on(held, count, none, 0, packet, 1, CLEARED);
+    return read_on(held, count, none, 0, packet, 1);
 }
 
-struct core_step baseline_core_feed(uint8_t held[1030], size_t count, const uint8_t *chunk, size_t n, uint8_t packet[1031])
+struct fed_value baseline_feed_value(const uint8_t held[1030], size_t count, const uint8_t *chunk, size_t n)
 {
-    struct dxl_step step = read_on(held, &count, chunk, n, packet, 0, LEFT);
-    uint8_t id = step.kind == DXL_PACKET ? 0 : step.id;
-    struct core_step core = {step.taken, count, step.count, step.kind, id};
-    return core;
-}
-
-struct value_step baseline_feed_value(uint8_t held[1030], size_t count, const uint8_t *chunk, size_t n)
-{
-    struct value_step value;
-    struct dxl_step step = read_on(held, &count, chunk, n, value.bytes, 0, CLEARED);
-    if (step.kind == DXL_BAD_READER)
-        memset(value.bytes, 0, sizeof value.bytes);
-    value.taken = step.taken;
-    value.held = count;
-    value.count = step.count;
-    value.kind = step.kind;
-    value.id = step.id;
-    return value;
+    struct fed_value fed;
+    memcpy(fed.reader.bytes, held, sizeof fed.reader.bytes);
+    fed.reader.count = count;
+    memset(fed.packet, 0, sizeof fed.packet);
+    fed.step = read_on(fed.reader.bytes, &fed.reader.count, chunk, n, fed.packet, 0);
+    return fed;
 }

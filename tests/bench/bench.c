@@ -166,44 +166,19 @@ static uint16_t read_line(feeder *feed, gapper *gap, uint16_t last, size_t n)
     return last;
 }
 
-typedef struct core_step core_feeder(uint8_t held[1030], size_t count, const uint8_t *chunk, size_t n, uint8_t packet[1031]);
-typedef struct value_step value_feeder(uint8_t held[1030], size_t count, const uint8_t *chunk, size_t n);
+typedef struct fed_value value_feeder(const uint8_t held[1030], size_t count, const uint8_t *chunk, size_t n);
 
-/* These two have no gap call beside them: they read a line that ends with a packet. */
-static uint16_t read_core(core_feeder *feed, uint16_t last, size_t n)
-{
-    size_t count = 0;
-    for (size_t at = 0; at < n_line;) {
-        struct core_step step = feed(held, count, line + at, least(n, n_line - at), packet);
-        uint8_t end = step.count > 0 ? packet[step.count - 1] : 0;
-        last = mixed(last, step.taken, step.count, step.kind, step.id, end);
-        count = step.held;
-        at += step.taken;
-    }
-    return last;
-}
-
+/* No gap call is beside it: it reads a line that ends with a packet. */
 static uint16_t read_value(value_feeder *feed, uint16_t last, size_t n)
 {
-    size_t count = 0;
+    struct fed_value fed = {.reader = {.count = 0}};
     for (size_t at = 0; at < n_line;) {
-        struct value_step step = feed(held, count, line + at, least(n, n_line - at));
-        uint8_t end = step.bytes[step.count > 0 ? step.count - 1 : 0];
-        last = mixed(last, step.taken, step.count, step.kind, step.id, end);
-        count = step.held;
-        at += step.taken;
+        fed = feed(fed.reader.bytes, fed.reader.count, line + at, least(n, n_line - at));
+        uint8_t end = fed.packet[fed.step.count > 0 ? fed.step.count - 1 : 0];
+        last = mixed(last, fed.step.taken, fed.step.count, fed.step.kind, fed.step.id, end);
+        at += fed.step.taken;
     }
     return last;
-}
-
-static uint16_t core_ours(uint16_t last, size_t n)
-{
-    return read_core(dxl_test_core_feed, last, n);
-}
-
-static uint16_t core_baseline(uint16_t last, size_t n)
-{
-    return read_core(baseline_core_feed, last, n);
 }
 
 static uint16_t value_ours(uint16_t last, size_t n)
@@ -371,18 +346,16 @@ static int measure_device(const char *what, size_t n)
     return measure(what, device_ours, device_baseline, n, 1e-6, "Mcalls/s");
 }
 
-/* The core of the call with one byte, and the call that answers by value, which has to clear or copy the answer's bytes. */
-static int measure_one_byte(void)
+/* The call by value with one byte: it copies the record in and out. */
+static int measure_value(void)
 {
-    double amount = (double)n_line * 1e-6;
-    return measure("read core, packets of 14", core_ours, core_baseline, 1, amount, "MB/s")
-           && measure("read by value, packets of 14", value_ours, value_baseline, 1, amount, "MB/s");
+    return measure("read by value, packets of 14", value_ours, value_baseline, 1, (double)n_line * 1e-6, "MB/s");
 }
 
 static int measure_reader(void)
 {
     clean_line();
-    int good = measure_one_byte() && measure_line("read, packets of 14", 1) && measure_line("read, packets of 14", 64)
+    int good = measure_value() && measure_line("read, packets of 14", 1) && measure_line("read, packets of 14", 64)
                && measure_line("read, packets of 14", 4096);
     mixed_line();
     good = good && measure_line("read, mixed packets", 1) && measure_line("read, mixed packets", 64)

@@ -3,12 +3,6 @@
 
 #include "mednukals.h"
 
-/* What mednukals.h has the caller keep for a reader. */
-struct reader {
-    uint8_t held[DXL_MAX_HELD];
-    size_t count;
-};
-
 static void tell(const char *what, size_t bytes)
 {
     printf("  %-58s %6zu\n", what, bytes);
@@ -16,10 +10,10 @@ static void tell(const char *what, size_t bytes)
 
 int main(void)
 {
-    size_t kept = sizeof(struct reader) + DXL_TABLE_BYTES + sizeof(struct dxl_registered);
+    size_t kept = sizeof(struct dxl_reader) + DXL_TABLE_BYTES + sizeof(struct dxl_registered);
     size_t lent = DXL_MAX_PACKET + DXL_MAX_BODY + DXL_MIN_REPLY;
     printf("kept as long as the device, in bytes\n");
-    tell("reader: 1,030 held bytes and their count", sizeof(struct reader));
+    tell("reader, struct dxl_reader", sizeof(struct dxl_reader));
     tell("control table", DXL_TABLE_BYTES);
     tell("registered write, struct dxl_registered", sizeof(struct dxl_registered));
     tell("together", kept);

@@ -25,6 +25,7 @@ static uint8_t *top;
 static uint8_t line[16384], held[DXL_MAX_HELD], packet[DXL_MAX_PACKET], params[1100], out[1100];
 static uint8_t table[DXL_TABLE_BYTES], reply[DXL_MIN_REPLY], body[DXL_MAX_BODY];
 static uint8_t received[2][DXL_MAX_PACKET];
+static struct dxl_reader reader;
 static size_t n_line, count, n_body, n_received;
 static volatile int64_t answered;
 
@@ -71,6 +72,32 @@ static void call_gap(void)
     MARK_TOP();
     do {
         step = dxl_gap(held, &count, packet);
+        answered = step.kind;
+    } while (step.kind != DXL_NO_EVENT);
+}
+
+/* The same on the record in one struct. */
+static void call_reader_feed(void)
+{
+    MARK_TOP();
+    for (size_t n = 1; n <= sizeof line; n *= 8) {
+        struct dxl_step step;
+        reader.count = 0;
+        for (size_t at = 0; at < n_line; at += step.taken) {
+            step = dxl_reader_feed(&reader, line + at, n < n_line - at ? n : n_line - at, packet);
+            answered = step.kind;
+        }
+    }
+}
+
+static void call_reader_gap(void)
+{
+    struct dxl_step step;
+    memcpy(reader.bytes, held, sizeof held);
+    reader.count = count;
+    MARK_TOP();
+    do {
+        step = dxl_reader_gap(&reader, packet);
         answered = step.kind;
     } while (step.kind != DXL_NO_EVENT);
 }
@@ -225,7 +252,7 @@ static size_t deepest_device(void (*call)(void))
 
 static void tell(const char *name, size_t bytes)
 {
-    printf("  %-12s %6zu\n", name, bytes);
+    printf("  %-15s %6zu\n", name, bytes);
 }
 
 int main(void)
@@ -237,6 +264,8 @@ int main(void)
     tell("dxl_unstuff", deepest(places_to_stuff, call_unstuff));
     tell("dxl_feed", deepest(all_kinds, call_feed));
     tell("dxl_gap", deepest(full_record, call_gap));
+    tell("dxl_reader_feed", deepest(all_kinds, call_reader_feed));
+    tell("dxl_reader_gap", deepest(full_record, call_reader_gap));
     tell("dxl_fresh", deepest(nothing, call_fresh));
     tell("dxl_measure", deepest(nothing, call_measure));
     tell("dxl_device", deepest_device(call_device));

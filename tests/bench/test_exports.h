@@ -1,4 +1,4 @@
-/* The exports of libmednukals_test.a that the benchmark calls: what dxl_feed stands on. */
+/* The exports of libmednukals_test.a that the benchmark calls. */
 #ifndef TEST_EXPORTS_H
 #define TEST_EXPORTS_H
 
@@ -7,23 +7,14 @@
 
 #include "mednukals.h"
 
-/* As struct dxl_step, but that a packet's ID is 0; and how many bytes are held then. */
-struct core_step {
-    size_t taken, held, count;
-    uint8_t kind, id;
+/* What a feeding call by value gives: its answer, the packet's bytes followed by 0, and the record from now on. */
+struct fed_value {
+    struct dxl_step step;
+    uint8_t packet[DXL_MAX_PACKET];
+    struct dxl_reader reader;
 };
 
-/* The same with the packet's ID and its bytes, followed by 0. */
-struct value_step {
-    size_t taken, held, count;
-    uint8_t kind, id;
-    uint8_t bytes[DXL_MAX_PACKET];
-};
-
-/* The core of dxl_feed: it clears the record past the held bytes, and does not clear the packet buffer past the packet. */
-struct core_step dxl_test_core_feed(uint8_t held[1030], size_t count, const uint8_t *chunk, size_t n, uint8_t packet[1031]);
-
-/* A feeding call that answers by value. */
-struct value_step dxl_test_feed_value(uint8_t held[1030], size_t count, const uint8_t *chunk, size_t n);
+/* A feeding call by value, on a record that is made of the held bytes and their count. */
+struct fed_value dxl_test_feed_value(const uint8_t held[1030], size_t count, const uint8_t *chunk, size_t n);
 
 #endif

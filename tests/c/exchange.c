@@ -7,10 +7,10 @@
 
 #include "mednukals.h"
 
-static uint8_t held[DXL_MAX_HELD], packet[DXL_MAX_PACKET], body[DXL_MAX_BODY];
+static struct dxl_reader reader;
+static uint8_t packet[DXL_MAX_PACKET], body[DXL_MAX_BODY];
 static uint8_t table[DXL_TABLE_BYTES], reply[DXL_MIN_REPLY];
 static struct dxl_registered registered;
-static size_t count;
 
 /* What was sent, and in which slot at last. */
 static uint8_t sent[512];
@@ -41,7 +41,7 @@ static void hear(struct dxl_step step)
 static void bytes_came(const uint8_t *chunk, size_t n)
 {
     for (;;) {
-        struct dxl_step step = dxl_feed(held, &count, chunk, n, packet);
+        struct dxl_step step = dxl_reader_feed(&reader, chunk, n, packet);
         if (step.kind == DXL_NO_EVENT || step.kind == DXL_BAD_READER)
             return;
         chunk += step.taken;
@@ -53,7 +53,7 @@ static void bytes_came(const uint8_t *chunk, size_t n)
 static void line_was_silent(void)
 {
     for (;;) {
-        struct dxl_step step = dxl_gap(held, &count, packet);
+        struct dxl_step step = dxl_reader_gap(&reader, packet);
         if (step.kind == DXL_NO_EVENT || step.kind == DXL_BAD_READER)
             return;
         hear(step);
@@ -109,7 +109,7 @@ static void exchange(size_t chunk, int with_noise)
         expect(n_sent == 0, "a packet inside one that is still arriving is answered", chunk);
         line_was_silent();
     }
-    expect(count == 0, "bytes are held at the end", chunk);
+    expect(reader.count == 0, "bytes are held at the end", chunk);
     expect(n_sent == sizeof wanted && memcmp(sent, wanted, sizeof wanted) == 0, "the answers are not those printed", chunk);
     expect(last_slot == 1, "Ping to all is not answered in the slot of the own ID", chunk);
     expect(table[116] == 0 && table[117] == 2, "the goal position is not 512", chunk);
@@ -167,11 +167,19 @@ static void refusals(void)
     answer = dxl_exchange(other, 135, none, line, 10, body, sizeof body, reply, sizeof reply);
     expect(answer.count == -DXL_NOT_A_TABLE, "a short table hears a packet", 0);
 
-    size_t too_many = DXL_MAX_HELD + 1;
-    struct dxl_step step = dxl_feed(held, &too_many, line, sizeof line, packet);
+    const uint8_t bad_checksum[] = {0xFF, 0xFF, 0xFD, 0x00, 0x01, 0x03, 0x00, 0x01, 0x19, 0x4F};
+    answer = dxl_exchange(other, sizeof other, none, bad_checksum, sizeof bad_checksum, body, sizeof body, reply, sizeof reply);
+    expect(answer.count == 0, "a packet with a wrong checksum is answered", 0);
+    answer = dxl_exchange(other, sizeof other, none, line, 11, body, sizeof body, reply, sizeof reply);
+    expect(answer.count == 0, "a byte behind the packet is overlooked", 0);
+
+    reader.count = DXL_MAX_HELD + 1;
+    struct dxl_step step = dxl_reader_feed(&reader, line, sizeof line, packet);
     expect(step.kind == DXL_BAD_READER && step.taken == 0 && step.count == 0 && step.id == 0, "1,031 held bytes are fed", 0);
-    step = dxl_gap(held, &too_many, packet);
-    expect(step.kind == DXL_BAD_READER && too_many == DXL_MAX_HELD + 1, "1,031 held bytes meet a gap", 0);
+    step = dxl_reader_gap(&reader, packet);
+    expect(step.kind == DXL_BAD_READER && reader.count == DXL_MAX_HELD + 1, "1,031 held bytes meet a gap", 0);
+    step = dxl_feed(reader.bytes, &reader.count, line, sizeof line, packet);
+    expect(step.kind == DXL_BAD_READER && reader.count == DXL_MAX_HELD + 1, "1,031 held bytes are fed by parts", 0);
 }
 
 int main(void)

@@ -42,9 +42,8 @@ COUNT(dxl_encode,
 COUNT(dxl_unstuff, (const uint8_t *body, size_t n_body, uint8_t *out, size_t n_out), (body, n_body, out, n_out))
 COUNT(dxl_fresh, (uint8_t *table, size_t n), (table, n))
 COUNT(dxl_measure, (uint8_t *table, size_t n, int32_t position, uint8_t hardware_error), (table, n, position, hardware_error))
-STEP(dxl_feed, (uint8_t held[1030], size_t *count, const uint8_t *chunk, size_t n, uint8_t packet[1031]),
-     (held, count, chunk, n, packet))
-STEP(dxl_gap, (uint8_t held[1030], size_t *count, uint8_t packet[1031]), (held, count, packet))
+STEP(dxl_reader_feed, (struct dxl_reader *reader, const uint8_t *chunk, size_t n, uint8_t packet[1031]), (reader, chunk, n, packet))
+STEP(dxl_reader_gap, (struct dxl_reader *reader, uint8_t packet[1031]), (reader, packet))
 
 DECLARE(struct dxl_answer, dxl_device,
         (uint8_t *table, size_t n_table, struct dxl_registered registered, uint8_t kind, uint8_t id, const uint8_t *body,

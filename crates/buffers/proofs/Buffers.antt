@@ -1,16 +1,16 @@
 -- Bytes moved within and between buffers: one turn of each loop, and what it comes to at the end.
 use mathlib.Core.Path.{_≡_, refl, sym, ap, ap₂, _∙_}
-use mathlib.Core.List.{List, [], _∷_, _++_, append-nil, append-assoc}
+use mathlib.Core.List.{List, _++_, append-nil, append-assoc}
 use Prim.Native.Nat.{ℕ, suc, _+_, _-_, _≤_, _<_, min}
 use native.Mathlib.Nat.{add-comm}
 use native.Mathlib.Numerals.{add-one}
 use native.Mathlib.Omega.{arith}
-use lib.ListN.{length, take, drop, getD, set, replicate, length-append, length-take, length-drop, length-replicate}
+use lib.ListN.{length, take, drop, getD, set, replicate, length-take, length-drop, length-replicate}
 use lib.ListN.{getD-replicate}
 use lib.ListN.{drop-of-length-le, take-append-drop}
-use lib.Seq.{paste, paste-zero, paste-suc, take-all, take-at, length-take-le, drop-append-le}
+use lib.Seq.{paste, paste-zero, paste-suc, take-all, length-take-le}
 use lib.Seq.{drop-drop}
-use lib.Seq.{set-split, getD-append-add}
+use lib.Seq.{getD-append-add}
 use lib.Seq.{getD-drop}
 use Rattle.lists.specs.Write.{overwritten, placed}
 use Rattle.lists.proofs.Filling.{store-next}

@@ -1,11 +1,11 @@
 -- Parts of lists: one taken the other way round, and what has room.
-use mathlib.Core.Path.{_≡_, refl, sym, ap, _∙_}
-use mathlib.Core.List.{List, [], _∷_, _++_}
-use Prim.Native.Nat.{ℕ, zero, suc, _+_, _-_, _≤_, min}
+use mathlib.Core.Path.{_≡_, sym, ap, _∙_}
+use mathlib.Core.List.{List}
+use Prim.Native.Nat.{ℕ, _+_, _-_, _≤_}
 use native.Mathlib.Omega.{arith}
-use lib.ListN.{length, take, drop, length-append, length-take, length-drop}
-use lib.Seq.{length-take-le, take-add, take-all, take-at, drop-at, drop-append-le, take-append-add, take-append-seam}
-use Rattle.lists.specs.Write.{overwritten, placed}
+use lib.ListN.{length, take, drop, length-take}
+use lib.Seq.{length-take-le, take-add, take-all, drop-at}
+use Rattle.lists.specs.Write.{placed}
 
 -- the part from a up to e, taken the other way round
 pub part-is : (a e : ℕ) (s : List ℕ) → a ≤ e → a ≤ length s → take (e - a) (drop a s) ≡ drop a (take e s)

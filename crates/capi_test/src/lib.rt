@@ -1,22 +1,22 @@
 // Exports that only the comparison tests and the benchmark call: parts that firmware has no use for by themselves.
-use framer::Event;
+use numbers::StepNumbers;
 use packet::Verdict;
-use reader::Told;
+use reader::Reader;
 use stuffing::Checked;
 ghost use mathlib.Core.Path.{_≡_};
 ghost use mathlib.Core.List.{_∷_};
 ghost use Prim.Native.Nat.{min};
-ghost use lib.ListN.{length, take, drop};
+ghost use lib.ListN.{length, take, drop, replicate};
 ghost use Rattle.lists.specs.Write.{overwritten};
 ghost use Rattle.stuffing.specs.Stuffing.{stuff};
 ghost use Rattle.stuffing.specs.Answers.{checked};
-ghost use Rattle.reading.specs.Calls.{fed};
-ghost use Rattle.packet_front.specs.Begun.{lacks};
+ghost use Rattle.reading.specs.Calls.{feed as Call·feed};
+ghost use Rattle.reading.specs.Progress.{Settles};
+ghost use Rattle.packet_front.specs.Begun.{lacks, settledBy};
 ghost use Rattle.packet.specs.Verdict.{verdict, answerFor, protocol2};
-ghost use Rattle.framer.specs.Core.{CoreCall};
-ghost use Rattle.reader.specs.Answer.{saidFor, leftFor};
+ghost use Rattle.reader.specs.Records.{saidOn, leftBy, lent, packetOn, ReaderPromises};
+ghost use Rattle.numbers.specs.Exported.{stepNumbers};
 ghost use Rattle.capi_test.specs.Numbers.{testNumber, verdictNumbers};
-ghost use Rattle.capi_test.specs.Calls.{stepFor, coreEvent, coreNumbers, valueNumbers};
 
 // A verdict as numbers. kind 0: nothing; 1: a packet of `count` bytes; 2: a bad checksum of `id`; 3: waiting for `count` bytes.
 #[repr(C)]
@@ -48,6 +48,7 @@ pub extern "C" fn dxl_test_stuff(first: u8, rest: &[u8], out: &mut [u8]) -> usiz
 #[no_mangle]
 pub extern "C" fn dxl_test_verdict(segment: &[u8], offset: usize) -> VerdictNumbers
     ensures { λ r. ⌜ r ≡ verdictNumbers (answerFor (verdict (drop offset (now (segment .entry)))) (lacks (drop offset (now (segment .entry))))) ⌝ }
+    ensures { λ _. ⌜ Settles protocol2 settledBy ⌝ }
 {
     match packet::judge(segment, offset) {
         Verdict::Nothing => VerdictNumbers {
@@ -73,102 +74,30 @@ pub extern "C" fn dxl_test_verdict(segment: &[u8], offset: usize) -> VerdictNumb
     }
 }
 
-// The core's event as numbers. kind 0: no event; 1: a packet of `count` bytes; 2: a bad checksum; 25: the count of held bytes is
-// above 1,030. `id` is that of a bad checksum; of a packet the core tells none.
-pub struct EventNumbers {
-    pub count: usize,
-    pub kind: u8,
-    pub id: u8,
-}
-
-fn event_numbers(count: usize, kind: u8, id: u8) -> EventNumbers
-    ensures { λ r. ⌜ r ≡ record { count = count; kind = kind; id = id } ⌝ }
-{
-    EventNumbers { count, kind, id }
-}
-
-fn core_event(event: Event) -> EventNumbers
-    ensures { λ r. ⌜ r ≡ coreEvent event ⌝ }
-{
-    match event {
-        Event::Packet(count) => event_numbers(count, 1, 0),
-        Event::BadChecksum(id) => event_numbers(0, 2, id),
-        Event::Silent => event_numbers(0, 0, 0),
-        Event::Refused => event_numbers(0, 25, 0),
-    }
-}
-
-// What the core of a feeding call gives: the bytes taken, the bytes then held, and the event, of a packet without its ID.
+// What a feeding call by value gives: its answer as numbers, the packet's bytes followed by 0, and the record from now on.
 #[repr(C)]
-pub struct CoreNumbers {
-    pub taken: usize,
-    pub held: usize,
-    pub count: usize,
-    pub kind: u8,
-    pub id: u8,
+pub struct FedNumbers {
+    pub step: StepNumbers,
+    pub packet: [u8; 1031],
+    pub reader: Reader,
 }
 
-// The core of a feeding call: the packet buffer past the packet is left free.
+// The feeding call by value, on a record that is made of the held bytes and their count.
 #[no_mangle]
-pub extern "C" fn dxl_test_core_feed(
-    held: &mut [u8; 1030],
-    count: usize,
-    chunk: &[u8],
-    packet: &mut [u8; 1031],
-) -> CoreNumbers
-    ensures { λ r. ⌜ r ≡ coreNumbers (stepFor count (fed protocol2 (take count (now (held .entry))) (now (chunk .entry)))) ⌝ }
-    ensures { λ _. ⌜ CoreCall (fed protocol2 (take count (now (held .entry))) (now (chunk .entry))) count
-        (now (held .entry)) (now (packet .entry)) (stepFor count (fed protocol2 (take count (now (held .entry))) (now (chunk .entry))))
-        (now (held .exit)) (now (packet .exit)) ⌝ }
+pub extern "C" fn dxl_test_feed_value(held: &[u8; 1030], count: usize, chunk: &[u8]) -> FedNumbers
+    ensures { λ r. ⌜ r .step ≡ stepNumbers (saidOn (lent (now (held .entry)) count) (Call·feed (now (chunk .entry)))) ⌝ }
+    ensures { λ r. ⌜ r .packet ≡ packetOn (lent (now (held .entry)) count) (Call·feed (now (chunk .entry))) (replicate 1031 0) ⌝ }
+    ensures { λ r. ⌜ r .reader ≡ leftBy (lent (now (held .entry)) count) (Call·feed (now (chunk .entry))) ⌝ }
+    ensures { λ _. ⌜ ReaderPromises ⌝ }
 {
-    let step = framer::feed_in(held, count, chunk, packet);
-    let event = step.event;
-    let told = core_event(event);
-    CoreNumbers {
-        taken: step.taken,
-        held: step.count,
-        count: told.count,
-        kind: told.kind,
-        id: told.id,
-    }
-}
-
-// What a feeding call by value answers: the same, with a packet's ID and its bytes, followed by 0.
-#[repr(C)]
-pub struct ValueNumbers {
-    pub taken: usize,
-    pub held: usize,
-    pub count: usize,
-    pub kind: u8,
-    pub id: u8,
-    pub bytes: [u8; 1031],
-}
-
-#[no_mangle]
-pub extern "C" fn dxl_test_feed_value(
-    held: &mut [u8; 1030],
-    count: usize,
-    chunk: &[u8],
-) -> ValueNumbers
-    ensures { λ r. ⌜ r ≡ valueNumbers (saidFor count (fed protocol2 (take count (now (held .entry))) (now (chunk .entry)))) ⌝ }
-    ensures { λ _. ⌜ now (held .exit) ≡ leftFor count (now (held .entry)) (fed protocol2 (take count (now (held .entry))) (now (chunk .entry))) ⌝ }
-{
-    let answer = reader::feed_value(held, count, chunk);
-    let taken = answer.taken;
-    let left = answer.held;
-    let heard = answer.heard;
-    let told = numbers::told(Told {
-        taken,
-        held: left,
-        heard,
-    });
-    let bytes = answer.bytes;
-    ValueNumbers {
-        taken,
-        held: left,
-        count: told.count,
-        kind: told.kind,
-        id: told.id,
-        bytes,
+    let bytes = *held;
+    let fed = reader::feed(Reader { bytes, count }, chunk);
+    let step = fed.step;
+    let packet = fed.packet;
+    let reader = fed.reader;
+    FedNumbers {
+        step: numbers::step(step),
+        packet,
+        reader,
     }
 }

@@ -3,7 +3,7 @@
 use libc::STDIN_FILENO;
 use libc::STDOUT_FILENO;
 ghost use mathlib.Core.Path.{_≡_};
-ghost use Rattle.crc16.specs.Crc.{crcFrom};
+ghost use Rattle.crc.specs.Crc.{crcFrom};
 
 // The checksum and the count so far.
 struct Sum {

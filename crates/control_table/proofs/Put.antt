@@ -1,21 +1,18 @@
 -- A number in the place of a register, as stores of its bytes.
 use mathlib.Core.Path.{_≡_, refl, sym, ap, _∙_}
 use mathlib.Core.List.{List}
-use Prim.Native.Nat.{ℕ, zero, suc, _/_, _%_, _≤_, _<_}
+use Prim.Native.Nat.{ℕ, _/_, _%_, _≤_, _<_}
 use native.Mathlib.Nat.{mod-eq-of-lt}
 use native.Mathlib.Omega.{arith}
 use lib.IntN.{ℤ}
 use lib.ListN.{length, set}
 use lib.Seq.{sets}
 use Rattle.registers.specs.Registers.{Register, tableSize, endOf, presentPosition, hardwareError}
-use Rattle.items.specs.Items.{bytesOf, put, unsigned}
+use Rattle.lists.specs.Numbers.{bytesOf}
+use Rattle.lists.proofs.Numbers.{bytes-length}
+use Rattle.items.specs.Items.{put, unsigned}
 use Rattle.table_rules.proofs.Stored.{stored-sets, stored-length}
 use Rattle.control_table.specs.Fresh.{measured}
-
-pub bytes-length : (n u : ℕ) → length (bytesOf n u) ≡ n
-unfolding bytesOf
-bytes-length zero u = refl
-bytes-length (suc n) u = ap suc (bytes-length n (u / 256))
 
 module _ (table : List ℕ) (r : Register) (u : ℕ) (inside : endOf r ≤ length table) where
   pub put-sets : put table r u ≡ sets table (r .address) (bytesOf (r .bytes) u)

@@ -8,7 +8,8 @@ use lib.ListN.{length, getD}
 use Rattle.lists.specs.Answer.{unlessRefused}
 use Rattle.registers.specs.Registers.{tableSize, maxPosition, registers, permitsBy, everyByte}
 use Rattle.registers.proofs.Permits.{every-inside, every-short}
-use Rattle.items.specs.Items.{numberAt, valueAt, bytesOf, put}
+use Rattle.lists.specs.Numbers.{numberAt, bytesOf}
+use Rattle.items.specs.Items.{valueAt, put}
 use Rattle.table_rules.specs.Rules.{everyTouched, leastToWrite, limitsOrdered, goalWithin, stored, readRule, writeRule}
 use Rattle.table_rules.specs.Outcomes.{inTable}
 use Rattle.table_rules.proofs.Stored.{stored-before, stored-at, stored-after, stored-length}

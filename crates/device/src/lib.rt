@@ -1,16 +1,17 @@
 // The device on the bus: what it hears is carried out, and answered in the caller's buffer.
-use encoder::Encoded;
 use instructions::RegisteredWrite;
 use reactions::Heard;
 use reactions::Reacted;
 use status::Reply;
+use status::Written;
 ghost use mathlib.Core.Path.{_≡_};
 ghost use lib.ListN.{length};
 ghost use Rattle.registers.specs.Registers.{tableSize};
 ghost use Rattle.status.specs.Status.{silence as Status·silence};
+ghost use Rattle.status.specs.Sending.{writtenAnswer};
 ghost use Rattle.device.specs.Device.{carried, carryOut};
 ghost use Rattle.reactions.specs.Reactions.{reaction as Reactions·reaction};
-ghost use Rattle.device.specs.Answers.{repliedAnswer, callRefusal, answeredBy, callAnswer, callRegistered, callTable, callOut};
+ghost use Rattle.device.specs.Answers.{repliedAnswer, withSlot, stateRefusal, callRefusal, answeredBy, callAnswer, callRegistered, callTable, callOut};
 ghost use Rattle.device.specs.Steps.{replyTo, carriedOf};
 
 // ID and status return level are those before the instruction, the table is that after it.
@@ -89,13 +90,16 @@ fn carry_out(
     }
 }
 
-// The count of bytes of the status, 0 for silence, and the reply slot; or a fault of the caller.
+// The count of bytes of the status, 0 for silence, and the reply slot; or a fault of the caller. The last two are of a reply that
+// cannot be sent, and the device has none such.
 pub enum Replied {
     Sent(usize, usize),
     NotTable,
     BadId,
     BadRegistered,
     NoRoom,
+    BadReplyId,
+    LongReply,
 }
 
 pub struct Response {
@@ -103,10 +107,10 @@ pub struct Response {
     pub registered: RegisteredWrite,
 }
 
-// What a device that has nothing to say answers: the caller's fault, or silence. Faults in their order: a table that is not 136
-// bytes long, an ID above 252 in it, a registered write of more than 8 bytes, a reply buffer under 32 bytes.
-pub fn idle(table: &[u8], registered: RegisteredWrite, out: &[u8]) -> Replied
-    ensures { λ r. ⌜ repliedAnswer r ≡ answeredBy (callRefusal (now (table .entry)) registered (now (out .entry))) Status·silence ⌝ }
+// The caller's fault in table and registered write, or silence where there is none. In their order: a table that is not 136 bytes
+// long, an ID above 252 in it, a registered write of more than 8 bytes. [N5-N7]
+pub fn state_refusal(table: &[u8], registered: RegisteredWrite) -> Replied
+    ensures { λ r. ⌜ repliedAnswer r ≡ answeredBy (stateRefusal (now (table .entry)) registered) Status·silence ⌝ }
 {
     if table.len() != 136 {
         return Replied::NotTable;
@@ -117,13 +121,36 @@ pub fn idle(table: &[u8], registered: RegisteredWrite, out: &[u8]) -> Replied
     if 8 < registered.count {
         return Replied::BadRegistered;
     }
+    Replied::Sent(0, 0)
+}
+
+// The caller's fault in what is lent to the device call, or silence: the same, then a reply buffer under 32 bytes. [N5-N8 N10]
+pub fn call_refusal(table: &[u8], registered: RegisteredWrite, out: &[u8]) -> Replied
+    ensures { λ r. ⌜ repliedAnswer r ≡ answeredBy (callRefusal (now (table .entry)) registered (now (out .entry))) Status·silence ⌝ }
+{
+    let replied = state_refusal(table, registered);
+    let Replied::Sent(_, _) = replied else {
+        return replied;
+    };
     if out.len() < 32 {
         return Replied::NoRoom;
     }
     Replied::Sent(0, 0)
 }
 
-// The device call. Faults of the caller come first, whatever was heard, and change nothing.
+// What the function that sends answers, with the reply slot.
+fn with_slot(written: Written, slot: usize) -> Replied
+    ensures { λ r. ⌜ repliedAnswer r ≡ withSlot (writtenAnswer written) slot ⌝ }
+{
+    match written {
+        Written::Count(n) => Replied::Sent(n, slot),
+        Written::BadId => Replied::BadReplyId,
+        Written::TooLong => Replied::LongReply,
+        Written::NoRoom => Replied::NoRoom,
+    }
+}
+
+// The device call. Faults of the caller come first, whatever was heard, and change nothing. [D1-D37 G4 M4 N5-N8 N10-N12 N14]
 pub fn hear(
     table: &mut [u8],
     registered: RegisteredWrite,
@@ -137,7 +164,7 @@ pub fn hear(
     ensures { λ _. ⌜ now (table .exit) ≡ callTable (now (table .entry)) registered heard id (now (body .entry)) (now (out .entry)) ⌝ }
     ensures { λ _. ⌜ now (out .exit) ≡ callOut (now (table .entry)) registered heard id (now (body .entry)) (now (out .entry)) ⌝ }
 {
-    let replied = idle(&table[..], registered, &out[..]);
+    let replied = call_refusal(&table[..], registered, &out[..]);
     let Replied::Sent(_, _) = replied else {
         return Response {
             replied,
@@ -148,15 +175,8 @@ pub fn hear(
     let reply = carried.reply;
     let kept = carried.registered;
     let slot = reply.slot;
-    // always: the ID is good, the status is short, and there is room for it
-    let Encoded::Count(n) = status::send(reply, out) else {
-        return Response {
-            replied: Replied::NoRoom,
-            registered: kept,
-        };
-    };
     Response {
-        replied: Replied::Sent(n, slot),
+        replied: with_slot(status::send(reply, out), slot),
         registered: kept,
     }
 }

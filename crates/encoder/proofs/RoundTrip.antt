@@ -8,8 +8,8 @@ use lib.Dec.{eqb}
 use lib.ListN.{length, take, drop, getD, length-append, length-take, length-drop}
 use lib.Seq.{take-at, getD-at, getD-append-add, getD-drop}
 use borrow.Author.Tests.{eqb-true, eq-eqb}
-use Rattle.crc16.specs.Crc.{crcFrom}
-use Rattle.crc16.proofs.Laws.{crc-lt}
+use Rattle.crc.specs.Crc.{crcFrom}
+use Rattle.crc.proofs.Laws.{crc-lt}
 use Rattle.stuffing.specs.Stuffing.{stuffAfter, stuff, unstuff, wellStuffed}
 use Rattle.reading.specs.Rules.{isPacket}
 use Rattle.packet.specs.Verdict.{verdict}
@@ -18,7 +18,8 @@ use Rattle.stuffing.proofs.Laws.{unstuff-stuff, stuff-unstuff, stuff-well, leng
 use Rattle.packet_front.specs.Front.{word, goodId, idOf, lengthOf}
 use Rattle.packet.specs.Packet.{bodyOf, checksumRight, WellFormed}
 use Rattle.encoder.specs.Writing.{low, high, front, withChecksum, packetOf}
-use Rattle.encoder.specs.RoundTrip.{Bytes, RoundTrip}
+use Rattle.encoder.specs.RoundTrip.{RoundTrip}
+use Rattle.lists.specs.Numbers.{Bytes}
 use Rattle.encoder.proofs.Lists.{seven-apart, last-two}
 use Rattle.encoder.proofs.Writing.{packet-length}
 

@@ -3,7 +3,8 @@ use mathlib.Core.Path.{_≡_}
 use mathlib.Core.Bool.{true}
 use mathlib.Core.List.{List, _++_}
 use Prim.Native.Nat.{ℕ, _+_, _≤_, _<_}
-use lib.ListN.{length, getD}
+use lib.ListN.{length}
+use Rattle.lists.specs.Numbers.{Bytes}
 use Rattle.stuffing.specs.Stuffing.{stuff, unstuff}
 use Rattle.reading.specs.Rules.{isPacket}
 use Rattle.packet_front.specs.Front.{goodId, idOf}
@@ -11,10 +12,7 @@ use Rattle.packet.specs.Packet.{bodyOf, WellFormed}
 use Rattle.packet.specs.Verdict.{verdict}
 use Rattle.encoder.specs.Writing.{packetOf}
 
--- every number of the list is a byte, as in every slice
-abbrev pub Bytes : List ℕ → Type 0
-Bytes w = (i : ℕ) → getD w i 0 < 256
-
+-- [E2]
 pub record RoundTrip : Type 0 where
   -- for a good ID and a body, not empty, that fits
   pub well-formed : (id : ℕ) (body : List ℕ) → goodId id ≡ true → 0 < length body → length (stuff body) + 2 ≤ 1024

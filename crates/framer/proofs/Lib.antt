@@ -1,4 +1,4 @@
 pub mod Replies
 pub mod Turns
-pub mod Core
+pub mod Answers
 pub mod Longest

@@ -1,5 +1,5 @@
 -- A step says what the reply says, once the event's bytes and the held ones stand in their buffers.
-use mathlib.Core.Path.{_≡_, refl, sym, ap, _∙_}
+use mathlib.Core.Path.{_≡_, refl, sym, ap, ap₂, _∙_}
 use mathlib.Core.List.{List}
 use mathlib.Core.Option.{some}
 use Prim.Native.Nat.{ℕ, _+_, _-_, _≤_}
@@ -8,19 +8,21 @@ use lib.ListN.{length, take, drop, length-drop}
 use lib.Seq.{length-take-le, take-at, take-take}
 use Rattle.lists.specs.Write.{overwritten, placed}
 use Rattle.reading.specs.Reading.{packet}
-use Rattle.framer.specs.declared.Event.{Event as Outcome}
-use Rattle.framer.specs.declared.Event.the-variants.{Packet, BadChecksum}
-use Rattle.windows.specs.declared.Sight.{Sight}
-use Rattle.windows.specs.declared.Sight.the-variants.{Packet as Seen·Packet, BadChecksum as Seen·BadChecksum}
-use Rattle.windows.specs.declared.Sight.the-variants.{Waiting as Seen·Waiting}
+use Rattle.packet_front.specs.Front.{idOf}
+use Rattle.framer.specs.declared.StepEvent.{StepEvent}
+use Rattle.framer.specs.declared.StepEvent.the-variants.{Packet, BadChecksum}
+use Rattle.windows.specs.declared.Scanned.{Scanned}
+use Rattle.windows.specs.declared.Scanned.the-variants.{Packet as Seen·Packet, BadChecksum as Seen·BadChecksum}
+use Rattle.windows.specs.declared.Scanned.the-variants.{Waiting as Seen·Waiting}
 use Rattle.framer.specs.declared.Step.{Step}
 use Rattle.windows.specs.Scan.{onFrom, sizeOf, answerOf, replyOf}
-use Rattle.framer.specs.Step.{eventOf, bytesOf, Replied}
+use Rattle.framer.specs.Answer.{bytesOf}
+use Rattle.framer.specs.Replied.{eventWith, Replied}
 use Rattle.buffers.proofs.Parts.{part-is, placed-whole}
 
 -- ---- where reading goes on, and the packet's bytes
 
-module _ (v : Sight) (most : ℕ) where
+module _ (v : Scanned) (most : ℕ) where
   pub on-packet : (at n : ℕ) → v ≡ Seen·Packet at n → onFrom v ≤ most → at + n ≤ most
   on-packet at n e h = rw e at h
 
@@ -33,17 +35,20 @@ front old new buffer n e l = ap (λ (b : List ℕ). take n b) e ∙ take-at new 
 
 -- ---- the event
 
-module _ (src : List ℕ) (v : Sight) (bytes : List ℕ) where
-  abbrev Told : Outcome → Type 0
-  Told e = (e ≡ eventOf (answerOf src v)) × (take (length (bytesOf (answerOf src v))) bytes ≡ bytesOf (answerOf src v))
+module _ (src : List ℕ) (v : Scanned) (bytes : List ℕ) where
+  abbrev Told : StepEvent → Type 0
+  Told e =
+      (e ≡ eventWith (idOf bytes) (answerOf src v))
+      × (take (length (bytesOf (answerOf src v))) bytes ≡ bytesOf (answerOf src v))
 
   pub told-packet : (old : List ℕ) (at n : ℕ) → v ≡ Seen·Packet at n → at + n ≤ length src → n ≤ length old
-      → bytes ≡ placed old 0 (take (length old - 0) (take (at + n - at) (drop at src))) → Told (Packet n)
-  told-packet old at n i h k b =
+      → bytes ≡ placed old 0 (take (length old - 0) (take (at + n - at) (drop at src))) → (id : ℕ)
+      → id ≡ idOf bytes → Told (Packet id n)
+  told-packet old at n i h k b id d =
       let z : at + n - at ≡ n = omega arith in
       let l : length (take n (drop at src)) ≡ n = length-take-le n (drop at src) (simp length-drop (omega arith)) in
       rw i (
-        ap Packet (sym l),
+        ap₂ Packet d (sym l),
         front old (take n (drop at src)) bytes (length (take n (drop at src)))
             (b ∙ ap (λ (k : ℕ). placed old 0 (take (length old - 0) (take k (drop at src)))) z
             ∙ placed-whole old (take n (drop at src)) 0 (omega arith))
@@ -56,18 +61,18 @@ module _ (src : List ℕ) (v : Sight) (bytes : List ℕ) where
 -- ---- the step: the bytes of src from where reading goes on up to `end` are held
 
 -- bytes behind what was seen do not count
-answer-within : (src : List ℕ) (end : ℕ) (v : Sight) → onFrom v ≤ end → end ≤ length src
+answer-within : (src : List ℕ) (end : ℕ) (v : Scanned) → onFrom v ≤ end → end ≤ length src
     → answerOf (take end src) v ≡ answerOf src v
 answer-within src end (Seen·Packet at n) h k =
     ap (λ (w : List ℕ). some (packet w))
     (ap (λ (l : List ℕ). take n l) (sym (part-is at end src (omega arith) (omega arith)))
     ∙ take-take n (end - at) (drop at src) (omega arith))
 answer-within src end (Seen·BadChecksum at id) h k = refl
-answer-within src end (Seen·Waiting at n) h k = refl
+answer-within src end (Seen·Waiting at) h k = refl
 
-pub replied : (src old held bytes : List ℕ) (end taken on : ℕ) (v : Sight) (event : Outcome) (r : Step)
-    → r ≡ record { taken = taken; count = end - on; event = event } → on ≡ onFrom v → onFrom v ≤ end → end ≤ length src
-    → event ≡ eventOf (answerOf src v) → take (length (bytesOf (answerOf src v))) bytes ≡ bytesOf (answerOf src v)
+pub replied : (src old held bytes : List ℕ) (end taken on : ℕ) (v : Scanned) (event : StepEvent) (r : Step)
+    → r ≡ record { taken = taken; held = end - on; event = event } → on ≡ onFrom v → onFrom v ≤ end → end ≤ length src
+    → event ≡ eventWith (idOf bytes) (answerOf src v) → take (length (bytesOf (answerOf src v))) bytes ≡ bytesOf (answerOf src v)
     → held ≡ overwritten old (take (end - on) (drop on src)) → Replied (replyOf (take end src) taken v) r held bytes
 replied src old held bytes end taken on v event r i o h k e b s =
     let p = part-is (onFrom v) end src h (omega arith) in

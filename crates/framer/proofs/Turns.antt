@@ -1,7 +1,6 @@
 -- How a call's parts come together: what a window leaves to deliver, and a full buffer with one byte more.
-use mathlib.Core.Path.{_≡_, refl, sym, ap, _∙_}
+use mathlib.Core.Path.{_≡_, refl, sym, ap, ap₂, _∙_}
 use mathlib.Core.List.{List, [], _∷_, _++_}
-use mathlib.Core.Option.{some}
 use Prim.Native.Nat.{ℕ, suc, _+_, _-_, _≤_, _<_}
 use native.Mathlib.Omega.{arith}
 use lib.ListN.{length, take, drop, getD, length-append, length-drop}
@@ -12,15 +11,16 @@ use Rattle.reading.specs.Reading.{packet, badChecksum, open′, closed}
 use Rattle.reading.specs.Calls.{event, first, Reply, fed, gapped, feed, call}
 use Rattle.reading.specs.Progress.{afterTaking, Reached}
 use Rattle.reading.proofs.Held.{held-bound}
-use Rattle.reading.proofs.Progress.{first-at, last-byte, reached-more, reached-event, reached-nothing}
-use Rattle.windows.specs.declared.Sight.{Sight}
-use Rattle.windows.specs.declared.Sight.the-variants.{Packet, BadChecksum, Waiting}
+use Rattle.reading.proofs.Progress.{first-at, last-byte, silent-patient, reached-more, reached-event, reached-nothing}
+use Rattle.windows.specs.declared.Scanned.{Scanned}
+use Rattle.windows.specs.declared.Scanned.the-variants.{Packet, BadChecksum, Waiting}
 use Rattle.windows.specs.declared.Stop.{Stop}
 use Rattle.windows.specs.declared.Stop.the-variants.{Done, Passed, Full}
+use Rattle.packet_front.specs.Front.{idOf}
 use Rattle.framer.specs.declared.Step.{Step}
-use Rattle.framer.specs.declared.Event.the-variants.{Packet as Gave·Packet, BadChecksum as Gave·BadChecksum}
-use Rattle.windows.specs.Scan.{onFrom, sizeOf, Seen, replyOf, Ends, Stops, Filled}
-use Rattle.framer.specs.Step.{Replied}
+use Rattle.framer.specs.declared.StepEvent.the-variants.{Packet as Gave·Packet, BadChecksum as Gave·BadChecksum, Silent}
+use Rattle.windows.specs.Scan.{onFrom, sizeOf, Waits, Seen, replyOf, Ends, Stops, Filled}
+use Rattle.framer.specs.Replied.{Replied}
 use Rattle.windows.proofs.Windows.{stops-take}
 
 pub room-for : (n m k : ℕ) → n ≤ m → k ≡ m → n ≤ k
@@ -44,7 +44,7 @@ module _ (chunk : List ℕ) (from : ℕ) where
 module _ (R : Rules) (L : Laws R) where
   -- ---- a call that has come to its end
 
-  module _ (h c src : List ℕ) (end n : ℕ) (v : Sight) (within : end ≤ length src) (w : Ends R h c (take end src) n v) where
+  module _ (h c src : List ℕ) (end n : ℕ) (v : Scanned) (within : end ≤ length src) (w : Ends R h c (take end src) n v) where
     pub ends-on : onFrom v ≤ end
     ends-on = let f = w .fits in omega (arith, length-take-le end src within)
 
@@ -58,15 +58,15 @@ module _ (R : Rules) (L : Laws R) where
         ∙ ap (λ (m : ℕ). m - onFrom v) (length-take-le end src within) in
         omega arith
 
-  pub ends-after : (h c s : List ℕ) (before n : ℕ) (v : Sight) → Ends R h c s n v
+  pub ends-after : (h c s : List ℕ) (before n : ℕ) (v : Scanned) → Ends R h c s n v
       → afterTaking before (fed R h c) ≡ replyOf s (before + n) v
   ends-after h c s before n v w = ap (afterTaking before) (w .fed-is)
 
-  pub ends-fed : (h₀ c₀ h s : List ℕ) (taken n : ℕ) (v : Sight) → Reached R h₀ c₀ h taken → Ends R h (drop taken c₀) s n v
+  pub ends-fed : (h₀ c₀ h s : List ℕ) (taken n : ℕ) (v : Scanned) → Reached R h₀ c₀ h taken → Ends R h (drop taken c₀) s n v
       → fed R h₀ c₀ ≡ replyOf s (taken + n) v
   ends-fed h₀ c₀ h s taken n v a w = a .same ∙ ends-after h (drop taken c₀) s taken n v w
 
-  pub ends-rest : (chunk s : List ℕ) (from n : ℕ) (v : Sight) → Ends R [] (rest chunk from) s n v
+  pub ends-rest : (chunk s : List ℕ) (from n : ℕ) (v : Scanned) → Ends R [] (rest chunk from) s n v
       → afterTaking from (fed R [] (drop from chunk)) ≡ replyOf s (from + n) v
   ends-rest chunk s from n v w = ends-after [] (drop from chunk) s from n v (rw (rest-is chunk from) at w)
 
@@ -75,33 +75,40 @@ module _ (R : Rules) (L : Laws R) where
       → fed R h₀ c₀ ≡ afterTaking (taken + n) (fed R [] (drop (taken + n) c₀))
   passed-fed h₀ c₀ h taken n a b = reached-more R h₀ c₀ h [] taken n a b .same
 
-  -- a gap call whose scan found an event
-  pub gap-decided : (s : List ℕ) (v : Sight) → ((at k : ℕ) → v ≡ Waiting at k → ⊥) → Seen R closed s 0 v
+  -- a gap call whose scan found nothing
+  pub gap-nothing : (s held bytes : List ℕ) (at : ℕ) (step : Step) → Waits R closed s 0 at
+      → step ≡ record { taken = 0; held = 0; event = Silent } → Replied (gapped (first R closed s)) step held bytes
+  gap-nothing s held bytes at step w e =
+      rw (w .first-is, e)
+      (record { taken-is = refl; event-is = refl; count-is = refl; held-is = refl; bytes-are = refl })
+
+  -- and one whose scan found an event
+  pub gap-decided : (s : List ℕ) (v : Scanned) → ((at : ℕ) → v ≡ Waiting at → ⊥) → Seen R closed s 0 v
       → (onFrom v ≤ length s) × (sizeOf v ≤ R .longest) × (gapped (first R closed s) ≡ replyOf s 0 v)
   gap-decided s (Packet at n) w d = (d .fits, omega (arith, d .short), ap gapped (d .first-is))
   gap-decided s (BadChecksum at id) w d = (d .fits, omega arith, ap gapped (d .first-is))
-  gap-decided s (Waiting at k) w d = absurd (w at k refl)
+  gap-decided s (Waiting at) w d = absurd (w at refl)
 
   -- ---- how the held bytes stopped
 
-  pub filled-rest : (h chunk held : List ℕ) (from : ℕ) (stop : Stop) → Filled R h (rest chunk from) held stop
-      → Filled R h (drop from chunk) held stop
-  filled-rest h chunk held from stop f = rw (rest-is chunk from) at f
+  pub filled-rest : (h chunk old held : List ℕ) (from : ℕ) (stop : Stop) → Filled R h (rest chunk from) old held stop
+      → Filled R h (drop from chunk) old held stop
+  filled-rest h chunk old held from stop f = rw (rest-is chunk from) at f
 
-  module _ (h chunk held : List ℕ) (stop : Stop) (f : Filled R h chunk held stop) where
-    pub filled-done : (v : Sight) (end n : ℕ) → stop ≡ Done v end n → Filled R h chunk held (Done v end n)
+  module _ (h chunk old held : List ℕ) (stop : Stop) (f : Filled R h chunk old held stop) where
+    pub filled-done : (v : Scanned) (end n : ℕ) → stop ≡ Done v end n → Filled R h chunk old held (Done v end n)
     filled-done v end n e = rw e at f
 
-    pub filled-passed : (n : ℕ) → stop ≡ Passed n → Filled R h chunk held (Passed n)
+    pub filled-passed : (n : ℕ) → stop ≡ Passed n → Filled R h chunk old held (Passed n)
     filled-passed n e = rw e at f
 
-    pub filled-full : (n : ℕ) → stop ≡ Full n → Filled R h chunk held (Full n)
+    pub filled-full : (n : ℕ) → stop ≡ Full n → Filled R h chunk old held (Full n)
     filled-full n e = rw e at f
 
   -- ---- a full buffer and one byte more
 
-  module _ (h₀ c₀ h held : List ℕ) (taken past k : ℕ) (a : Reached R h₀ c₀ h taken)
-      (w : Stops R h (drop taken c₀) held past 0 k) (here : past < length (drop taken c₀)) (full : R .longest ≡ length held + 1) where
+  module _ (h₀ c₀ h held : List ℕ) (taken past : ℕ) (a : Reached R h₀ c₀ h taken)
+      (w : Stops R h (drop taken c₀) held past 0) (here : past < length (drop taken c₀)) (full : R .longest ≡ length held + 1) where
     abbrev next : ℕ
     next = taken + past
 
@@ -116,13 +123,14 @@ module _ (R : Rules) (L : Laws R) where
         let y : taken + (past + 1) ≡ next + 1 = omega arith in
         let one : take 1 (drop past (drop taken c₀)) ≡ getD c₀ next 0 ∷ [] =
         ap (λ (l : List ℕ). take 1 l) (drop-drop past taken c₀ ∙ drop-cons c₀ next 0 (omega (arith, length-drop taken c₀))) in
-        let t =
-        stops-take R L h (drop taken c₀) held more past 0 k 1 0 w (w .patient .some) (omega arith) (rw one) in
+        let p = silent-patient R held (omega arith) (w .waits) in
+        let t = stops-take R L h (drop taken c₀) held more past 0 1 1 0 w p (omega arith) (omega arith) (rw one) in
         rw y at (reached-more R h₀ c₀ h more taken (past + 1) a t)
 
-    pub full-packet : (n : ℕ) (r : Step) (held′ bytes : List ℕ) → R .verdict more ≡ isPacket n
-        → r ≡ record { taken = next + 1; count = 0; event = Gave·Packet n } → bytes ≡ more → Replied (fed R h₀ c₀) r held′ bytes
-    full-packet n r held′ bytes e i j =
+    pub full-packet : (n id : ℕ) (r : Step) (held′ bytes : List ℕ) → R .verdict more ≡ isPacket n
+        → r ≡ record { taken = next + 1; held = 0; event = Gave·Packet id n } → id ≡ idOf bytes → bytes ≡ more
+        → Replied (fed R h₀ c₀) r held′ bytes
+    full-packet n id r held′ bytes e i d j =
         let m : n ≡ suc (length held) = last-byte R L held held (getD c₀ next 0) n (w .waits) e in
         let l : n ≡ length more = omega (arith, more-length) in
         let all : take n more ≡ more = take-all n more (omega arith) in
@@ -132,14 +140,14 @@ module _ (R : Rules) (L : Laws R) where
         rw (reached-event R h₀ c₀ more [] (next + 1) (packet more) more-reached f, i, j)
         (record {
           taken-is = refl;
-          event-is = ap Gave·Packet l;
+          event-is = ap₂ Gave·Packet (rw j at d) l;
           count-is = refl;
           held-is = refl;
           bytes-are = take-all (length more) more (omega arith);
         })
 
     pub full-bad : (id n : ℕ) (r : Step) (held′ bytes : List ℕ) → R .verdict more ≡ isBadChecksum id
-        → r ≡ record { taken = next + 1; count = n; event = Gave·BadChecksum id } → n ≡ length held → held′ ≡ drop 1 more
+        → r ≡ record { taken = next + 1; held = n; event = Gave·BadChecksum id } → n ≡ length held → held′ ≡ drop 1 more
         → Replied (fed R h₀ c₀) r held′ bytes
     full-bad id n r held′ bytes e i m j =
         let f : first R open′ more ≡ event (badChecksum id) (drop 1 more) =

@@ -1,2 +1,2 @@
-pub mod Step
-pub mod Core
+pub mod Answer
+pub mod Replied

@@ -1,78 +1,86 @@
-// Finding packets in a stream of bytes, in place on the caller's buffers: the core of the reader's feeding and gap calls.
+// The reader's feeding and gap calls, in place on the caller's held bytes and packet buffer.
 use packet::Verdict;
-use windows::Sight;
+use windows::Scanned;
 use windows::Stop;
 ghost use mathlib.Core.Path.{_≡_};
 ghost use mathlib.Core.List.{[], _∷_, _++_};
 ghost use Prim.Native.Nat.{_+_, _-_, _^_, _≤_, _<_};
-ghost use lib.ListN.{length, take, drop};
+ghost use lib.ListN.{length, take, drop, replicate};
 ghost use Rattle.reading.specs.Reading.{closed};
-ghost use Rattle.reading.specs.Calls.{first, fed, gapped};
+ghost use Rattle.reading.specs.Calls.{first, fed, gapped, call};
+ghost use Rattle.reading.specs.Calls.{feed as Call·feed, gap as Call·gap};
 ghost use Rattle.reading.specs.Progress.{afterTaking};
+ghost use Rattle.packet_front.specs.Front.{idOf};
 ghost use Rattle.packet_front.specs.Begun.{lacks};
 ghost use Rattle.packet.specs.Verdict.{protocol2, answerFor, verdict};
 ghost use Rattle.windows.specs.Scan.{onFrom, sizeOf, answerOf, replyOf};
-ghost use Rattle.framer.specs.Step.{eventOf, bytesOf, Replied};
-ghost use Rattle.framer.specs.Core.{CoreCall};
+ghost use Rattle.framer.specs.Answer.{bytesOf, stepFor, heldFor, packetFor};
+ghost use Rattle.framer.specs.Replied.{eventWith, sizeIn, Replied};
 
-// What a call of the core gives: a packet of so many bytes, a bad checksum with its ID, no event (of a gap call: nothing is
-// left), or a refusal.
-pub enum Event {
-    Packet(usize),
-    BadChecksum(u8),
+// The event of a call: a packet with its ID and its byte count, a bad checksum with its ID, none (of a gap call: nothing is
+// left), or the refusal of a count of held bytes above 1,030.
+pub enum StepEvent {
+    Packet { id: u8, size: usize },
+    BadChecksum { id: u8 },
     Silent,
     Refused,
 }
 
-// The bytes taken, the bytes then held, and the event.
+// What a call answers: how many bytes it took, how many are held then, and its event.
 pub struct Step {
     pub taken: usize,
-    pub count: usize,
-    pub event: Event,
+    pub held: usize,
+    pub event: StepEvent,
 }
 
-fn stepped(taken: usize, count: usize, event: Event) -> Step
-    ensures { λ r. ⌜ r ≡ record { taken = taken; count = count; event = event } ⌝ }
+fn stepped(taken: usize, held: usize, event: StepEvent) -> Step
+    ensures { λ r. ⌜ r ≡ record { taken = taken; held = held; event = event } ⌝ }
 {
-    Step {
-        taken,
-        count,
-        event,
-    }
+    Step { taken, held, event }
 }
 
 // Where reading goes on.
-fn on_from(seen: Sight) -> usize
+fn on_from(seen: Scanned) -> usize
     requires { ⌜ onFrom seen < 2 ^ 64 ⌝ }
     ensures { λ r. ⌜ r ≡ onFrom seen ⌝ }
 {
     match seen {
-        Sight::Packet { at, count } => at + count,
-        Sight::BadChecksum { at, id: _ } => at + 1,
-        Sight::Waiting { at, lacks: _ } => at,
+        Scanned::Packet { at, count } => at + count,
+        Scanned::BadChecksum { at, id: _ } => at + 1,
+        Scanned::Waiting { at } => at,
     }
 }
 
-// The event of what was seen of the bytes src; a packet's bytes go to the packet buffer.
-fn tell(src: &[u8], seen: Sight, packet: &mut [u8]) -> Event
-    requires { ⌜ (onFrom seen ≤ length (now src)) × (sizeOf seen ≤ length (now packet)) ⌝ }
-    ensures { λ r. ⌜ r ≡ eventOf (answerOf (now (src .entry)) seen) ⌝ }
+// The ID of the packet at the start of the buffer.
+fn id_in(packet: &[u8]) -> u8
+    requires { ⌜ length (now packet) ≡ 1031 ⌝ }
+    ensures { λ r. ⌜ r ≡ idOf (now (packet .entry)) ⌝ }
+{
+    packet[4]
+}
+
+// The event of what was seen of the bytes src; a packet's bytes go to the packet buffer, and its ID is read there.
+fn tell(src: &[u8], seen: Scanned, packet: &mut [u8]) -> StepEvent
+    requires { ⌜ (onFrom seen ≤ length (now src)) × (sizeOf seen ≤ length (now packet)) × (length (now packet) ≡ 1031) ⌝ }
+    ensures { λ r. ⌜ r ≡ eventWith (idOf (now (packet .exit))) (answerOf (now (src .entry)) seen) ⌝ }
     ensures { λ _. ⌜ take (length (bytesOf (answerOf (now (src .entry)) seen))) (now (packet .exit))
         ≡ bytesOf (answerOf (now (src .entry)) seen) ⌝ }
 {
     match seen {
-        Sight::Packet { at, count } => {
+        Scanned::Packet { at, count } => {
             buffers::place(packet, 0, &src[at..at + count]);
-            Event::Packet(count)
+            let id = id_in(packet);
+            StepEvent::Packet { id, size: count }
         }
-        Sight::BadChecksum { at: _, id } => Event::BadChecksum(id),
-        Sight::Waiting { at: _, lacks: _ } => Event::Silent,
+        Scanned::BadChecksum { at: _, id } => StepEvent::BadChecksum { id },
+        Scanned::Waiting { at: _ } => StepEvent::Silent,
     }
 }
 
 // The event goes out, and the held bytes from where reading goes on stay.
-fn deliver(held: &mut [u8], seen: Sight, end: usize, taken: usize, packet: &mut [u8]) -> Step
-    requires { ⌜ (onFrom seen ≤ end) × (end ≤ length (now held)) × (sizeOf seen ≤ length (now packet)) ⌝ }
+fn deliver(held: &mut [u8], seen: Scanned, end: usize, taken: usize, packet: &mut [u8]) -> Step
+    requires { ⌜ (onFrom seen ≤ end) × (end ≤ length (now held)) × (sizeOf seen ≤ length (now packet))
+        × (length (now packet) ≡ 1031) ⌝ }
     ensures { λ r. ⌜ Replied (replyOf (take end (now (held .entry))) taken seen) r (now (held .exit)) (now (packet .exit)) ⌝ }
 {
     let event = tell(held, seen, packet);
@@ -85,13 +93,13 @@ fn deliver(held: &mut [u8], seen: Sight, end: usize, taken: usize, packet: &mut 
 fn deliver_chunk(
     held: &mut [u8],
     chunk: &[u8],
-    seen: Sight,
+    seen: Scanned,
     end: usize,
     before: usize,
     packet: &mut [u8],
 ) -> Step
     requires { ⌜ (onFrom seen ≤ end) × (end ≤ length (now chunk)) × (end - onFrom seen ≤ length (now held))
-        × (sizeOf seen ≤ length (now packet)) × (before + end < 2 ^ 64) ⌝ }
+        × (sizeOf seen ≤ length (now packet)) × (length (now packet) ≡ 1031) × (before + end < 2 ^ 64) ⌝ }
     ensures { λ r. ⌜ Replied (replyOf (take end (now (chunk .entry))) (before + end) seen) r (now (held .exit)) (now (packet .exit)) ⌝ }
 {
     let event = tell(chunk, seen, packet);
@@ -150,24 +158,14 @@ fn feed_slices(held: &mut [u8], count: usize, chunk: &[u8], packet: &mut [u8]) -
         taken += 1;
         n = held.len();
         match judge_longest(held, byte, packet) {
-            Verdict::Packet(size) => return stepped(taken, 0, Event::Packet(size)),
-            Verdict::BadChecksum(id) => return stepped(taken, n, Event::BadChecksum(id)),
+            Verdict::Packet(size) => {
+                let id = id_in(packet);
+                return stepped(taken, 0, StepEvent::Packet { id, size });
+            }
+            Verdict::BadChecksum(id) => return stepped(taken, n, StepEvent::BadChecksum { id }),
             _ => {}
         }
     }
-}
-
-// The core of a feeding call, in place on the caller's held bytes, of which there are `count`, and packet buffer.
-pub fn feed_in(held: &mut [u8; 1030], count: usize, chunk: &[u8], packet: &mut [u8; 1031]) -> Step
-    ensures { λ r. ⌜ CoreCall (fed protocol2 (take count (now (held .entry))) (now (chunk .entry))) count
-        (now (held .entry)) (now (packet .entry)) r (now (held .exit)) (now (packet .exit)) ⌝ }
-{
-    if 1030 < count {
-        return stepped(0, count, Event::Refused);
-    }
-    let done = feed_slices(held, count, chunk, packet);
-    buffers::clear(held, done.count);
-    done
 }
 
 // The held bytes as if the segment ended with them.
@@ -177,21 +175,63 @@ fn gap_slices(held: &mut [u8], count: usize, packet: &mut [u8]) -> Step
         (now (held .exit)) (now (packet .exit)) ⌝ }
 {
     let seen = windows::scan_closed(&held[..count]);
-    if let Sight::Waiting { at: _, lacks: _ } = seen {
-        return stepped(0, 0, Event::Silent);
+    if let Scanned::Waiting { at: _ } = seen {
+        return stepped(0, 0, StepEvent::Silent);
     }
     deliver(held, seen, count, 0, packet)
 }
 
-// The core of a gap call.
-pub fn gap_in(held: &mut [u8; 1030], count: usize, packet: &mut [u8; 1031]) -> Step
-    ensures { λ r. ⌜ CoreCall (gapped (first protocol2 closed (take count (now (held .entry))))) count
-        (now (held .entry)) (now (packet .entry)) r (now (held .exit)) (now (packet .exit)) ⌝ }
+fn size_of(event: StepEvent) -> usize
+    ensures { λ r. ⌜ r ≡ sizeIn event ⌝ }
 {
-    if count > 1030 {
-        return stepped(0, count, Event::Refused);
+    match event {
+        StepEvent::Packet { id: _, size } => size,
+        StepEvent::BadChecksum { id: _ } => 0,
+        StepEvent::Silent => 0,
+        StepEvent::Refused => 0,
     }
-    let last = gap_slices(held, count, packet);
-    buffers::clear(held, last.count);
-    last
+}
+
+// What lies past the held bytes and past the packet's becomes 0.
+fn clear_rest(held: &mut [u8], packet: &mut [u8], step: Step)
+    ensures { λ _. ⌜ (now (held .exit)
+        ≡ take (step .held) (now (held .entry)) ++ replicate (length (now (held .entry)) - step .held) 0)
+        × (now (packet .exit)
+        ≡ take (sizeIn (step .event)) (now (packet .entry)) ++ replicate (length (now (packet .entry)) - sizeIn (step .event)) 0) ⌝ }
+{
+    let event = step.event;
+    let size = size_of(event);
+    buffers::clear(held, step.held);
+    buffers::clear(packet, size);
+}
+
+// A feeding call on the caller's held bytes, of which there are `count`, and packet buffer: the fewest bytes of the chunk that
+// decide an event are taken, or all of it. Feed the rest again until a call gives no event, also where the rest is empty: events
+// may lie in what is held. [F2-F10 F15 F16 K2-K4]
+pub fn feed_in(held: &mut [u8; 1030], count: usize, chunk: &[u8], packet: &mut [u8; 1031]) -> Step
+    ensures { λ r. ⌜ (r ≡ stepFor count (call protocol2 (take count (now (held .entry))) (Call·feed (now (chunk .entry)))))
+        × (now (held .exit) ≡ heldFor count (now (held .entry)) (call protocol2 (take count (now (held .entry))) (Call·feed (now (chunk .entry)))))
+        × (now (packet .exit) ≡ packetFor count (now (packet .entry)) (call protocol2 (take count (now (held .entry))) (Call·feed (now (chunk .entry))))) ⌝ }
+{
+    if 1030 < count {
+        return stepped(0, count, StepEvent::Refused);
+    }
+    let step = feed_slices(held, count, chunk, packet);
+    clear_rest(held, packet, step);
+    step
+}
+
+// A gap call, likewise: the next event as if the segment ended with what is held. Call it until it says that nothing is left.
+// [F12-F16 K2-K4]
+pub fn gap_in(held: &mut [u8; 1030], count: usize, packet: &mut [u8; 1031]) -> Step
+    ensures { λ r. ⌜ (r ≡ stepFor count (call protocol2 (take count (now (held .entry))) Call·gap))
+        × (now (held .exit) ≡ heldFor count (now (held .entry)) (call protocol2 (take count (now (held .entry))) Call·gap))
+        × (now (packet .exit) ≡ packetFor count (now (packet .entry)) (call protocol2 (take count (now (held .entry))) Call·gap)) ⌝ }
+{
+    if 1030 < count {
+        return stepped(0, count, StepEvent::Refused);
+    }
+    let step = gap_slices(held, count, packet);
+    clear_rest(held, packet, step);
+    step
 }

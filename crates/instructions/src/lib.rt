@@ -1,12 +1,14 @@
-// What each instruction does to the control table and the registered write. On a table of another size nothing is done, and the
-// error is 21.
+// What each instruction does to the control table and the registered write. A table of another size is refused: nothing is done,
+// and 21 stands in the place of the error number.
 use table_rules::Outcome;
 ghost use mathlib.Core.Path.{_≡_};
 ghost use mathlib.Core.Bool.{cond};
 ghost use mathlib.Core.List.{[]};
+ghost use Prim.Native.Nat.{_≤_};
 ghost use lib.Dec.{leb};
+ghost use lib.ListN.{length};
 ghost use Rattle.table_rules.specs.Outcomes.{refusalOf};
-ghost use Rattle.instructions.specs.Registered.{dropped as Registered·dropped};
+ghost use Rattle.instructions.specs.Registered.{dropped as Registered·dropped, registering as Registered·registering};
 ghost use Rattle.instructions.specs.Instructions.{errorOf, regWrite, factoryReset};
 ghost use Rattle.instructions.specs.Instructions.{ping as Instructions·ping};
 ghost use Rattle.instructions.specs.Instructions.{read as Instructions·read};
@@ -31,13 +33,26 @@ pub struct Done {
     pub registered: RegisteredWrite,
 }
 
-fn dropped() -> RegisteredWrite
+// None is registered.
+pub fn dropped() -> RegisteredWrite
     ensures { λ r. ⌜ r ≡ Registered·dropped ⌝ }
 {
     RegisteredWrite {
         address: 0,
         count: 0,
         bytes: [0u8; 8],
+    }
+}
+
+// The write of these bytes, which was judged on this table.
+fn registering(table: &[u8], address: u16, bytes: &[u8]) -> RegisteredWrite
+    requires { ⌜ length (now bytes) ≤ 8 ⌝ }
+    ensures { λ r. ⌜ r ≡ Registered·registering (now (table .entry)) address (now (bytes .entry)) ⌝ }
+{
+    RegisteredWrite {
+        address,
+        count: bytes.len() as u8,
+        bytes: buffers::first_eight(bytes),
     }
 }
 
@@ -100,12 +115,8 @@ pub fn reg_write(table: &mut [u8], registered: RegisteredWrite, address: u16, by
     if !table_rules::is_done(outcome) {
         return without_data(error_of(outcome), registered);
     }
+    let kept = registering(&table[..], address, bytes);
     table[69] = 1;
-    let kept = RegisteredWrite {
-        address,
-        count: bytes.len() as u8,
-        bytes: buffers::first_eight(bytes),
-    };
     without_data(0, kept)
 }
 

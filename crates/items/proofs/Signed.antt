@@ -1,7 +1,7 @@
 -- Two's complement: what the machine's reading of a word is, below 2 ^ 31 and from there on, and the way back.
 use mathlib.Core.Path.{_≡_, refl, ap, _∙_}
 use mathlib.Core.Bool.{Bool, true, false, not, _||_}
-use Prim.Native.Nat.{ℕ, zero, suc, _+_, _-_, _*_, _<_, _≤_, _^_}
+use Prim.Native.Nat.{ℕ, zero, suc, _-_, _<_, _≤_, _^_}
 use native.Mathlib.Nat.{zero-add}
 use native.Mathlib.Omega.{arith}
 use lib.Dec.{leb, ltb, eqb}
@@ -11,10 +11,11 @@ use mir.Syntax.{w32}
 use mir.Val.{toZ, ofZ, SFits}
 use mir.Facts.{toZ-ofZ}
 use borrow.Author.Tests.{lt-ltb, le-ltb, lt-leb, le-leb, ltb-true, ltb-false, eqb-true, ne-eqb}
-use mathlib.Core.List.{List, [], _∷_}
+use mathlib.Core.List.{List}
 use lib.ListN.{getD}
 use Rattle.registers.specs.Rows.{oneOrFour}
-use Rattle.items.specs.Items.{signed, unsigned, numberAt, valueAt}
+use Rattle.lists.specs.Numbers.{numberAt}
+use Rattle.items.specs.Items.{signed, unsigned, valueAt}
 
 minus : (n : ℕ) → negsuc 0 -ℤ pos n ≡ negsuc n
 minus zero = refl
@@ -48,21 +49,6 @@ le-not-lt (pos a) (pos b) = turnℕ a b
 le-not-lt (pos a) (negsuc b) = refl
 le-not-lt (negsuc a) (pos b) = refl
 le-not-lt (negsuc a) (negsuc b) = turnℕ b a
-
--- the number of four bytes, as the code adds it up
-pub sum-is : (a b c d : ℕ) → a + b * 256 + c * 65536 + d * 16777216 ≡ numberAt (a ∷ b ∷ c ∷ d ∷ []) 0 4
-unfolding numberAt
-sum-is a b c d = omega arith
-
--- four bytes of a table by themselves
-pub four-bytes : (table : List ℕ) (a : ℕ)
-    → numberAt (getD table a 0 ∷ getD table (a + 1) 0 ∷ getD table (a + 2) 0 ∷ getD table (a + 3) 0 ∷ []) 0 4 ≡ numberAt table a 4
-unfolding numberAt
-four-bytes table a =
-    let e₁ : a + 1 ≡ suc a = omega arith in
-    let e₂ : a + 2 ≡ suc (suc a) = omega arith in
-    let e₃ : a + 3 ≡ suc (suc (suc a)) = omega arith in
-    rw (e₁, e₂, e₃)
 
 -- the value of an item of four bytes, and of one
 pub value-word : (table : List ℕ) (a n : ℕ) → n ≡ 4 → valueAt table a n ≡ signed (numberAt table a 4)

@@ -1,8 +1,8 @@
 // Reads standard input, up to 65,536 bytes of it, as one segment and prints what the reader hears: `packet ID INSTRUCTION
 // COUNT`, with the count of unstuffed parameters, or `crc ID`, a line for each event, and last `end BYTES`, the bytes read.
+use framer::StepEvent;
 use libc::STDIN_FILENO;
 use libc::STDOUT_FILENO;
-use reader::Heard;
 use stuffing::Unstuffed;
 ghost use Prim.Native.Nat.{_≤_};
 
@@ -40,20 +40,20 @@ fn print_bad_checksum(id: u8) {
 }
 
 // Prints an event, and says whether it was one.
-fn print_event(heard: Heard, bytes: &[u8]) -> bool {
-    match heard {
-        Heard::Packet { id, size } => {
+fn print_event(event: StepEvent, bytes: &[u8]) -> bool {
+    match event {
+        StepEvent::Packet { id, size } => {
             if size <= bytes.len() {
                 print_packet(id, &bytes[..size]);
             }
             true
         }
-        Heard::BadChecksum { id } => {
+        StepEvent::BadChecksum { id } => {
             print_bad_checksum(id);
             true
         }
-        Heard::Silent => false,
-        Heard::Refused => false,
+        StepEvent::Silent => false,
+        StepEvent::Refused => false,
     }
 }
 
@@ -70,11 +70,11 @@ fn feed_all(held: &mut [u8; 1030], segment: &[u8], found: &mut [u8; 1031]) -> us
     let mut at = 0;
     let mut left: u64 = 18446744073709551615;
     while 0 < left {
-        let told = reader::feed_into(held, count, &segment[at..], found);
-        count = told.held;
-        at += least(told.taken, segment.len() - at);
-        let heard = told.heard;
-        if !print_event(heard, found) {
+        let step = framer::feed_in(held, count, &segment[at..], found);
+        count = step.held;
+        at += least(step.taken, segment.len() - at);
+        let event = step.event;
+        if !print_event(event, found) {
             break;
         }
         left -= 1;
@@ -87,10 +87,10 @@ fn finish(held: &mut [u8; 1030], from: usize, found: &mut [u8; 1031]) {
     let mut count = from;
     let mut left: u64 = 18446744073709551615;
     while 0 < left {
-        let told = reader::gap_into(held, count, found);
-        count = told.held;
-        let heard = told.heard;
-        if !print_event(heard, found) {
+        let step = framer::gap_in(held, count, found);
+        count = step.held;
+        let event = step.event;
+        if !print_event(event, found) {
             break;
         }
         left -= 1;

@@ -5,17 +5,15 @@ use device::Response;
 use encoder::Encoded;
 use exchange::Answered;
 use exchange::Exchanged;
+use framer::Step;
+use framer::StepEvent;
 use instructions::RegisteredWrite;
-use reader::Heard;
-use reader::Told;
 use stuffing::Unstuffed;
 use table_rules::Outcome;
 ghost use mathlib.Core.Path.{_≡_};
-ghost use mathlib.Core.List.{[]};
 ghost use Rattle.stuffing.specs.Answers.{unstuffedAnswer};
 ghost use Rattle.encoder.specs.Encoding.{encodedAnswer};
 ghost use Rattle.table_rules.specs.Outcomes.{refusalOf};
-ghost use Rattle.reader.specs.Answer.{saidBy};
 ghost use Rattle.device.specs.Answers.{repliedAnswer};
 ghost use Rattle.exchange.specs.Exchange.{exchangedAnswer};
 ghost use Rattle.lists.specs.Answer.{count as Answer·count};
@@ -85,31 +83,31 @@ pub fn outcome(answer: Outcome) -> i64
 }
 
 // The packet's bytes are in the caller's buffer.
-pub fn told(answer: Told) -> StepNumbers
-    ensures { λ r. ⌜ r ≡ stepNumbers (saidBy (answer .heard) (answer .taken) [] (answer .held)) ⌝ }
+pub fn step(answer: Step) -> StepNumbers
+    ensures { λ r. ⌜ r ≡ stepNumbers answer ⌝ }
 {
     let taken = answer.taken;
-    let heard = answer.heard;
-    match heard {
-        Heard::Packet { id, size } => StepNumbers {
+    let event = answer.event;
+    match event {
+        StepEvent::Packet { id, size } => StepNumbers {
             taken,
             count: size,
             kind: 1,
             id,
         },
-        Heard::BadChecksum { id } => StepNumbers {
+        StepEvent::BadChecksum { id } => StepNumbers {
             taken,
             count: 0,
             kind: 2,
             id,
         },
-        Heard::Silent => StepNumbers {
+        StepEvent::Silent => StepNumbers {
             taken,
             count: 0,
             kind: 0,
             id: 0,
         },
-        Heard::Refused => StepNumbers {
+        StepEvent::Refused => StepNumbers {
             taken,
             count: 0,
             kind: 25,
@@ -146,6 +144,16 @@ pub fn response(answer: Response) -> DeviceNumbers
         },
         Replied::NoRoom => DeviceNumbers {
             count: -24,
+            slot: 0,
+            registered,
+        },
+        Replied::BadReplyId => DeviceNumbers {
+            count: -11,
+            slot: 0,
+            registered,
+        },
+        Replied::LongReply => DeviceNumbers {
+            count: -12,
             slot: 0,
             registered,
         },

@@ -1,20 +1,57 @@
 -- The search in a list, turn by turn. Which IDs have passed stands in a table of marks.
 use mathlib.Core.Path.{_≡_, refl, sym, ap, _∙_}
-use mathlib.Core.Bool.{Bool, true, false, not, cond, _&&_, _||_}
+use mathlib.Core.Bool.{Bool, true, false, cond, _||_}
 use mathlib.Core.List.{List, [], _∷_}
 use Prim.Native.Nat.{ℕ, zero, suc, _+_, _-_, _≤_, _<_}
 use native.Mathlib.Omega.{arith}
 use lib.Dec.{leb, eqb}
-use lib.ListN.{length, getD, set, replicate, length-set, getD-replicate}
-use lib.Seq.{getD-set-same, getD-set-other}
+use lib.ListN.{length, take, drop, getD, set, replicate, length-set, length-drop, getD-replicate}
+use lib.Seq.{take-all, getD-set-same, getD-set-other}
 use borrow.Author.Tests.{leb-true, le-leb, lt-leb, eqb-true, eqb-false}
-use Rattle.lists.proofs.Bools.{and-left}
-use Rattle.parameters.specs.Entries.{occurs, entryGood, searchFrom, search}
-use Rattle.parameters.specs.Parameters.{wordAt, syncSearch}
+use Rattle.lists.proofs.Bools.{and-left, and-right}
+use Rattle.parameters.specs.Entries.{Entry, occurs, entryGood, searchFrom, search}
+use Rattle.parameters.specs.Parameters.{wordAt, plain, entryOf, syncSearch}
+use Rattle.parameters.specs.declared.EntryKind.{EntryKind}
+use Rattle.parameters.specs.declared.EntryKind.the-variants.{Plain, BulkRead, BulkWrite}
 use Rattle.parameters.specs.declared.Found.{Found}
 use Rattle.parameters.specs.declared.Found.the-variants.{At, Nothing}
 
-module _ (size : ℕ) (own : ℕ) (params : List ℕ) where
+-- ---- what `entry_size` has told of the entry at `at`
+
+some-bytes : (k : EntryKind) (rest : List ℕ) → 1 ≤ entryOf k .size rest
+some-bytes (Plain n) rest = omega arith
+some-bytes BulkRead rest = omega arith
+some-bytes BulkWrite rest = omega arith
+
+abbrev sizeTold : EntryKind → List ℕ → ℕ
+sizeTold k rest = cond (entryOf k .allowed rest) (entryOf k .size rest) 0
+
+module _ (k : EntryKind) (params : List ℕ) (at size : ℕ) (h : at ≤ length params)
+    (told : size ≡ sizeTold k (take (length params - at) (drop at params))) where
+  told-here : size ≡ sizeTold k (drop at params)
+  told-here = told ∙ ap (sizeTold k) (take-all (length params - at) (drop at params) (simp length-drop (omega arith)))
+
+  pub not-allowed : size ≡ 0 → entryOf k .allowed (drop at params) ≡ false
+  not-allowed z = by-test (entryOf k .allowed (drop at params)) told-here
+    where
+      by-test : (b : Bool) → size ≡ cond b (entryOf k .size (drop at params)) 0 → b ≡ false
+      by-test false e = refl
+      by-test true e = let s = some-bytes k (drop at params) in absurd (omega arith)
+
+  module _ (n : size ≡ 0 → ⊥) where
+    pub allowed : entryOf k .allowed (drop at params) ≡ true
+    allowed = by-test (entryOf k .allowed (drop at params)) told-here
+      where
+        by-test : (b : Bool) → size ≡ cond b (entryOf k .size (drop at params)) 0 → b ≡ true
+        by-test false e = absurd (n e)
+        by-test true e = refl
+
+    pub size-is : size ≡ entryOf k .size (drop at params)
+    size-is = told-here ∙ rw allowed
+
+-- ---- the loop
+
+module _ (e : Entry) (own : ℕ) (params : List ℕ) (from : ℕ) where
   -- the entries before `at` have these IDs, and the rest of the search decides
   pub record Searching (seen : List ℕ) (at slot : ℕ) (found : Found) : Type 0 where
     pub passed : List ℕ
@@ -24,9 +61,9 @@ module _ (size : ℕ) (own : ℕ) (params : List ℕ) where
     pub few : slot ≤ at
     pub sized : length seen ≡ 256
     pub marked : (k : ℕ) → k < 256 → getD seen k 0 ≡ cond (occurs k passed) 1 0
-    pub same : searchFrom (λ rest. size) own params steps at passed found ≡ search (λ rest. size) own params 4
+    pub same : searchFrom e own params steps at passed found ≡ search e own params from
 
-  pub searching-start : Searching (replicate 256 0) 4 0 Nothing
+  pub searching-start : Searching (replicate 256 0) from 0 Nothing
   unfolding occurs
   searching-start =
       record {
@@ -41,9 +78,9 @@ module _ (size : ℕ) (own : ℕ) (params : List ℕ) where
       }
 
   turn : (steps at : ℕ) (passed : List ℕ) (found : Found) → at < length params → 0 < steps
-      → searchFrom (λ rest. size) own params steps at passed found
-      ≡ cond (entryGood (λ rest. size) params at passed)
-      (searchFrom (λ rest. size) own params (steps - 1) (at + size) (getD params at 0 ∷ passed)
+      → searchFrom e own params steps at passed found
+      ≡ cond (entryGood e params at passed)
+      (searchFrom e own params (steps - 1) (at + e .size (drop at params)) (getD params at 0 ∷ passed)
       (cond (eqb (getD params at 0) own) (At (length passed) at) found))
       Nothing
   unfolding searchFrom
@@ -53,105 +90,134 @@ module _ (size : ℕ) (own : ℕ) (params : List ℕ) where
       rw (lt-leb (length params) at h, e)
 
   module _ (seen : List ℕ) (at slot : ℕ) (found : Found) (r : Searching seen at slot found) (h : at < length params) where
-    goes : search (λ rest. size) own params 4
-        ≡ cond (entryGood (λ rest. size) params at (r .passed))
-        (searchFrom (λ rest. size) own params (r .steps - 1) (at + size) (getD params at 0 ∷ r .passed)
+    goes : search e own params from
+        ≡ cond (entryGood e params at (r .passed))
+        (searchFrom e own params (r .steps - 1) (at + e .size (drop at params)) (getD params at 0 ∷ r .passed)
         (cond (eqb (getD params at 0) own) (At (length (r .passed)) at) found))
         Nothing
     goes = let e = r .enough in sym (r .same) ∙ turn (r .steps) at (r .passed) found h (omega arith)
 
-    pub cut-short : length params < at + size → Nothing ≡ search (λ rest. size) own params 4
-    cut-short l = sym (goes ∙ rw (lt-leb (at + size) (length params) l))
+    pub barred : e .allowed (drop at params) ≡ false → Nothing ≡ search e own params from
+    barred b = sym (goes ∙ rw b)
 
-    module _ (whole : at + size ≤ length params) where
-      pub no-id : 252 < getD params at 0 → Nothing ≡ search (λ rest. size) own params 4
-      no-id l = sym (goes ∙ rw (le-leb (at + size) (length params) whole, lt-leb (getD params at 0) 252 l))
+    module _ (ok : e .allowed (drop at params) ≡ true) where
+      pub cut-short : length params < at + e .size (drop at params) → Nothing ≡ search e own params from
+      cut-short l = sym (goes ∙ rw (ok, lt-leb (at + e .size (drop at params)) (length params) l))
 
-      module _ (allowed : getD params at 0 ≤ 252) where
-        occurred : (b : Bool) → occurs (getD params at 0) (r .passed) ≡ b → getD seen (getD params at 0) 0 ≡ cond b 1 0
-        occurred b e = r .marked (getD params at 0) (omega arith) ∙ rw e
+      module _ (whole : at + e .size (drop at params) ≤ length params) where
+        fits : leb (at + e .size (drop at params)) (length params) ≡ true
+        fits = le-leb (at + e .size (drop at params)) (length params) whole
 
-        pub again : (getD seen (getD params at 0) 0 ≡ 0 → ⊥) → Nothing ≡ search (λ rest. size) own params 4
-        again n = by-mark (occurs (getD params at 0) (r .passed)) refl
-          where
-            by-mark : (b : Bool) → occurs (getD params at 0) (r .passed) ≡ b → Nothing ≡ search (λ rest. size) own params 4
-            by-mark false e = absurd (n (occurred false e))
-            by-mark true e = sym (goes ∙ simp (le-leb (at + size) (length params) whole, le-leb (getD params at 0) 252 allowed, e))
+        pub no-id : 252 < getD params at 0 → Nothing ≡ search e own params from
+        no-id l = sym (goes ∙ rw (ok, fits, lt-leb (getD params at 0) 252 l))
 
-        module _ (new : getD seen (getD params at 0) 0 ≡ 0) (some-bytes : 1 ≤ size) where
-          not-passed : occurs (getD params at 0) (r .passed) ≡ false
-          not-passed = by-mark (occurs (getD params at 0) (r .passed)) refl
+        module _ (known : getD params at 0 ≤ 252) where
+          occurred : (b : Bool) → occurs (getD params at 0) (r .passed) ≡ b → getD seen (getD params at 0) 0 ≡ cond b 1 0
+          occurred b e = r .marked (getD params at 0) (omega arith) ∙ rw e
+
+          pub again : (getD seen (getD params at 0) 0 ≡ 0 → ⊥) → Nothing ≡ search e own params from
+          again n = by-mark (occurs (getD params at 0) (r .passed)) refl
             where
-              by-mark : (b : Bool) → occurs (getD params at 0) (r .passed) ≡ b → b ≡ false
-              by-mark false e = refl
-              by-mark true e = let z = occurred true e in absurd (omega arith)
+              by-mark : (b : Bool) → occurs (getD params at 0) (r .passed) ≡ b → Nothing ≡ search e own params from
+              by-mark false m = absurd (n (occurred false m))
+              by-mark true m = sym (goes ∙ simp (ok, fits, le-leb (getD params at 0) 252 known, m))
 
-          mark : (k : ℕ) → k < 256 → getD (set seen (getD params at 0) 1) k 0 ≡ cond (eqb k (getD params at 0) || occurs k (r .passed)) 1 0
-          mark k l = by-id (eqb k (getD params at 0)) refl
-            where
-              by-id : (b : Bool) → eqb k (getD params at 0) ≡ b
-                  → getD (set seen (getD params at 0) 1) k 0 ≡ cond (eqb k (getD params at 0) || occurs k (r .passed)) 1 0
-              by-id true e =
-                  let s = r .sized in
-                  let i = eqb-true k (getD params at 0) e in
-                  rw (e) (rw (i) (getD-set-same seen (getD params at 0) 1 0 (omega arith)))
-              by-id false e = rw (e) (getD-set-other seen (getD params at 0) k 1 0 (eqb-false k (getD params at 0) e) ∙ r .marked k l)
+          module _ (new : getD seen (getD params at 0) 0 ≡ 0) (some : 1 ≤ e .size (drop at params)) where
+            not-passed : occurs (getD params at 0) (r .passed) ≡ false
+            not-passed = by-mark (occurs (getD params at 0) (r .passed)) refl
+              where
+                by-mark : (b : Bool) → occurs (getD params at 0) (r .passed) ≡ b → b ≡ false
+                by-mark false e = refl
+                by-mark true e = let z = occurred true e in absurd (omega arith)
 
-          pub next : Searching (set seen (getD params at 0) 1) (at + size) (slot + 1) (cond (eqb (getD params at 0) own) (At slot at) found)
-          unfolding occurs
-          next =
-              let e = r .enough in
-              let f = r .few in
-              let s = r .slots in
-              record {
-                passed = getD params at 0 ∷ r .passed;
-                steps = r .steps - 1;
-                enough = omega arith;
-                slots = omega arith;
-                few = omega arith;
-                sized = simp length-set (r .sized);
-                marked = mark;
-                same =
-                    ap (λ (n : ℕ). searchFrom (λ rest. size) own params (r .steps - 1) (at + size) (getD params at 0 ∷ r .passed) (cond (eqb (getD params at 0) own) (At n at) found)) s
-                    ∙ sym (goes ∙ simp (le-leb (at + size) (length params) whole, le-leb (getD params at 0) 252 allowed, not-passed));
-              }
+            mark : (k : ℕ) → k < 256 → getD (set seen (getD params at 0) 1) k 0 ≡ cond (eqb k (getD params at 0) || occurs k (r .passed)) 1 0
+            mark k l = by-id (eqb k (getD params at 0)) refl
+              where
+                by-id : (b : Bool) → eqb k (getD params at 0) ≡ b
+                    → getD (set seen (getD params at 0) 1) k 0 ≡ cond (eqb k (getD params at 0) || occurs k (r .passed)) 1 0
+                by-id true e =
+                    let s = r .sized in
+                    let i = eqb-true k (getD params at 0) e in
+                    rw (e) (rw (i) (getD-set-same seen (getD params at 0) 1 0 (omega arith)))
+                by-id false e = rw (e) (getD-set-other seen (getD params at 0) k 1 0 (eqb-false k (getD params at 0) e) ∙ r .marked k l)
 
-  pub searched : (seen : List ℕ) (at slot : ℕ) (found : Found) → Searching seen at slot found → length params ≤ at → found ≡ search (λ rest. size) own params 4
+            pub next : Searching (set seen (getD params at 0) 1) (at + e .size (drop at params)) (slot + 1) (cond (eqb (getD params at 0) own) (At slot at) found)
+            unfolding occurs
+            next =
+                let k = r .enough in
+                let f = r .few in
+                let s = r .slots in
+                record {
+                  passed = getD params at 0 ∷ r .passed;
+                  steps = r .steps - 1;
+                  enough = omega arith;
+                  slots = omega arith;
+                  few = omega arith;
+                  sized = simp length-set (r .sized);
+                  marked = mark;
+                  same =
+                      ap (λ (n : ℕ). searchFrom e own params (r .steps - 1) (at + e .size (drop at params)) (getD params at 0 ∷ r .passed) (cond (eqb (getD params at 0) own) (At n at) found)) s
+                      ∙ sym (goes ∙ simp (ok, fits, le-leb (getD params at 0) 252 known, not-passed));
+                }
+
+  pub searched : (seen : List ℕ) (at slot : ℕ) (found : Found) → Searching seen at slot found → length params ≤ at → found ≡ search e own params from
   unfolding searchFrom
   searched seen at slot found r h = by-steps (r .steps) (r .same)
     where
-      by-steps : (steps : ℕ) → searchFrom (λ rest. size) own params steps at (r .passed) found ≡ search (λ rest. size) own params 4
-          → found ≡ search (λ rest. size) own params 4
-      by-steps zero e = sym (rw (le-leb (length params) at h)) ∙ e
-      by-steps (suc steps) e = sym (rw (le-leb (length params) at h)) ∙ e
+      by-steps : (steps : ℕ) → searchFrom e own params steps at (r .passed) found ≡ search e own params from
+          → found ≡ search e own params from
+      by-steps zero s = sym (rw (le-leb (length params) at h)) ∙ s
+      by-steps (suc steps) s = sym (rw (le-leb (length params) at h)) ∙ s
 
-  -- an entry that was found is whole
-  Whole : Found → Type 0
-  Whole found = (slot at : ℕ) → found ≡ At slot at → at + size ≤ length params
+  -- a list that begins at the end or past it has no entry
+  pub past-end : length params ≤ from → search e own params from ≡ Nothing
+  unfolding searchFrom
+  past-end h = by-steps (length params)
+    where
+      by-steps : (steps : ℕ) → searchFrom e own params steps from [] Nothing ≡ Nothing
+      by-steps zero = rw (le-leb (length params) from h)
+      by-steps (suc steps) = rw (le-leb (length params) from h)
 
-  nothing-whole : Whole Nothing
-  unfolding Whole
+  -- ---- an entry that was found is allowed and whole
+
+  pub record Whole (at : ℕ) : Type 0 where
+    pub ok : e .allowed (drop at params) ≡ true
+    pub fits : at + e .size (drop at params) ≤ length params
+
+  AllWhole : Found → Type 0
+  AllWhole found = (slot at : ℕ) → found ≡ At slot at → Whole at
+
+  nothing-whole : AllWhole Nothing
+  unfolding AllWhole
   nothing-whole slot at e = let z : _≡_ {A = ℕ} 0 1 = cc in absurd (omega arith)
 
-  pick-whole : (b : Bool) (x y : Found) → (b ≡ true → Whole x) → (b ≡ false → Whole y) → Whole (cond b x y)
+  pick-whole : (b : Bool) (x y : Found) → (b ≡ true → AllWhole x) → (b ≡ false → AllWhole y) → AllWhole (cond b x y)
   pick-whole true x y f g = f refl
   pick-whole false x y f g = g refl
 
-  here-whole : (n at : ℕ) → at + size ≤ length params → Whole (At n at)
-  unfolding Whole
-  here-whole n at h slot k e = let z : at ≡ k = cc in omega arith
+  here-whole : (n at : ℕ) → Whole at → AllWhole (At n at)
+  unfolding AllWhole
+  here-whole n at w slot k e = let z : at ≡ k = cc in rw z at w
 
-  from-whole : (steps at : ℕ) (passed : List ℕ) (found : Found) → Whole found → Whole (searchFrom (λ rest. size) own params steps at passed found)
+  good-whole : (at : ℕ) (passed : List ℕ) → entryGood e params at passed ≡ true → Whole at
+  good-whole at passed g =
+      record {
+        ok = and-left (e .allowed (drop at params)) _ g;
+        fits = leb-true (at + e .size (drop at params)) (length params) (and-left _ _ (and-right (e .allowed (drop at params)) _ g));
+      }
+
+  from-whole : (steps at : ℕ) (passed : List ℕ) (found : Found) → AllWhole found → AllWhole (searchFrom e own params steps at passed found)
   unfolding searchFrom
   from-whole zero at passed found f = pick-whole (leb (length params) at) found Nothing (λ _. f) (λ _. nothing-whole)
   from-whole (suc steps) at passed found f =
-      pick-whole (leb (length params) at) found _ (λ _. f) (λ _. pick-whole (entryGood (λ rest. size) params at passed) _ Nothing (λ g. from-whole steps (at + size) (getD params at 0 ∷ passed) _ (pick-whole (eqb (getD params at 0) own) (At (length passed) at) found (λ _. here-whole (length passed) at (leb-true (at + size) (length params) (and-left _ _ g))) (λ _. f))) (λ _. nothing-whole))
+      pick-whole (leb (length params) at) found _ (λ _. f) (λ _. pick-whole (entryGood e params at passed) _ Nothing (λ g. from-whole steps (at + e .size (drop at params)) (getD params at 0 ∷ passed) _ (pick-whole (eqb (getD params at 0) own) (At (length passed) at) found (λ _. here-whole (length passed) at (good-whole at passed g)) (λ _. f))) (λ _. nothing-whole))
 
-  pub found-whole : (slot at : ℕ) → search (λ rest. size) own params 4 ≡ At slot at → at + size ≤ length params
-  unfolding Whole
-  found-whole slot at e = from-whole (length params) 4 [] Nothing nothing-whole slot at e
+  pub found-whole : (slot at : ℕ) → search e own params from ≡ At slot at → Whole at
+  unfolding AllWhole
+  found-whole slot at s = from-whole (length params) from [] Nothing nothing-whole slot at s
 
-  pub sync-whole : (slot at : ℕ) → syncSearch size own params ≡ At slot at → at + size ≤ length params
-  unfolding Whole
-  sync-whole slot at e =
-      pick-whole (leb 4 (length params) && not (eqb (wordAt params 2) 0)) (search (λ rest. size) own params 4) Nothing (λ _ s k f. found-whole s k f) (λ _. nothing-whole) slot at e
+pub sync-whole : (size own : ℕ) (params : List ℕ) (slot at : ℕ) → syncSearch size own params ≡ At slot at → at + size ≤ length params
+unfolding AllWhole
+sync-whole size own params slot at e =
+    pick-whole (plain size) own params 4 (eqb (wordAt params 2) 0) Nothing (search (plain size) own params 4) (λ _. nothing-whole (plain size) own params 4)
+    (λ _ s k f. found-whole (plain size) own params 4 s k f) slot at e .fits

@@ -1,13 +1,22 @@
-// The parameters of an instruction: words, and the own entry in the list of a Sync instruction.
+// The parameters of an instruction: words, and the own entry in a list.
 ghost use mathlib.Core.Path.{_≡_};
-ghost use Prim.Native.Nat.{_+_, _≤_};
+ghost use mathlib.Core.Bool.{cond};
+ghost use Prim.Native.Nat.{_+_};
+ghost use lib.Dec.{eqb};
 ghost use Rattle.parameters.specs.Entries.{search as Entries·search};
-ghost use Rattle.parameters.specs.Parameters.{wordAt, syncSearch};
+ghost use Rattle.parameters.specs.Parameters.{wordAt, entryOf, syncSearch};
 
 // The own entry of a list: its place among the entries and its offset in the parameters.
 pub enum Found {
     At(usize, usize),
     Nothing,
+}
+
+// What the entries of a list are: an ID and so many bytes; ID, address and length; the same and as many bytes as the length says.
+pub enum EntryKind {
+    Plain(u16),
+    BulkRead,
+    BulkWrite,
 }
 
 // Two bytes of the parameters, low byte first. One that is missing counts as 0.
@@ -24,17 +33,44 @@ pub fn word_at(params: &[u8], i: usize) -> u16
     low + (params[i + 1] as u16) * 256
 }
 
-// The own entry among entries of `size` bytes from offset 4 on. The list is judged to its end: an entry that is cut short, an
-// ID above 252 or one that stood before make it no list at all.
-fn search(params: &[u8], size: usize, own: u8) -> Found
-    requires { ⌜ 1 ≤ size ⌝ }
-    ensures { λ r. ⌜ r ≡ Entries·search (λ rest. size) own (now (params .entry)) 4 ⌝ }
+// The size, or 0 where the entry's length is 0.
+fn unless_empty(length: u16, size: usize) -> usize
+    ensures { λ r. ⌜ r ≡ cond (eqb length 0) 0 size ⌝ }
+{
+    if length == 0 {
+        return 0;
+    }
+    size
+}
+
+// How many bytes the entry has that begins here, or 0 where it is not allowed.
+fn entry_size(kind: EntryKind, rest: &[u8]) -> usize
+    ensures { λ r. ⌜ r ≡ cond (entryOf kind .allowed (now (rest .entry))) (entryOf kind .size (now (rest .entry))) 0 ⌝ }
+{
+    match kind {
+        EntryKind::Plain(n) => 1 + n as usize,
+        EntryKind::BulkRead => unless_empty(word_at(rest, 3), 5),
+        EntryKind::BulkWrite => {
+            let n = word_at(rest, 3);
+            unless_empty(n, 5 + n as usize)
+        }
+    }
+}
+
+// The own entry of the list that begins at `from`, which may lie past the end. The list is judged to its end: an entry that is not
+// allowed or cut short, an ID above 252 or one that stood before make it no list at all. [D22-D24]
+pub fn search(params: &[u8], from: usize, kind: EntryKind, own: u8) -> Found
+    ensures { λ r. ⌜ r ≡ Entries·search (entryOf kind) own (now (params .entry)) from ⌝ }
 {
     let mut seen = [0u8; 256];
     let mut found = Found::Nothing;
     let mut slot = 0;
-    let mut at = 4;
+    let mut at = from;
     while at < params.len() {
+        let size = entry_size(kind, &params[at..]);
+        if size == 0 {
+            return Found::Nothing;
+        }
         if params.len() - at < size {
             return Found::Nothing;
         }
@@ -56,15 +92,12 @@ fn search(params: &[u8], size: usize, own: u8) -> Found
     found
 }
 
-// The own entry of a Sync list, whose entries are an ID and n bytes; without a length there is no list.
+// The own entry of a Sync list, whose entries are an ID and n bytes; without a length there is no list. [D22-D24]
 pub fn sync_search(params: &[u8], n: u16, own: u8) -> Found
     ensures { λ r. ⌜ r ≡ syncSearch (1 + n) own (now (params .entry)) ⌝ }
 {
-    if params.len() < 4 {
-        return Found::Nothing;
-    }
     if word_at(params, 2) == 0 {
         return Found::Nothing;
     }
-    search(params, 1 + n as usize, own)
+    search(params, 4, EntryKind::Plain(n), own)
 }

@@ -21,7 +21,7 @@ use Rattle.reading.proofs.Split.{before-append, before-le, from, packet
 
 module _ (R : Rules) (L : Laws R) where
   -- ---- the reader after the calls
-  fresh : (cs : List Call) → AtStart (model R) [] cs → after (model R) [] cs ≡ []
+  pub fresh : (cs : List Call) → AtStart (model R) [] cs → after (model R) [] cs ≡ []
   unfolding after
   fresh cs (inl e) = rw e
   fresh cs (inr e) = rw (e .1, after-append R L [] (e .0) (gap ∷ [])) (gap-silent R L (after (model R) [] (e .0)) (e .2))
@@ -44,7 +44,7 @@ module _ (R : Rules) (L : Laws R) where
   finished-after : (h : List ℕ) (chunks : List (List ℕ)) (g : ℕ) → Finished (model R) h chunks g
       → after (model R) h (since chunks g) ≡ []
   finished-after h chunks g f =
-      let r = gaps-split (f .0) g (f .1) in
+      let r = gaps-split (f .0) g (omega (arith, f .1)) in
       rw (
         r .1,
         ← append-assoc (feeds chunks) (gaps (f .0)) (gap ∷ gaps (r .0)),
@@ -52,7 +52,7 @@ module _ (R : Rules) (L : Laws R) where
       )
       (gap-then (after (model R) h (since chunks (f .0))) (r .0) (f .2))
 
-  took-calls : (h : List ℕ) (chunks : List (List ℕ)) (g : ℕ)
+  pub took-calls : (h : List ℕ) (chunks : List (List ℕ)) (g : ℕ)
       → took (model R) h (since chunks g) ≡ took (model R) h (feeds chunks)
   took-calls h chunks g =
       rw (

@@ -11,16 +11,16 @@ use Rattle.reading.specs.Lists.{AnyReader, model, chunkOf, feeds, listed
 use Rattle.reading.specs.Promise.{EndsSilent, AtStart, since, Finished, Promised, Demand3}
 use Rattle.reading.proofs.Demand.{demand-3}
 
-module _ (R : Rules) (M : AnyReader) (F : Follows R M) where
-  pub follows-after : (x : M .State) (h : List ℕ) (cs : List Call) → F .Legal x → F .held x ≡ h
-      → F .Legal (after M x cs) × (F .held (after M x cs) ≡ after (model R) h cs)
+module _ (R : Rules) (M : AnyReader) (Legal : M .State → Type 0) (held : M .State → List ℕ) (F : Follows R M Legal held) where
+  pub follows-after : (x : M .State) (h : List ℕ) (cs : List Call) → Legal x → held x ≡ h
+      → Legal (after M x cs) × (held (after M x cs) ≡ after (model R) h cs)
   unfolding after
   follows-after x h [] l e = (l, e)
   follows-after x h (c ∷ cs) l e =
       let n = F .same-next x c l in
       follows-after (M .next x c) (call R h c .held) cs (n .0) (n .1 ∙ ap (λ (k : List ℕ). call R k c .held) e)
 
-  pub follows-took : (x : M .State) (h : List ℕ) (cs : List Call) → F .Legal x → F .held x ≡ h
+  pub follows-took : (x : M .State) (h : List ℕ) (cs : List Call) → Legal x → held x ≡ h
       → took M x cs ≡ took (model R) h cs
   unfolding took
   follows-took x h [] l e = refl
@@ -30,7 +30,7 @@ module _ (R : Rules) (M : AnyReader) (F : Follows R M) where
       (ap (λ (k : ℕ). take k (chunkOf c)) (F .same-taken x c l ∙ ap (λ (k : List ℕ). call R k c .taken) e))
       (follows-took (M .next x c) (call R h c .held) cs (n .0) (n .1 ∙ ap (λ (k : List ℕ). call R k c .held) e))
 
-  pub follows-given : (x : M .State) (h : List ℕ) (cs : List Call) → F .Legal x → F .held x ≡ h
+  pub follows-given : (x : M .State) (h : List ℕ) (cs : List Call) → Legal x → held x ≡ h
       → given M x cs ≡ given (model R) h cs
   unfolding given
   follows-given x h [] l e = refl
@@ -40,21 +40,21 @@ module _ (R : Rules) (M : AnyReader) (F : Follows R M) where
       (follows-given (M .next x c) (call R h c .held) cs (n .0) (n .1 ∙ ap (λ (k : List ℕ). call R k c .held) e))
 
   -- what a call answers after other calls
-  follows-answer : (x : M .State) (h : List ℕ) (cs : List Call) (c : Call) → F .Legal x → F .held x ≡ h
+  pub follows-answer : (x : M .State) (h : List ℕ) (cs : List Call) (c : Call) → Legal x → held x ≡ h
       → M .answer (after M x cs) c ≡ call R (after (model R) h cs) c .answer
   follows-answer x h cs c l e =
       let n = follows-after x h cs l e in
       F .same-answer (after M x cs) c (n .0) ∙ ap (λ (k : List ℕ). call R k c .answer) (n .1)
 
-  ends-silent : (x : M .State) (h : List ℕ) (cs : List Call) (c : Call) → F .Legal x → F .held x ≡ h → EndsSilent M x cs c
+  ends-silent : (x : M .State) (h : List ℕ) (cs : List Call) (c : Call) → Legal x → held x ≡ h → EndsSilent M x cs c
       → EndsSilent (model R) h cs c
   ends-silent x h cs c l e s = (s .0, s .1, sym (follows-answer x h (s .0) c l e) ∙ s .2)
 
-  at-start : (x : M .State) (h : List ℕ) (cs : List Call) → F .Legal x → F .held x ≡ h → AtStart M x cs → AtStart (model R) h cs
+  at-start : (x : M .State) (h : List ℕ) (cs : List Call) → Legal x → held x ≡ h → AtStart M x cs → AtStart (model R) h cs
   at-start x h cs l e (inl s) = inl s
   at-start x h cs l e (inr s) = inr (ends-silent x h cs gap l e s)
 
-  module _ (x : M .State) (h : List ℕ) (l : F .Legal x) (e : F .held x ≡ h) (chunks : List (List ℕ)) (g : ℕ) where
+  module _ (x : M .State) (h : List ℕ) (l : Legal x) (e : held x ≡ h) (chunks : List (List ℕ)) (g : ℕ) where
     finished : Finished M x chunks g → Finished (model R) h chunks g
     finished f = (f .0, f .1, sym (follows-answer x h (since chunks (f .0)) gap l e) ∙ f .2)
 

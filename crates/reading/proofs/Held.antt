@@ -1,11 +1,12 @@
--- What is held between calls: less than a longest packet, and only what waits.
+-- What is held between calls: less than a longest packet, and only what waits. And what a call gives: well-formed packets.
 use mathlib.Core.Path.{_≡_, refl, sym, _∙_}
 use mathlib.Core.List.{List, [], _∷_, _++_}
+use mathlib.Core.Option.{some}
 use Prim.Native.Nat.{ℕ, _-_, _≤_, _<_}
 use native.Mathlib.Omega.{arith}
-use lib.ListN.{length, drop, length-append, length-drop}
+use lib.ListN.{length, take, drop, length-append, length-drop}
 use Rattle.reading.specs.Rules.{Verdict, isPacket, isBadChecksum, isWaiting, isNothing, Rules, Laws}
-use Rattle.reading.specs.Reading.{Event, Mode, open′, closed}
+use Rattle.reading.specs.Reading.{Event, packet, Mode, open′, closed}
 use Rattle.reading.specs.Calls.{First, event, silent, firstAt, first, Reply, fedAll, fedOn, fed, gapped, Call, feed, gap}
 use Rattle.reading.specs.Calls.{call}
 use Rattle.reading.specs.Lists.{model, after}
@@ -101,3 +102,44 @@ module _ (R : Rules) (L : Laws R) where
 
   pub finished-empty : FinishedEmpty R
   finished-empty = gap-silent R L
+
+  -- ---- a packet that a call gives is well-formed
+
+  good-at : (m : Mode) (b : ℕ) (s : List ℕ) (f : First) (v : Verdict) → R .verdict (b ∷ s) ≡ v → (w : List ℕ)
+      → ((t : List ℕ) → f ≡ event (packet w) t → R .WellFormed w) → (t : List ℕ) → firstAt m v (b ∷ s) f ≡ event (packet w) t
+      → R .WellFormed w
+  good-at m b s f (isPacket n) i w h t k =
+      let z : take n (b ∷ s) ≡ w = cc in
+      rw z at (L .sound (b ∷ s) n i .2)
+  good-at m b s f (isBadChecksum id) i w h t k = let z : _≡_ {A = ℕ} 0 1 = cc in absurd (omega arith)
+  good-at m b s f isNothing i w h t k = h t k
+  good-at closed b s f isWaiting i w h t k = h t k
+  good-at open′ b s f isWaiting i w h t k = let z : _≡_ {A = ℕ} 0 1 = cc in absurd (omega arith)
+
+  first-good : (m : Mode) (s w t : List ℕ) → first R m s ≡ event (packet w) t → R .WellFormed w
+  unfolding first
+  first-good m [] w t k = let z : _≡_ {A = ℕ} 0 1 = cc in absurd (omega arith)
+  first-good m (b ∷ s) w t k = good-at m b s (first R m s) (R .verdict (b ∷ s)) refl w (first-good m s w) t k
+
+  all-good : (h w : List ℕ) (f : First) → first R open′ h ≡ f → fedAll f .answer ≡ some (packet w) → R .WellFormed w
+  all-good h w (event e t) i k = let z : e ≡ packet w = cc in first-good open′ h w t (rw z at i)
+  all-good h w (silent t) i k = let z : _≡_ {A = ℕ} 0 1 = cc in absurd (omega arith)
+
+  on-good : (h w : List ℕ) (f : First) (r : Reply) → first R open′ h ≡ f → (r .answer ≡ some (packet w) → R .WellFormed w)
+      → fedOn f r .answer ≡ some (packet w) → R .WellFormed w
+  on-good h w (event e t) r i g k = let z : e ≡ packet w = cc in first-good open′ h w t (rw z at i)
+  on-good h w (silent t) r i g k = g k
+
+  fed-good : (h s w : List ℕ) → fed R h s .answer ≡ some (packet w) → R .WellFormed w
+  unfolding fed
+  fed-good h [] w k = all-good h w (first R open′ h) refl k
+  fed-good h (b ∷ s) w k = on-good h w (first R open′ h) (fed R (h ++ b ∷ []) s) refl (fed-good (h ++ b ∷ []) s w) k
+
+  gapped-good : (h w : List ℕ) (f : First) → first R closed h ≡ f → gapped f .answer ≡ some (packet w) → R .WellFormed w
+  gapped-good h w (event e t) i k = let z : e ≡ packet w = cc in first-good closed h w t (rw z at i)
+  gapped-good h w (silent t) i k = let z : _≡_ {A = ℕ} 0 1 = cc in absurd (omega arith)
+
+  pub packet-good : (h : List ℕ) (c : Call) (w : List ℕ) → call R h c .answer ≡ some (packet w) → R .WellFormed w
+  unfolding call
+  packet-good h (feed s) w k = fed-good h s w k
+  packet-good h gap w k = gapped-good h w (first R closed h) refl k

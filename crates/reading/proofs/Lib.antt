@@ -6,3 +6,5 @@ pub mod Fewest
 pub mod Held
 pub mod Progress
 pub mod Ahead
+pub mod Across
+pub mod Clean

@@ -186,13 +186,13 @@ module _ (R : Rules) (L : Laws R) where
       by (no l) = omega (arith, g .1, length-append t (b ∷ []))
 
 module _ (R : Rules) where
-  -- where nothing is left, a byte is wanted
-  pub none-patient : 0 < R .longest → Patient R [] 1
-  none-patient h =
+  -- where no event is decided, and there is room, a byte is wanted
+  pub silent-patient : (t : List ℕ) → length t < R .longest → first R open′ t ≡ silent t → Patient R t 1
+  silent-patient t h e =
       record {
         some = omega arith;
         room = omega arith;
-        silent-while = λ x l. let z : x ≡ [] = empty x l in ([], rw z (first-none R open′));
+        silent-while = λ x l. let z : x ≡ [] = empty x l in (t, rw (z, append-nil) e);
       }
     where
       empty : (x : List ℕ) → length x < 1 → x ≡ []

@@ -4,3 +4,4 @@ pub mod Calls
 pub mod Lists
 pub mod Progress
 pub mod Promise
+pub mod Across

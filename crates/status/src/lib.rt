@@ -1,11 +1,12 @@
 // The status: what a reply holds, and its packet.
 use encoder::Encoded;
 ghost use mathlib.Core.Path.{_≡_};
-ghost use Prim.Native.Nat.{_+_, min};
-ghost use Rattle.encoder.specs.Encoding.{encodedAnswer};
+ghost use Prim.Native.Nat.{_≤_};
+ghost use Rattle.encoder.specs.Encoding.{encodedAnswer, encodeAnswer, encodeOut};
 ghost use Rattle.status.specs.Status.{silence as Status·silence};
-ghost use Rattle.status.specs.Status.{errorByte};
-ghost use Rattle.status.specs.Sending.{sendAnswer, sendOut};
+ghost use Rattle.status.specs.Status.{errorByte, statusBody};
+ghost use Rattle.status.specs.Steps.{writtenBy};
+ghost use Rattle.status.specs.Sending.{writtenAnswer, statusAnswer, statusOut};
 
 // A status to send: ID, error byte with its alert bit, data and the reply slot (the paper's turn number); or silence, which
 // is marked, all else being 0.
@@ -31,7 +32,7 @@ pub fn silence() -> Reply
     }
 }
 
-// Bit 7, the alert, is set where the hardware error is not 0.
+// Bit 7, the alert, is set where the hardware error is not 0. [D29]
 pub fn error_byte(error: u8, hardware: u8) -> u8
     ensures { λ r. ⌜ r ≡ errorByte error hardware ⌝ }
 {
@@ -41,27 +42,55 @@ pub fn error_byte(error: u8, hardware: u8) -> u8
     error % 128 + 128
 }
 
-// How many parameters a status has: its error byte, and as many bytes of data as there are, at most 8.
-fn parameter_count(count: usize) -> usize
-    ensures { λ r. ⌜ r ≡ min 8 count + 1 ⌝ }
-{
-    if count < 8 {
-        return count + 1;
-    }
-    9
+// The byte count of the status, 0 for silence, or a reply that cannot be sent.
+pub enum Written {
+    Count(usize),
+    BadId,
+    TooLong,
+    NoRoom,
 }
 
-// The status packet at the start of out, and what the encoder answers. Silence writes nothing and has no bytes.
-pub fn send(reply: Reply, out: &mut [u8]) -> Encoded
-    ensures { λ r. ⌜ encodedAnswer r ≡ sendAnswer reply (now (out .entry)) ⌝ }
-    ensures { λ _. ⌜ now (out .exit) ≡ sendOut reply (now (out .entry)) ⌝ }
+fn as_written(encoded: Encoded) -> Written
+    ensures { λ r. ⌜ r ≡ writtenBy encoded ⌝ }
 {
-    if !reply.speaks {
-        return Encoded::Count(0);
+    match encoded {
+        Encoded::Count(n) => Written::Count(n),
+        Encoded::BadId => Written::BadId,
+        Encoded::TooLong => Written::TooLong,
+        Encoded::NoRoom => Written::NoRoom,
     }
+}
+
+// The status packet at the start of out.
+fn write_status(reply: Reply, out: &mut [u8]) -> Encoded
+    requires { ⌜ reply .count ≤ 8 ⌝ }
+    ensures { λ r. ⌜ encodedAnswer r ≡ encodeAnswer (reply .id) (statusBody reply) (now (out .entry)) 0 ⌝ }
+    ensures { λ _. ⌜ now (out .exit) ≡ encodeOut (reply .id) (statusBody reply) (now (out .entry)) 0 ⌝ }
+{
     let b = reply.bytes;
     let params = [reply.error, b[0], b[1], b[2], b[3], b[4], b[5], b[6], b[7]];
-    let n = parameter_count(reply.count);
+    let n = reply.count + 1;
     let id = reply.id;
     encoder::encode(id, 0x55, &params[..n], out, 0)
+}
+
+// The status packet at the start of out; silence writes nothing and has no bytes. Refused, in this order and silence too: an ID
+// above 252, more than 8 bytes of data, a buffer under 32 bytes. A refusal writes nothing. [D28 D35-D37 N1 N2 N8]
+pub fn send(reply: Reply, out: &mut [u8]) -> Written
+    ensures { λ r. ⌜ writtenAnswer r ≡ statusAnswer reply (now (out .entry)) ⌝ }
+    ensures { λ _. ⌜ now (out .exit) ≡ statusOut reply (now (out .entry)) ⌝ }
+{
+    if 252 < reply.id {
+        return Written::BadId;
+    }
+    if 8 < reply.count {
+        return Written::TooLong;
+    }
+    if out.len() < 32 {
+        return Written::NoRoom;
+    }
+    if !reply.speaks {
+        return Written::Count(0);
+    }
+    as_written(write_status(reply, out))
 }

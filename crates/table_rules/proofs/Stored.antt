@@ -1,26 +1,15 @@
 -- The table that a write leaves, byte by byte: those before the written ones, these, and those after them.
-use mathlib.Core.Path.{_≡_, refl, sym, ap, _∙_}
+use mathlib.Core.Path.{_≡_, sym, ap, _∙_}
 use mathlib.Core.List.{List, _++_, append-assoc}
-use Prim.Native.Nat.{ℕ, zero, suc, _+_, _-_, _≤_, _<_}
+use Prim.Native.Nat.{ℕ, _+_, _-_, _≤_, _<_}
 use native.Mathlib.Omega.{arith}
 use lib.ListN.{length, take, drop, getD, length-append, length-drop, List·getD-append}
 use lib.Seq.{length-take-le, drop-drop, getD-append-add, getD-take, getD-drop, sets, sets-eq}
 use Rattle.lists.specs.Write.{overwritten}
-use Rattle.items.specs.Items.{numberAt, valueAt}
+use Rattle.lists.proofs.Numbers.{same-number}
+use Rattle.lists.specs.Numbers.{numberAt}
+use Rattle.items.specs.Items.{valueAt}
 use Rattle.table_rules.specs.Rules.{stored}
-
--- the number of the same bytes
-same-number : (n : ℕ) (xs ys : List ℕ) (a b : ℕ) → ((k : ℕ) → k < n → getD xs (a + k) 0 ≡ getD ys (b + k) 0) → numberAt xs a n ≡ numberAt ys b n
-unfolding numberAt
-same-number zero xs ys a b f = refl
-same-number (suc n) xs ys a b f =
-    let rest = same-number n xs ys (suc a) (suc b) (λ k h.
-    let e₁ : suc a + k ≡ a + suc k = omega arith in
-    let e₂ : suc b + k ≡ b + suc k = omega arith in
-    rw (e₁, e₂) (f (suc k) (omega arith))) in
-    let e₁ : a + 0 ≡ a = omega arith in
-    let e₂ : b + 0 ≡ b = omega arith in
-    rw (rw (e₁, e₂) at (f 0 (omega arith)), rest)
 
 module _ (table : List ℕ) (address : ℕ) (bytes : List ℕ) (fits : address + length bytes ≤ length table) where
   front : length (take address table) ≡ address

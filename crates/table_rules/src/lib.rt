@@ -8,7 +8,8 @@ ghost use lib.ListN.{length};
 ghost use lib.Signed.{leZ};
 ghost use Rattle.registers.specs.Registers.{registers, tableSize, minPosition, maxPosition, everyByte};
 ghost use Rattle.registers.specs.Rows.{oneOrFour};
-ghost use Rattle.items.specs.Items.{numberAt, signed, valueAt, valueOf};
+ghost use Rattle.lists.specs.Numbers.{numberAt};
+ghost use Rattle.items.specs.Items.{signed, valueAt, valueOf};
 ghost use Rattle.table_rules.specs.Rules.{covers, everyTouched, leastToWrite, limitsOrdered, goalWithin, stored, writeRule};
 ghost use Rattle.table_rules.specs.Outcomes.{isDone, refusalOf, inTable};
 ghost use Rattle.table_rules.specs.Stages.{whole, itemsRule};
@@ -168,7 +169,7 @@ fn least_to_write(table: &[u8]) -> u8
     if table[64] == 0 { 2 } else { 3 }
 }
 
-// The write rule, on a table that stays as it is.
+// The write rule, on a table that stays as it is. [M5 N5 T3 T6-T11 T14]
 pub fn judge(table: &[u8], address: u16, bytes: &[u8]) -> Outcome
     ensures { λ r. ⌜ refusalOf r ≡ inTable (now (table .entry)) (writeRule (now (table .entry)) address (now (bytes .entry))) ⌝ }
 {

@@ -7,11 +7,11 @@
 // Reading stops at a record that is cut short or of another form. The last line, `end BYTES`, has the count of bytes before it.
 // Until the first device comes the control table holds 0.
 use device::Replied;
+use framer::Step;
+use framer::StepEvent;
 use instructions::RegisteredWrite;
 use libc::STDIN_FILENO;
 use libc::STDOUT_FILENO;
-use reader::Heard;
-use reader::Told;
 use stuffing::Unstuffed;
 ghost use Prim.Native.Nat.{_≤_};
 
@@ -113,6 +113,8 @@ fn print_reply(replied: Replied, out: &[u8]) {
         Replied::BadId => print_refusal(),
         Replied::BadRegistered => print_refusal(),
         Replied::NoRoom => print_refusal(),
+        Replied::BadReplyId => print_refusal(),
+        Replied::LongReply => print_refusal(),
     }
 }
 
@@ -183,26 +185,26 @@ fn hear_bad_checksum(
     answer(table, registered, heard, id, b"")
 }
 
-fn is_event(heard: Heard) -> bool {
-    match heard {
-        Heard::Packet { .. } => true,
-        Heard::BadChecksum { .. } => true,
-        Heard::Silent => false,
-        Heard::Refused => false,
+fn is_event(event: StepEvent) -> bool {
+    match event {
+        StepEvent::Packet { .. } => true,
+        StepEvent::BadChecksum { .. } => true,
+        StepEvent::Silent => false,
+        StepEvent::Refused => false,
     }
 }
 
 fn hear_event(
     table: &mut [u8; 136],
     registered: RegisteredWrite,
-    heard: Heard,
+    event: StepEvent,
     found: &[u8; 1031],
 ) -> RegisteredWrite {
-    match heard {
-        Heard::Packet { id, size } => hear_packet(table, registered, id, first(found, size)),
-        Heard::BadChecksum { id } => hear_bad_checksum(table, registered, id),
-        Heard::Silent => registered,
-        Heard::Refused => registered,
+    match event {
+        StepEvent::Packet { id, size } => hear_packet(table, registered, id, first(found, size)),
+        StepEvent::BadChecksum { id } => hear_bad_checksum(table, registered, id),
+        StepEvent::Silent => registered,
+        StepEvent::Refused => registered,
     }
 }
 
@@ -213,11 +215,11 @@ fn next(
     count: usize,
     rest: &[u8],
     found: &mut [u8; 1031],
-) -> Told {
+) -> Step {
     if over {
-        reader::gap_into(held, count, found)
+        framer::gap_in(held, count, found)
     } else {
-        reader::feed_into(held, count, rest, found)
+        framer::feed_in(held, count, rest, found)
     }
 }
 
@@ -236,12 +238,12 @@ fn hear_segment(
     let mut over = false;
     let mut left: u64 = 18446744073709551615;
     while 0 < left {
-        let told = next(over, &mut held, count, &segment[at..], &mut found);
-        count = told.held;
-        at += least(told.taken, segment.len() - at);
-        let heard = told.heard;
-        if is_event(heard) {
-            registered = hear_event(table, registered, heard, &found);
+        let step = next(over, &mut held, count, &segment[at..], &mut found);
+        count = step.held;
+        at += least(step.taken, segment.len() - at);
+        let event = step.event;
+        if is_event(event) {
+            registered = hear_event(table, registered, event, &found);
         } else if over {
             break;
         } else {
@@ -250,14 +252,6 @@ fn hear_segment(
         left -= 1;
     }
     registered
-}
-
-fn nothing_registered() -> RegisteredWrite {
-    RegisteredWrite {
-        address: 0,
-        count: 0,
-        bytes: [0u8; 8],
-    }
 }
 
 fn new_device(table: &mut [u8; 136], id: u8, low: u8, high: u8) {
@@ -286,7 +280,7 @@ fn record(
         if bytes.len() == 3 {
             new_device(table, bytes[0], bytes[1], bytes[2]);
         }
-        nothing_registered()
+        instructions::dropped()
     } else {
         hear_segment(bytes, table, registered)
     }
@@ -294,7 +288,7 @@ fn record(
 
 // Answers the count of bytes in the records that were read.
 fn records(input: &[u8], table: &mut [u8; 136]) -> usize {
-    let mut registered = nothing_registered();
+    let mut registered = instructions::dropped();
     let mut at = 0;
     while 2 <= input.len() - at {
         let n = size(input[at + 1]);

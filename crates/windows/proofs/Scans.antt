@@ -10,9 +10,10 @@ use Rattle.reading.specs.Rules.{Rules, Laws, isPacket, isBadChecksum, isWaiting
 use Rattle.reading.specs.Rules.{Verdict as Ruling}
 use Rattle.reading.specs.Reading.{Mode, open′, closed, packet, badChecksum}
 use Rattle.reading.specs.Calls.{firstAt, first}
-use Rattle.reading.proofs.Progress.{first-at, first-none, waiting-patient, packet-short, none-patient}
+use Rattle.reading.proofs.Progress.{first-at, first-none, waiting-patient, packet-short}
 use Rattle.packet.specs.Verdict.{answerFor}
 use Rattle.packet.specs.declared.Verdict.the-variants.{Packet, BadChecksum, Waiting, Nothing}
+use Rattle.reading.specs.Progress.{Patient}
 use Rattle.windows.specs.Scan.{modeOf, Decides, Waits}
 
 -- ---- the verdict behind the code's answer
@@ -77,27 +78,10 @@ module _ (R : Rules) (L : Laws R) (m : Mode) (s : List ℕ) (from at : ℕ) (beg
   pub scan-nothing : at < length s → R .verdict (drop at s) ≡ isNothing → first R m (drop from s) ≡ first R m (drop (at + 1) s)
   scan-nothing h e = here isNothing h e
 
-  -- at the end, where the rules say how many bytes a packet has at least
-  pub scan-blank : (k : ℕ) → length s ≤ at → at ≤ length s → R .verdict (drop at s) ≡ isWaiting → R .lacks (drop at s) ≡ k
-      → Waits R m s from at k
-  scan-blank k h l e i =
+  pub scan-end : length s ≤ at → at ≤ length s → Waits R m s from at
+  scan-end h k =
       let z : drop at s ≡ [] = drop-of-length-le s h in
-      record {
-        begins = begins;
-        fits = l;
-        first-is = inv ∙ rw z (first-none R m);
-        patient = rw (← i) (waiting-patient R L (drop at s) e);
-      }
-
-  pub scan-end : 0 < R .longest → length s ≤ at → at ≤ length s → Waits R m s from at 1
-  scan-end l h k =
-      let z : drop at s ≡ [] = drop-of-length-le s h in
-      record {
-        begins = begins;
-        fits = k;
-        first-is = inv ∙ rw z (first-none R m);
-        patient = rw z (none-patient R l);
-      }
+      record { begins = begins; fits = k; first-is = inv ∙ rw z (first-none R m) }
 
 -- an open segment stops at a waiting offset, a closed one passes it
 module _ (R : Rules) (L : Laws R) (s : List ℕ) (from at : ℕ) (begins : from ≤ at) (h : at < length s)
@@ -105,15 +89,13 @@ module _ (R : Rules) (L : Laws R) (s : List ℕ) (from at : ℕ) (begins : from 
   abbrev Inv : Bool → Type 0
   Inv live = first R (modeOf live) (drop from s) ≡ first R (modeOf live) (drop at s)
 
-  pub scan-waits : (live : Bool) (k : ℕ) → live ≡ true → R .lacks (drop at s) ≡ k → Inv live → Waits R (modeOf live) s from at k
-  scan-waits false k t l inv = let z : _≡_ {A = ℕ} 0 1 = cc in absurd (omega arith)
-  scan-waits true k t l inv =
-      record {
-        begins = begins;
-        fits = omega arith;
-        first-is = here R L open′ s from at begins inv isWaiting h e;
-        patient = rw (← l) (waiting-patient R L (drop at s) e);
-      }
+  pub scan-waits : (live : Bool) → live ≡ true → Inv live → Waits R (modeOf live) s from at
+  scan-waits false t inv = let z : _≡_ {A = ℕ} 0 1 = cc in absurd (omega arith)
+  scan-waits true t inv =
+      record { begins = begins; fits = omega arith; first-is = here R L open′ s from at begins inv isWaiting h e }
+
+  pub scan-wants : (k : ℕ) → R .lacks (drop at s) ≡ k → Patient R (drop at s) k
+  scan-wants k l = rw (← l) (waiting-patient R L (drop at s) e)
 
   pub scan-past : (live : Bool) → live ≡ false → Inv live
       → first R (modeOf live) (drop from s) ≡ first R (modeOf live) (drop (at + 1) s)

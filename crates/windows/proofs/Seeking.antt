@@ -14,7 +14,7 @@ use Rattle.reading.specs.Calls.{first}
 use Rattle.reading.specs.Progress.{Reached, Settles}
 use Rattle.reading.proofs.Progress.{reached-end}
 use Rattle.reading.proofs.Ahead.{Ahead, ahead-start, ahead-next, ahead-reached, ahead-verdict, ahead-first, ahead-whole, ahead-silent}
-use Rattle.windows.specs.declared.Sight.the-variants.{Packet, BadChecksum, Waiting}
+use Rattle.windows.specs.declared.Scanned.the-variants.{Packet, BadChecksum, Waiting}
 use Rattle.windows.specs.Scan.{Ends}
 use Rattle.windows.proofs.Scans.{scan-packet, scan-bad}
 use Rattle.windows.proofs.Windows.{ends-decided}
@@ -73,7 +73,7 @@ module _ (R : Rules) (L : Laws R) (settled : List ℕ → ℕ) (S : Settles R se
           let n : R .lacks [] ≤ settled (drop at chunk) = omega (arith, g .0, g .1) in (
             last-within,
             ends-decided R L [] chunk (take last chunk) last 0 (Packet at k)
-                (λ a b i. let z : _≡_ {A = ℕ} 0 1 = cc in omega arith)
+                (λ a i. let z : _≡_ {A = ℕ} 0 1 = cc in omega arith)
                 (scan-packet R L open′ (take last chunk) 0 at (omega arith) (first-here (isPacket k) e d o n) k
                 (some (isPacket k) e d o n) (verdict-here (isPacket k) e d o n))
                 (reached (isPacket k) e d o n),
@@ -86,16 +86,16 @@ module _ (R : Rules) (L : Laws R) (settled : List ℕ → ℕ) (S : Settles R se
           let n = S .of-bad (drop at chunk) id e in (
             last-within,
             ends-decided R L [] chunk (take last chunk) last 0 (BadChecksum at id)
-                (λ a b i. let z : _≡_ {A = ℕ} 0 1 = cc in omega arith)
+                (λ a i. let z : _≡_ {A = ℕ} 0 1 = cc in omega arith)
                 (scan-bad R L open′ (take last chunk) 0 at (omega arith) (first-here (isBadChecksum id) e d o n) id j
                 (some (isBadChecksum id) e d o n) (verdict-here (isBadChecksum id) e d o n))
                 (reached (isBadChecksum id) e d o n),
           )
 
     -- `at` waits, or is the end: all of the chunk is taken
-    pub sought-end : (R .verdict (drop at chunk) ≡ isWaiting) ⊎ (length chunk ≤ at) → (k : ℕ)
-        → (length chunk ≤ length chunk) × Ends R [] chunk (take (length chunk) chunk) (length chunk) (Waiting at k)
-    sought-end u k =
+    pub sought-end : (R .verdict (drop at chunk) ≡ isWaiting) ⊎ (length chunk ≤ at)
+        → (length chunk ≤ length chunk) × Ends R [] chunk (take (length chunk) chunk) (length chunk) (Waiting at)
+    sought-end u =
         let all : take (length chunk) chunk ≡ chunk = take-all (length chunk) chunk (omega arith) in (
           omega arith,
           record {

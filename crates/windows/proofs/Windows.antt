@@ -10,11 +10,11 @@ use Rattle.lists.proofs.Parts.{take-least}
 use Rattle.reading.specs.Rules.{Rules, Laws}
 use Rattle.reading.specs.Reading.{Event, packet, badChecksum, open′}
 use Rattle.reading.specs.Calls.{fed}
-use Rattle.reading.specs.Progress.{Reached}
+use Rattle.reading.specs.Progress.{Reached, Patient}
 use Rattle.reading.proofs.Progress.{silent-again, reached-start, reached-past, reached-event, reached-end}
 use Rattle.reading.proofs.Progress.{reached-take}
-use Rattle.windows.specs.declared.Sight.{Sight}
-use Rattle.windows.specs.declared.Sight.the-variants.{Packet, BadChecksum, Waiting}
+use Rattle.windows.specs.declared.Scanned.{Scanned}
+use Rattle.windows.specs.declared.Scanned.the-variants.{Packet, BadChecksum, Waiting}
 use Rattle.windows.specs.Scan.{Decides, Waits, Seen, Ends, Stops}
 
 pub not-none : (n : ℕ) → (n ≡ 0 → ⊥) → 0 < n
@@ -28,7 +28,7 @@ module _ (R : Rules) (L : Laws R) (h c : List ℕ) where
       → fed R h c ≡ record { taken = n; answer = some e; held = drop on s }
   ends-event s n from at on e r d = reached-event R h c (drop from s) (drop on s) n e r (d .first-is)
 
-  pub ends-decided : (s : List ℕ) (n from : ℕ) (v : Sight) → ((at k : ℕ) → v ≡ Waiting at k → ⊥) → Seen R open′ s from v
+  pub ends-decided : (s : List ℕ) (n from : ℕ) (v : Scanned) → ((at : ℕ) → v ≡ Waiting at → ⊥) → Seen R open′ s from v
       → Reached R h c (drop from s) n → Ends R h c s n v
   ends-decided s n from (Packet at k) w d r =
       record {
@@ -38,28 +38,26 @@ module _ (R : Rules) (L : Laws R) (h c : List ℕ) where
       }
   ends-decided s n from (BadChecksum at id) w d r =
       record { fits = d .fits; short = omega arith; fed-is = ends-event s n from at (at + 1) (badChecksum id) r d }
-  ends-decided s n from (Waiting at k) w d r = absurd (w at k refl)
+  ends-decided s n from (Waiting at) w d r = absurd (w at refl)
 
   -- a waiting window, and the offsets before it dropped
-  pub stops-seen : (s : List ℕ) (n from at k : ℕ) → Reached R h c (drop from s) n → Waits R open′ s from at k
-      → Stops R h c s n at k
-  stops-seen s n from at k r w =
+  pub stops-seen : (s : List ℕ) (n from at : ℕ) → Reached R h c (drop from s) n → Waits R open′ s from at
+      → Stops R h c s n at
+  stops-seen s n from at r w =
       record {
         fits = w .fits;
         reached = reached-past R L h c (drop from s) (drop at s) n r (w .first-is);
         waits = silent-again R L (drop from s) (drop at s) (w .first-is);
-        patient = w .patient;
       }
 
   -- the window takes bytes that it waits for
-  pub stops-take : (s s′ : List ℕ) (n at k m from : ℕ) → Stops R h c s n at k → m ≤ k → n + m ≤ length c
+  pub stops-take : (s s′ : List ℕ) (n at k m from : ℕ) → Stops R h c s n at → Patient R (drop at s) k → m ≤ k → n + m ≤ length c
       → drop from s′ ≡ drop at s ++ take m (drop n c) → Reached R h c (drop from s′) (n + m)
-  stops-take s s′ n at k m from w l fits e =
-      rw e (reached-take R h c (drop at s) n m k (w .reached) (w .patient) l fits)
+  stops-take s s′ n at k m from w p l fits e = rw e (reached-take R h c (drop at s) n m k (w .reached) p l fits)
 
   -- all of the chunk is taken
-  pub ends-stopped : (s : List ℕ) (n at k : ℕ) → Stops R h c s n at k → n ≡ length c → Ends R h c s n (Waiting at k)
-  ends-stopped s n at k w e =
+  pub ends-stopped : (s : List ℕ) (n at : ℕ) → Stops R h c s n at → n ≡ length c → Ends R h c s n (Waiting at)
+  ends-stopped s n at w e =
       record {
         fits = w .fits;
         short = omega arith;
@@ -116,22 +114,22 @@ module _ (R : Rules) (L : Laws R) (chunk : List ℕ) (most : ℕ) where
     filling-ordered = let i = w .ordered in omega (arith, whole)
 
     -- they decide an event
-    pub filling-decided : (v : Sight) → ((at k : ℕ) → v ≡ Waiting at k → ⊥) → Seen R open′ (take end held) at v
+    pub filling-decided : (v : Scanned) → ((at : ℕ) → v ≡ Waiting at → ⊥) → Seen R open′ (take end held) at v
         → Ends R h chunk (take end held) taken v
     filling-decided v n d = ends-decided R L h chunk (take end held) taken at v n d (w .reached)
 
     -- they wait, and the window begins at `start`
-    module _ (start k : ℕ) (v : Waits R open′ (take end held) at start k) where
+    module _ (start : ℕ) (v : Waits R open′ (take end held) at start) where
       pub window-fits : start ≤ end
       window-fits = let i = v .fits in omega (arith, whole)
 
-      window : Stops R h chunk (take end held) taken start k
-      window = stops-seen R L h chunk (take end held) taken at start k (w .reached) v
+      window : Stops R h chunk (take end held) taken start
+      window = stops-seen R L h chunk (take end held) taken at start (w .reached) v
 
-      pub window-end : length chunk - taken ≡ 0 → Ends R h chunk (take end held) taken (Waiting start k)
+      pub window-end : length chunk - taken ≡ 0 → Ends R h chunk (take end held) taken (Waiting start)
       window-end l =
           let i = w .taken-within in
-          ends-stopped R L h chunk (take end held) taken start k window (omega arith)
+          ends-stopped R L h chunk (take end held) taken start window (omega arith)
 
       pub window-passed : end - start ≡ 0 → Reached R h chunk [] taken
       window-passed l =
@@ -140,13 +138,17 @@ module _ (R : Rules) (L : Laws R) (chunk : List ℕ) (most : ℕ) where
           rw z at (window .reached)
 
       pub window-full : length held - (end - start) ≡ 0 → 0 < length chunk - taken
-          → (taken < length chunk) × ((j : ℕ) × Stops R h chunk held taken 0 j)
+          → (taken < length chunk) × Stops R h chunk held taken 0
       window-full l t =
           let i = w .within in
           let s = w .size in
           let z : start ≡ 0 = omega (arith, window-fits) in
           let all : take end held ≡ held = take-all end held (omega arith) in
-          (omega arith, (k, rw (z, all) at window))
+          (omega arith, rw (z, all) at window)
+
+      -- some wait
+      pub window-waits : (end - start ≡ 0 → ⊥) → start < length (take end held)
+      window-waits z = omega (arith, whole, not-none (end - start) z)
 
       -- there is room for m bytes more
       pub window-room : (m : ℕ) → m ≤ length held - (end - start)
@@ -158,12 +160,12 @@ module _ (R : Rules) (L : Laws R) (chunk : List ℕ) (most : ℕ) where
           (window-fits, omega arith, simp length-take (omega arith))
 
       -- and it has taken them
-      pub window-more : (held′ : List ℕ) (m r : ℕ) → m ≤ k → taken + m ≤ length chunk → r + (end - start) + m ≤ most
+      pub window-more : (held′ : List ℕ) (k m r : ℕ) → Patient R (drop start (take end held)) k → m ≤ k → taken + m ≤ length chunk → r + (end - start) + m ≤ most
           → length held′ ≡ length held
           → drop r (take (r + (end - start) + length (take (taken + m - taken) (drop taken chunk))) held′)
           ≡ drop start (take end held) ++ take (taken + m - taken) (drop taken chunk)
           → Filling R h chunk most held′ (taken + m) r (r + (end - start) + m)
-      window-more held′ m r l t fits same is =
+      window-more held′ k m r p l t fits same is =
           let n = w .size in
           let i : taken + m - taken ≡ m = omega arith in
           record {
@@ -172,7 +174,7 @@ module _ (R : Rules) (L : Laws R) (chunk : List ℕ) (most : ℕ) where
             within = fits;
             size = omega arith;
             reached =
-                stops-take R L h chunk (take end held) (take (r + (end - start) + m) held′) taken start k m r window l t
+                stops-take R L h chunk (take end held) (take (r + (end - start) + m) held′) taken start k m r window p l t
                 (ap (λ (n : ℕ). drop r (take (r + (end - start) + n) held′)) (sym (part-length taken m t)) ∙ is
                 ∙ ap (λ (n : ℕ). drop start (take end held) ++ take n (drop taken chunk)) i);
           }

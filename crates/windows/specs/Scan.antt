@@ -11,8 +11,8 @@ use Rattle.reading.specs.Calls.{event, silent, first, Reply, fed}
 use Rattle.reading.specs.Progress.{Reached, Patient}
 use Rattle.windows.specs.declared.Stop.{Stop}
 use Rattle.windows.specs.declared.Stop.the-variants.{Done, Passed, Full}
-use Rattle.windows.specs.declared.Sight.{Sight}
-use Rattle.windows.specs.declared.Sight.the-variants.{Packet, BadChecksum, Waiting}
+use Rattle.windows.specs.declared.Scanned.{Scanned}
+use Rattle.windows.specs.declared.Scanned.the-variants.{Packet, BadChecksum, Waiting}
 
 abbrev pub modeOf : Bool → Mode
 modeOf true = open′
@@ -26,55 +26,64 @@ pub record Decides (R : Rules) (m : Mode) (s : List ℕ) (from at on : ℕ) (e :
   pub short : on ≤ at + R .longest
   pub first-is : first R m (drop from s) ≡ event e (drop on s)
 
--- they have none, what is left of them begins at offset `at`, and k bytes more are wanted
-pub record Waits (R : Rules) (m : Mode) (s : List ℕ) (from at k : ℕ) : Type 0 where
+-- they have none, and what is left of them begins at offset `at`
+pub record Waits (R : Rules) (m : Mode) (s : List ℕ) (from at : ℕ) : Type 0 where
   pub begins : from ≤ at
   pub fits : at ≤ length s
   pub first-is : first R m (drop from s) ≡ silent (drop at s)
-  pub patient : Patient R (drop at s) k
 
-abbrev pub Seen : Rules → Mode → List ℕ → ℕ → Sight → Type 0
+abbrev pub Seen : Rules → Mode → List ℕ → ℕ → Scanned → Type 0
 Seen R m s from (Packet at n) = Decides R m s from at (at + n) (packet (take n (drop at s)))
 Seen R m s from (BadChecksum at id) = Decides R m s from at (at + 1) (badChecksum id)
-Seen R m s from (Waiting at k) = Waits R m s from at k
+Seen R m s from (Waiting at) = Waits R m s from at
+
+-- how many bytes more are wanted, where some wait
+abbrev pub Wants : Rules → List ℕ → Scanned → ℕ → Type 0
+Wants R s (Packet at n) k = k ≡ 0
+Wants R s (BadChecksum at id) k = k ≡ 0
+Wants R s (Waiting at) k = at < length s → Patient R (drop at s) k
 
 -- where reading goes on
-abbrev pub onFrom : Sight → ℕ
+abbrev pub onFrom : Scanned → ℕ
 onFrom (Packet at n) = at + n
 onFrom (BadChecksum at id) = at + 1
-onFrom (Waiting at k) = at
+onFrom (Waiting at) = at
 
 -- the byte count of the packet, if it is one
-abbrev pub sizeOf : Sight → ℕ
+abbrev pub sizeOf : Scanned → ℕ
 sizeOf (Packet at n) = n
 sizeOf (BadChecksum at id) = 0
-sizeOf (Waiting at k) = 0
+sizeOf (Waiting at) = 0
 
-abbrev pub answerOf : List ℕ → Sight → Option Event
+abbrev pub answerOf : List ℕ → Scanned → Option Event
 answerOf s (Packet at n) = some (packet (take n (drop at s)))
 answerOf s (BadChecksum at id) = some (badChecksum id)
-answerOf s (Waiting at k) = none
+answerOf s (Waiting at) = none
 
 -- the reply that ends with what was seen of the bytes s, n bytes taken
-abbrev pub replyOf : List ℕ → ℕ → Sight → Reply
+abbrev pub replyOf : List ℕ → ℕ → Scanned → Reply
 replyOf s n v = record { taken = n; answer = answerOf s v; held = drop (onFrom v) s }
 
 -- a feeding call with the chunk c on a reader that holds h ends so
-pub record Ends (R : Rules) (h c s : List ℕ) (n : ℕ) (v : Sight) : Type 0 where
+pub record Ends (R : Rules) (h c s : List ℕ) (n : ℕ) (v : Scanned) : Type 0 where
   pub fits : onFrom v ≤ length s
   pub short : sizeOf v ≤ R .longest
   pub fed-is : fed R h c ≡ replyOf s n v
 
 -- where the held bytes wait: the window begins at offset `at` of the bytes s
-pub record Stops (R : Rules) (h c s : List ℕ) (n at k : ℕ) : Type 0 where
+pub record Stops (R : Rules) (h c s : List ℕ) (n at : ℕ) : Type 0 where
   pub fits : at ≤ length s
   pub reached : Reached R h c (drop at s) n
   pub waits : first R open′ (drop at s) ≡ silent (drop at s)
-  pub patient : Patient R (drop at s) k
 
--- What a feeding call with the chunk has come to on a reader that holds h, n bytes of the chunk taken and the buffer then being
--- `held`: it is done; or the held bytes have all been passed; or they fill the buffer, and the next byte of the chunk decides.
-abbrev pub Filled : Rules → List ℕ → List ℕ → List ℕ → Stop → Type 0
-Filled R h chunk held (Done v end n) = (n ≤ length chunk) × (end ≤ length held) × Ends R h chunk (take end held) n v
-Filled R h chunk held (Passed n) = (n ≤ length chunk) × Reached R h chunk [] n
-Filled R h chunk held (Full n) = (n < length chunk) × ((k : ℕ) × Stops R h chunk held n 0 k)
+-- What a feeding call with the chunk has come to on a reader that holds h, n bytes of the chunk taken. The buffer was `old` and is
+-- `held` then, as long as before.
+abbrev pub Filled : Rules → List ℕ → List ℕ → List ℕ → List ℕ → Stop → Type 0
+-- It is done, with what was seen of the buffer up to `end`. Free are the bytes from `end` on, and those before where reading goes
+-- on, but for a packet's.
+Filled R h chunk old held (Done v end n) =
+    (length held ≡ length old) × (n ≤ length chunk) × (end ≤ length held) × Ends R h chunk (take end held) n v
+-- The held bytes have all been passed. All bytes of the buffer are free.
+Filled R h chunk old held (Passed n) = (length held ≡ length old) × (n ≤ length chunk) × Reached R h chunk [] n
+-- They fill the buffer, of which no byte is free, and the next byte of the chunk decides.
+Filled R h chunk old held (Full n) = (length held ≡ length old) × (n < length chunk) × Stops R h chunk held n 0

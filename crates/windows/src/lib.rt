@@ -7,18 +7,24 @@ ghost use Prim.Native.Nat.{_+_, _-_, _≤_, min};
 ghost use lib.ListN.{length, take, drop};
 ghost use Rattle.reading.specs.Reading.{closed};
 ghost use Rattle.packet.specs.Verdict.{protocol2};
-ghost use Rattle.windows.specs.Scan.{modeOf, Seen, Ends, Filled};
+ghost use Rattle.windows.specs.Scan.{modeOf, Seen, Wants, Ends, Filled};
 
 // What stands at the first offset that is not nothing. Waiting stands also at the end, where all has been passed.
-pub enum Sight {
+pub enum Scanned {
     Packet { at: usize, count: usize },
     BadChecksum { at: usize, id: u8 },
-    Waiting { at: usize, lacks: usize },
+    Waiting { at: usize },
+}
+
+// The same, and how many bytes are wanted where some wait.
+struct Live {
+    seen: Scanned,
+    lacks: usize,
 }
 
 // What was seen of a segment up to its end.
 pub struct Window {
-    pub seen: Sight,
+    pub seen: Scanned,
     pub end: usize,
 }
 
@@ -26,7 +32,7 @@ pub struct Window {
 // passed; or they wait and fill their buffer.
 pub enum Stop {
     Done {
-        seen: Sight,
+        seen: Scanned,
         end: usize,
         taken: usize,
     },
@@ -50,41 +56,54 @@ fn greatest(a: usize, b: usize) -> usize
     if a < b { b } else { a }
 }
 
-// The bytes of s from `from` on, offset by offset; a waiting offset is passed once the segment is closed. At the end the rules
-// say how many bytes a packet has at least, so that as many can be taken.
-fn scan(s: &[u8], from: usize, live: bool) -> Sight
+// The bytes of s from `from` on, offset by offset; a waiting offset is passed once the segment is closed.
+fn scan(s: &[u8], from: usize, live: bool) -> Live
     requires { ⌜ from ≤ length (now s) ⌝ }
-    ensures { λ r. ⌜ Seen protocol2 (modeOf live) (now (s .entry)) from r ⌝ }
+    ensures { λ r. ⌜ Seen protocol2 (modeOf live) (now (s .entry)) from (r .seen) × Wants protocol2 (now (s .entry)) (r .seen) (r .lacks) ⌝ }
 {
     let mut at = from;
     while at < s.len() {
         match packet::judge(s, at) {
-            Verdict::Packet(count) => return Sight::Packet { at, count },
-            Verdict::BadChecksum(id) => return Sight::BadChecksum { at, id },
+            Verdict::Packet(count) => {
+                return Live {
+                    seen: Scanned::Packet { at, count },
+                    lacks: 0,
+                };
+            }
+            Verdict::BadChecksum(id) => {
+                return Live {
+                    seen: Scanned::BadChecksum { at, id },
+                    lacks: 0,
+                };
+            }
             Verdict::Waiting(lacks) => {
                 if live {
-                    return Sight::Waiting { at, lacks };
+                    return Live {
+                        seen: Scanned::Waiting { at },
+                        lacks,
+                    };
                 }
             }
             Verdict::Nothing => {}
         }
         at += 1;
     }
-    if let Verdict::Waiting(lacks) = packet::judge(s, at) {
-        return Sight::Waiting { at, lacks };
+    Live {
+        seen: Scanned::Waiting { at },
+        lacks: 0,
     }
-    Sight::Waiting { at, lacks: 1 }
 }
 
-// The first event of a closed segment, or that it has none.
-pub fn scan_closed(s: &[u8]) -> Sight
+// The first event of a closed segment, or that it has none. [K4]
+pub fn scan_closed(s: &[u8]) -> Scanned
     ensures { λ r. ⌜ Seen protocol2 closed (now (s .entry)) 0 r ⌝ }
 {
-    scan(s, 0, false)
+    let all = scan(s, 0, false);
+    all.seen
 }
 
 // The chunk, where no bytes are held. Each offset is judged once, by all the bytes that follow; what is taken are those that
-// settle the offsets up to the event.
+// settle the offsets up to the event. [K4]
 pub fn advance(chunk: &[u8]) -> Window
     ensures { λ r. ⌜ (r .end ≤ length (now (chunk .entry)))
         × Ends protocol2 [] (now (chunk .entry)) (take (r .end) (now (chunk .entry))) (r .end) (r .seen) ⌝ }
@@ -96,20 +115,20 @@ pub fn advance(chunk: &[u8]) -> Window
             Verdict::Packet(count) => {
                 let last = greatest(end, at + count);
                 return Window {
-                    seen: Sight::Packet { at, count },
+                    seen: Scanned::Packet { at, count },
                     end: last,
                 };
             }
             Verdict::BadChecksum(id) => {
                 let last = greatest(end, at + packet_front::settled(chunk, at));
                 return Window {
-                    seen: Sight::BadChecksum { at, id },
+                    seen: Scanned::BadChecksum { at, id },
                     end: last,
                 };
             }
-            Verdict::Waiting(lacks) => {
+            Verdict::Waiting(_) => {
                 return Window {
-                    seen: Sight::Waiting { at, lacks },
+                    seen: Scanned::Waiting { at },
                     end: chunk.len(),
                 };
             }
@@ -119,7 +138,7 @@ pub fn advance(chunk: &[u8]) -> Window
         at += 1;
     }
     Window {
-        seen: Sight::Waiting { at, lacks: 1 },
+        seen: Scanned::Waiting { at },
         end: chunk.len(),
     }
 }
@@ -141,9 +160,9 @@ fn append(held: &mut [u8], at: usize, end: usize, bytes: &[u8]) -> usize
     0
 }
 
-// The held bytes, and where they wait as many of the chunk's as they wait for, as far as there is room.
+// The held bytes, and where they wait as many of the chunk's as they wait for, as far as there is room. [K2 K4]
 pub fn fill(held: &mut [u8], count: usize, chunk: &[u8]) -> Stop
-    ensures { λ r. ⌜ Filled protocol2 (take count (now (held .entry))) (now (chunk .entry)) (now (held .exit)) r ⌝ }
+    ensures { λ r. ⌜ Filled protocol2 (take count (now (held .entry))) (now (chunk .entry)) (now (held .entry)) (now (held .exit)) r ⌝ }
 {
     let mut end = least(count, held.len());
     if end == 0 {
@@ -152,8 +171,9 @@ pub fn fill(held: &mut [u8], count: usize, chunk: &[u8]) -> Stop
     let mut at = 0;
     let mut taken = 0;
     loop {
-        let seen = scan(&held[..end], at, true);
-        let Sight::Waiting { at: start, lacks } = seen else {
+        let live = scan(&held[..end], at, true);
+        let seen = live.seen;
+        let Scanned::Waiting { at: start } = seen else {
             return Stop::Done { seen, end, taken };
         };
         let left = chunk.len() - taken;
@@ -168,7 +188,7 @@ pub fn fill(held: &mut [u8], count: usize, chunk: &[u8]) -> Stop
         if room == 0 {
             return Stop::Full { taken };
         }
-        let more = least(least(lacks, room), left);
+        let more = least(least(live.lacks, room), left);
         at = append(held, start, end, &chunk[taken..taken + more]);
         end = at + waiting + more;
         taken += more;

@@ -1,4 +1,4 @@
-use exports::{Answer, Registered, Step};
+use exports::{Answer, Reader, Registered, Step};
 
 /// Table, registered write, kind, ID, body and reply buffer.
 pub type DeviceCall = fn(&mut [u8], Registered, u8, u8, &[u8], &mut [u8]) -> Answer;
@@ -14,6 +14,8 @@ pub struct Calls {
     pub unstuff: fn(&[u8], &mut [u8]) -> i64,
     pub feed: fn(&mut [u8; 1030], &mut usize, &[u8], &mut [u8; 1031]) -> Step,
     pub gap: fn(&mut [u8; 1030], &mut usize, &mut [u8; 1031]) -> Step,
+    pub reader_feed: fn(&mut Reader, &[u8], &mut [u8; 1031]) -> Step,
+    pub reader_gap: fn(&mut Reader, &mut [u8; 1031]) -> Step,
     pub fresh: fn(&mut [u8]) -> i64,
     pub measure: fn(&mut [u8], i32, u8) -> i64,
     pub device: DeviceCall,
@@ -26,6 +28,8 @@ pub const PROVED: Calls = Calls {
     unstuff: exports::unstuff,
     feed: exports::feed,
     gap: exports::gap,
+    reader_feed: exports::reader_feed,
+    reader_gap: exports::reader_gap,
     fresh: exports::fresh,
     measure: exports::measure,
     device: exports::device,

@@ -1,5 +1,5 @@
 use crate::{hex, must_agree, Calls, Comparison, Difference, Guarded, PROVED};
-use exports::Step;
+use exports::{Reader, Step};
 use reference::{feed_record, gap_record, Event, Rng, LONGEST_PACKET, MOST_HELD};
 use std::hint::black_box;
 
@@ -12,10 +12,23 @@ struct Borrowed {
     packet: Guarded,
 }
 
-/// One reader's life, lived twice: every call goes to the proved code and to the reference, and all that is answered and left
-/// must be the same.
+/// The record as C has it in one struct, with bytes before and after it.
+#[repr(C)]
+#[derive(Clone)]
+struct Framed {
+    before: [u8; MARGIN],
+    reader: Reader,
+    after: [u8; MARGIN],
+}
+
+const MARGIN: usize = 16;
+
+/// One reader's life, lived three times: every call goes to the proved code, once on the record's parts and once on the record,
+/// and to the reference, and all that is answered and left must be the same.
 pub struct ReaderPair {
     ours: Borrowed,
+    record: Box<Framed>,
+    record_packet: Guarded,
     expected: Borrowed,
     /// What the packet buffer is filled with before each call; never 0, so that a byte not written shows.
     filler: u8,
@@ -35,8 +48,11 @@ impl ReaderPair {
     pub fn of(exports: Calls, rng: &mut Rng, held: [u8; MOST_HELD], count: usize) -> ReaderPair {
         let around = [rng.word() as usize, count, rng.word() as usize];
         let packet = Guarded::new(rng, &[0; LONGEST_PACKET]);
+        let record_packet = packet.clone();
+        let margin = [rng.byte(); MARGIN];
+        let record = Box::new(Framed { before: margin, reader: Reader { bytes: held, count }, after: margin });
         let ours = Borrowed { held: Guarded::new(rng, &held), count: around, packet };
-        ReaderPair { expected: ours.clone(), ours, filler: 1, exports, calls: 0 }
+        ReaderPair { expected: ours.clone(), ours, record, record_packet, filler: 1, exports, calls: 0 }
     }
 
     /// A fresh reader: it holds nothing, and its record may have any bytes.
@@ -47,9 +63,9 @@ impl ReaderPair {
 
     /// Writes a byte to all of the record that lies past its count: no call may care.
     pub fn scribble(&mut self, byte: u8) {
-        for reader in [&mut self.ours, &mut self.expected] {
-            let count = reader.count[1].min(MOST_HELD);
-            reader.held.bytes_mut()[count..].fill(byte);
+        let count = self.ours.count[1].min(MOST_HELD);
+        for held in [self.ours.held.bytes_mut(), self.expected.held.bytes_mut(), &mut self.record.reader.bytes] {
+            held[count..].fill(byte);
         }
     }
 
@@ -78,9 +94,10 @@ impl ReaderPair {
         self.filler = self.filler % 255 + 1;
         let before = self.held().to_vec();
         let count_before = self.ours.count[1];
-        for reader in [&mut self.ours, &mut self.expected] {
-            reader.packet.bytes_mut().fill(self.filler);
+        for packet in [&mut self.ours.packet, &mut self.record_packet, &mut self.expected.packet] {
+            packet.bytes_mut().fill(self.filler);
         }
+        let around = self.record.before;
         let mut lent = chunk.map(<[u8]>::to_vec);
 
         let Borrowed { held, count, packet } = &mut self.ours;
@@ -88,6 +105,11 @@ impl ReaderPair {
         let step = match &lent {
             Some(chunk) => (self.exports.feed)(held, count, chunk, packet),
             None => (self.exports.gap)(held, count, packet),
+        };
+        let (record, packet) = (&mut self.record.reader, self.record_packet.array_mut());
+        let record_step = match &lent {
+            Some(chunk) => (self.exports.reader_feed)(record, chunk, packet),
+            None => (self.exports.reader_gap)(record, packet),
         };
         let Borrowed { held, count, packet } = &mut self.expected;
         let (held, count, packet) = (held.array_mut(), &mut count[1], packet.array_mut());
@@ -103,9 +125,22 @@ impl ReaderPair {
         comparison.same("the count of held bytes, with the words around it", self.ours.count, self.expected.count)?;
         comparison.same_guarded("the held bytes", &self.ours.held, &self.expected.held)?;
         comparison.same_guarded("the packet buffer", &self.ours.packet, &self.expected.packet)?;
+        let on_record = Comparison { export: if chunk.is_some() { "dxl_reader_feed" } else { "dxl_reader_gap" }, given: &given };
+        on_record.same("the answer", record_step, wanted)?;
+        self.same_record(&on_record, around)?;
         let lent = black_box(&mut lent).as_deref().unwrap_or_default();
         comparison.same_bytes("the chunk", lent, chunk.unwrap_or_default())?;
         Ok((step, self.event(step)))
+    }
+
+    /// The record that a call on it left, beside the reference's.
+    fn same_record(&self, comparison: &Comparison, around: [u8; MARGIN]) -> Result<(), Difference> {
+        let Framed { before, reader, after } = &*self.record;
+        comparison.same("the count of held bytes", reader.count, self.expected.count[1])?;
+        comparison.same_bytes("the held bytes", &reader.bytes, self.expected.held.bytes())?;
+        comparison.same_bytes("the bytes before the record", before, &around)?;
+        comparison.same_bytes("the bytes after the record", after, &around)?;
+        comparison.same_guarded("the packet buffer", &self.record_packet, &self.expected.packet)
     }
 
     /// The event as our call gave it.

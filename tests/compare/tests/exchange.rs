@@ -42,6 +42,7 @@ fn received(rng: &mut Rng, table: &[u8]) -> Vec<u8> {
     bytes
 }
 
+/// [D38-D40]
 #[test]
 fn packets_of_every_kind() {
     let mut rng = Rng::new(70);
@@ -79,6 +80,7 @@ fn packets_of_every_kind() {
 }
 
 /// Each refusal applies or not, in every combination: the first in the order 14, 13, 21 to 24 is given, and nothing changes.
+/// [D39 N10 N12]
 #[test]
 fn order_of_refusals() {
     let mut rng = Rng::new(71);
@@ -105,7 +107,7 @@ fn order_of_refusals() {
     }
 }
 
-/// The body buffer has room for just the body, or one byte less; its other bytes stay.
+/// The body buffer has room for just the body, or one byte less; its other bytes stay. [D39]
 #[test]
 fn room_for_the_body() {
     let mut rng = Rng::new(72);
@@ -120,7 +122,7 @@ fn room_for_the_body() {
     }
 }
 
-/// Fewer bytes than a packet has: without an ID nobody hears them, with one the body is empty, which is an undefined instruction.
+/// Fewer bytes than a packet has, with the device's ID in their place: silence. [D38]
 #[test]
 fn short_packets() {
     let mut rng = Rng::new(73);
@@ -135,8 +137,40 @@ fn short_packets() {
                 }
                 let mut device = DevicePair::new(&mut rng, &bytes, Registered::default(), REPLY_BYTES);
                 let told = device.hear_packet(&mut rng, &packet, 0);
-                assert_eq!(told.error, (length > 4).then_some(2), "{length} bytes of {filler} to {own}");
+                assert_eq!(told.count, 0, "{length} bytes of {filler} to {own}");
             }
         }
     }
+}
+
+/// A packet that the device carries out, and the same with any one byte changed or left out, or one more behind it: silence or a
+/// refusal of its body, and a table as it was. [D38]
+#[test]
+fn only_a_well_formed_packet_is_heard() {
+    let mut rng = Rng::new(74);
+    let mut silent = 0;
+    for body in [&[3, 116, 0, 0, 2, 0, 0][..], &[4, 65, 0, 1], &[3, 104, 0, 0xFF, 0xFF, 0xFF, 0xFF], &[8], &[6, 1], &[1]] {
+        let packet = packet_of(1, body);
+        let mut device = DevicePair::new(&mut rng, &fresh(), Registered::default(), REPLY_BYTES);
+        assert!(device.hear_packet(&mut rng, &packet, LONGEST_BODY).count > 0);
+        let mut changed: Vec<Vec<u8>> = Vec::new();
+        for place in 0..packet.len() {
+            for bit in 0..8 {
+                let mut bytes = packet.clone();
+                bytes[place] ^= 1 << bit;
+                changed.push(bytes);
+            }
+            changed.push([&packet[..place], &packet[place + 1..]].concat());
+        }
+        changed.extend((0..=255).map(|byte| [&packet[..], &[byte]].concat()));
+        changed.push([&packet[..], &packet[..]].concat());
+        for bytes in changed {
+            let mut device = DevicePair::new(&mut rng, &fresh(), Registered::default(), REPLY_BYTES);
+            let told = device.hear_packet(&mut rng, &bytes, LONGEST_BODY);
+            assert!(told.count == 0 || told.count == -14, "{bytes:02x?}");
+            assert!(device.table() == fresh() && device.registered == Registered::default(), "{bytes:02x?}");
+            silent += usize::from(told.count == 0);
+        }
+    }
+    assert!(silent > 1_500, "{silent}");
 }

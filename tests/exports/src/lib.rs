@@ -29,9 +29,17 @@ pub struct Answer {
     pub registered: Registered,
 }
 
+/// A reader's record: the held bytes stand at the start.
+#[repr(C)]
+#[derive(Clone, PartialEq, Eq, Debug)]
+pub struct Reader {
+    pub bytes: [u8; 1030],
+    pub count: usize,
+}
+
 mod raw {
-    use super::test::{CoreStep, ValueStep};
-    use super::{Answer, Registered, Step};
+    use super::test::Fed;
+    use super::{Answer, Reader, Registered, Step};
 
     #[repr(C)]
     pub struct Verdict {
@@ -55,6 +63,8 @@ mod raw {
 
         pub fn dxl_feed(held: *mut u8, count: *mut usize, chunk: *const u8, n: usize, packet: *mut u8) -> Step;
         pub fn dxl_gap(held: *mut u8, count: *mut usize, packet: *mut u8) -> Step;
+        pub fn dxl_reader_feed(reader: *mut Reader, chunk: *const u8, n: usize, packet: *mut u8) -> Step;
+        pub fn dxl_reader_gap(reader: *mut Reader, packet: *mut u8) -> Step;
 
         pub fn dxl_fresh(table: *mut u8, n: usize) -> i64;
         pub fn dxl_measure(table: *mut u8, n: usize, position: i32, hardware_error: u8) -> i64;
@@ -84,8 +94,7 @@ mod raw {
         pub fn dxl_test_well_stuffed(body: *const u8, n: usize) -> u8;
         pub fn dxl_test_stuff(first: u8, rest: *const u8, n_rest: usize, out: *mut u8, n_out: usize) -> usize;
         pub fn dxl_test_verdict(segment: *const u8, n: usize, offset: usize) -> Verdict;
-        pub fn dxl_test_core_feed(held: *mut u8, count: usize, chunk: *const u8, n: usize, packet: *mut u8) -> CoreStep;
-        pub fn dxl_test_feed_value(held: *mut u8, count: usize, chunk: *const u8, n: usize) -> ValueStep;
+        pub fn dxl_test_feed_value(held: *const u8, count: usize, chunk: *const u8, n: usize) -> Fed;
     }
 }
 
@@ -110,6 +119,14 @@ pub fn feed(held: &mut [u8; 1030], count: &mut usize, chunk: &[u8], packet: &mut
 
 pub fn gap(held: &mut [u8; 1030], count: &mut usize, packet: &mut [u8; 1031]) -> Step {
     unsafe { raw::dxl_gap(held.as_mut_ptr(), count, packet.as_mut_ptr()) }
+}
+
+pub fn reader_feed(reader: &mut Reader, chunk: &[u8], packet: &mut [u8; 1031]) -> Step {
+    unsafe { raw::dxl_reader_feed(reader, chunk.as_ptr(), chunk.len(), packet.as_mut_ptr()) }
+}
+
+pub fn reader_gap(reader: &mut Reader, packet: &mut [u8; 1031]) -> Step {
+    unsafe { raw::dxl_reader_gap(reader, packet.as_mut_ptr()) }
 }
 
 pub fn fresh(table: &mut [u8]) -> i64 {
@@ -154,29 +171,15 @@ pub fn exchange(table: &mut [u8], registered: Registered, packet: &[u8], body: &
 
 /// Exports for tests alone.
 pub mod test {
-    use super::raw;
+    use super::{raw, Reader, Step};
 
-    /// What the core of a feeding call gives: as `Step`, but that a packet's ID is 0; and how many bytes are held then.
-    #[repr(C)]
-    #[derive(Clone, Copy, PartialEq, Eq, Debug)]
-    pub struct CoreStep {
-        pub taken: usize,
-        pub held: usize,
-        pub count: usize,
-        pub kind: u8,
-        pub id: u8,
-    }
-
-    /// What a feeding call by value answers.
+    /// What a feeding call by value gives.
     #[repr(C)]
     #[derive(Clone, PartialEq, Eq, Debug)]
-    pub struct ValueStep {
-        pub taken: usize,
-        pub held: usize,
-        pub count: usize,
-        pub kind: u8,
-        pub id: u8,
-        pub bytes: [u8; 1031],
+    pub struct Fed {
+        pub step: Step,
+        pub packet: [u8; 1031],
+        pub reader: Reader,
     }
 
     /// 1 or 0.
@@ -194,12 +197,9 @@ pub mod test {
         let verdict = unsafe { raw::dxl_test_verdict(segment.as_ptr(), segment.len(), offset) };
         (verdict.kind, verdict.id, verdict.count)
     }
-    /// The packet buffer past the packet gets any bytes.
-    pub fn core_feed(held: &mut [u8; 1030], count: usize, chunk: &[u8], packet: &mut [u8; 1031]) -> CoreStep {
-        unsafe { raw::dxl_test_core_feed(held.as_mut_ptr(), count, chunk.as_ptr(), chunk.len(), packet.as_mut_ptr()) }
-    }
 
-    pub fn feed_value(held: &mut [u8; 1030], count: usize, chunk: &[u8]) -> ValueStep {
-        unsafe { raw::dxl_test_feed_value(held.as_mut_ptr(), count, chunk.as_ptr(), chunk.len()) }
+    /// The feeding call on a record that is made of the held bytes and their count.
+    pub fn feed_value(held: &[u8; 1030], count: usize, chunk: &[u8]) -> Fed {
+        unsafe { raw::dxl_test_feed_value(held.as_ptr(), count, chunk.as_ptr(), chunk.len()) }
     }
 }

@@ -142,12 +142,14 @@ impl<'a> World<'a> {
         let (step, event) = self.reader.try_feed(chunk)?;
         self.rest = chunk[step.taken..].to_vec();
         self.tally.call("dxl_feed", i64::from(step.kind));
+        self.tally.call("dxl_reader_feed", i64::from(step.kind));
         Ok((step, event))
     }
 
     fn gap(&mut self) -> Result<Stepped, Difference> {
         let (step, event) = self.reader.try_gap()?;
         self.tally.call("dxl_gap", i64::from(step.kind));
+        self.tally.call("dxl_reader_gap", i64::from(step.kind));
         Ok((step, event))
     }
 

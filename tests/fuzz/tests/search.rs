@@ -34,12 +34,14 @@ fn other_seeds_other_cases() {
 }
 
 /// What has to come up in a short search, and how each export answers then.
-const ANSWERS: [(&str, &[i64]); 10] = [
+const ANSWERS: [(&str, &[i64]); 12] = [
     ("dxl_crc16", &[0]),
     ("dxl_encode", &[0, -11, -12, -13]),
     ("dxl_unstuff", &[0, -13, -14]),
     ("dxl_feed", &[0, 1, 2, 25]),
     ("dxl_gap", &[0, 1, 2, 25]),
+    ("dxl_reader_feed", &[0, 1, 2, 25]),
+    ("dxl_reader_gap", &[0, 1, 2, 25]),
     ("dxl_fresh", &[0, -21]),
     ("dxl_measure", &[0, -21]),
     ("dxl_device", &[0, -21, -22, -23, -24]),
@@ -47,6 +49,7 @@ const ANSWERS: [(&str, &[i64]); 10] = [
     ("error", &[0, 2, 3, 4, 5, 6, 7]),
 ];
 
+/// [D41]
 #[test]
 fn no_difference_in_a_short_search() {
     let (summary, report) = search_cases(&PROVED, 1, 10_000);

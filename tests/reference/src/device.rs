@@ -1,7 +1,7 @@
 //! The device: what it does on hearing something, and the status that it answers.
 
 use crate::table::{self, Table};
-use crate::{packet_of, unstuff, well_stuffed};
+use crate::{packet_of, unstuff, well_formed, well_stuffed};
 
 const FEWEST_REPLY_BYTES: usize = 32;
 
@@ -83,7 +83,8 @@ pub fn device_call(table: &mut [u8], registered: Registered, heard: Heard, out: 
     Ok(Answer { count: status.len(), slot, registered })
 }
 
-/// The device call on a packet as received, whose unstuffed body goes into a buffer of any length.
+/// The device call on a packet as received, whose unstuffed body goes into a buffer of any length. Bytes that are not one
+/// well-formed packet are silence.
 pub fn packet_call(
     table: &mut [u8],
     registered: Registered,
@@ -99,8 +100,7 @@ pub fn packet_call(
     if buffer.len() < body.len() {
         return Err(13);
     }
-    // bytes without an ID are sent to nobody
-    let heard = packet.get(4).map_or(Heard::Nothing, |&id| Heard::Packet { id, body: &body });
+    let heard = if well_formed(packet) { Heard::Packet { id: packet[4], body: &body } } else { Heard::Nothing };
     let answer = device_call(table, registered, heard, out)?;
     buffer[..body.len()].copy_from_slice(&body);
     Ok(answer)

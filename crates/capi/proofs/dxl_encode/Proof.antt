@@ -1,6 +1,7 @@
 use mathlib.Core.Path.{ap, _∙_}
 use mir.Facts.{toZ-ofZ}
 use mir.Syntax.{w64}
+use Rattle.encoder.proofs.RoundTrip.{round-trip}
 use Rattle.numbers.specs.Exported.{exported}
 use borrow.Author.Needs.{needs}
 use Rattle.capi.proofs.dxl_encode.Statement.{statement}
@@ -19,7 +20,7 @@ returns : tie.Need-returns
 returns c =
     let e = c .before .before .before .encode in (
       toZ-ofZ {w = w64} (record { sfits = c .encoded .ok }) ∙ c .encoded .ensures ∙ ap exported (e .ensures .0),
-      e .ensures .1,
+      (e .ensures .1, round-trip),
     )
 
 pub dxl-encode-spec : {M : Type 1} → statement M

@@ -1,31 +1,24 @@
-use mathlib.Core.Path.{ap₂, _∙_}
-use Rattle.reading.specs.Calls.{gap, call}
-use Rattle.packet.specs.Verdict.{protocol2}
-use Rattle.reader.specs.Records.{heldIn, lent, saidOn, leftBy, packetOn}
-use Rattle.reader.proofs.Answers.{packet-said}
-use Rattle.numbers.proofs.Steps.{numbers-told, held-told}
+use mathlib.Core.Path.{ap, _∙_}
+use Rattle.numbers.specs.Exported.{stepNumbers}
+use Rattle.reader.specs.Records.{saidOn, packetOn}
+use Rattle.reader.proofs.Records.{record-left, reader-promises}
 use borrow.Author.Needs.{needs}
 use Rattle.capi.proofs.dxl_gap.Statement.{statement}
 use Rattle.capi.proofs.dxl_gap.Tie as tie
 
-gap-into-requires : tie.Need-gap-into-requires
-gap-into-requires c κs = search needs
+gap-in-requires : tie.Need-gap-in-requires
+gap-in-requires c κs = search needs
 
-told-requires : tie.Need-told-requires
-told-requires c κs = search needs
+step-requires : tie.Need-step-requires
+step-requires c κs = search needs
 
 returns : tie.Need-returns
-unfolding saidOn leftBy packetOn call
+unfolding saidOn packetOn
 returns c =
-    let a = c .before .before .before .before .before .args in
-    let r = lent (a .held .now) (a .count .now) in
-    let s = saidOn r (gap) in
-    let t = c .before .gap-into .result in
-    let e = c .before .gap-into .ensures in
-    let packet-is = e .1 .1 ∙ packet-said (a .count .now) (call protocol2 (heldIn r) (gap)) (a .packet .now) in (
-      c .told .ensures ∙ numbers-told (t .heard) (t .taken) (t .held) s (e .0),
-      (ap₂ lent (e .1 .0) (held-told (t .heard) (t .taken) (t .held) s (e .0)), packet-is),
+    let e = c .before .gap-in .ensures in (
+      c .step .ensures ∙ ap stepNumbers (e .0),
+      (record-left (c .before .gap-in .result) _ _ _ (e .0) (e .1), (e .2, reader-promises)),
     )
 
 pub dxl-gap-spec : {M : Type 1} → statement M
-dxl-gap-spec = tie.close (tie.spec gap-into-requires told-requires returns)
+dxl-gap-spec = tie.close (tie.spec gap-in-requires step-requires returns)

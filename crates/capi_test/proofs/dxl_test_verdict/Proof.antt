@@ -1,4 +1,5 @@
 use mathlib.Core.Path.{sym, ap, _∙_}
+use Rattle.packet.proofs.Laws.{settles}
 use Rattle.capi_test.specs.Numbers.{verdictNumbers}
 use borrow.Author.Needs.{needs}
 use Rattle.capi_test.proofs.dxl_test_verdict.Statement.{statement}
@@ -20,16 +21,16 @@ enum-known-n-2 : tie.Need-enum-known-n-2
 enum-known-n-2 c = search needs
 
 returns : tie.Need-returns
-returns c = ap verdictNumbers (sym (c .enum-told .given .1) ∙ c .before .before .judge .ensures)
+returns c = (ap verdictNumbers (sym (c .enum-told .given .1) ∙ c .before .before .judge .ensures), settles)
 
 returns-2 : tie.Need-returns-2
-returns-2 c = ap verdictNumbers (sym (c .before .n .given .1) ∙ c .before .before .before .judge .ensures)
+returns-2 c = (ap verdictNumbers (sym (c .before .n .given .1) ∙ c .before .before .before .judge .ensures), settles)
 
 returns-3 : tie.Need-returns-3
-returns-3 c = ap verdictNumbers (sym (c .before .id .given .1) ∙ c .before .before .before .judge .ensures)
+returns-3 c = (ap verdictNumbers (sym (c .before .id .given .1) ∙ c .before .before .before .judge .ensures), settles)
 
 returns-4 : tie.Need-returns-4
-returns-4 c = ap verdictNumbers (sym (c .before .n2 .given .1) ∙ c .before .before .before .judge .ensures)
+returns-4 c = (ap verdictNumbers (sym (c .before .n2 .given .1) ∙ c .before .before .before .judge .ensures), settles)
 
 pub dxl-test-verdict-spec : {M : Type 1} → statement M
 dxl-test-verdict-spec =

@@ -1,5 +1,6 @@
 use Rattle.registers.specs.Registers.{registers, tableSize}
-use Rattle.items.specs.Items.{bytesOf, put}
+use Rattle.lists.specs.Numbers.{bytesOf}
+use Rattle.items.specs.Items.{put}
 use Rattle.control_table.specs.Fresh.{freshened, freshTable}
 use mathlib.Core.Path.{_≡_, ap, _∙_}
 use mathlib.Core.List.{List}

@@ -6,9 +6,9 @@ use native.Mathlib.Omega.{arith}
 use lib.Bits.{bitXor}
 use lib.ListN.{length, getD, drop}
 use borrow.Author.Needs.{needs}
-use Rattle.crc16.specs.Crc.{reduceIf, shift, shifts, crcFrom}
-use Rattle.crc16.proofs.Lookup.{Rule, rule, looked-up, index-lt}
-use Rattle.crc16.proofs.Laws.{crcByte-lt, crc-turn, crc-done}
+use Rattle.crc.specs.Crc.{reduceIf, shift, shifts, crcFrom}
+use Rattle.crc.proofs.Lookup.{Rule, rule, looked-up, index-lt}
+use Rattle.crc.proofs.Laws.{crcByte-lt, crc-turn, crc-done}
 use Rattle.crc16.proofs.update.Statement.{statement}
 use Rattle.crc16.proofs.update.Tie as tie
 

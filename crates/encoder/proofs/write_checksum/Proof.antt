@@ -5,7 +5,7 @@ use native.Mathlib.Numerals.{add-one}
 use native.Mathlib.Omega.{arith}
 use lib.ListN.{take, length-set}
 use Rattle.lists.specs.Write.{overwritten}
-use Rattle.crc16.specs.Crc.{crcFrom}
+use Rattle.crc.specs.Crc.{crcFrom}
 use Rattle.packet.proofs.Header.{after-header}
 use Rattle.encoder.specs.Writing.{withChecksum, low, high}
 use Rattle.encoder.proofs.Lists.{set-two}

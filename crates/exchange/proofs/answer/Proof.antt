@@ -8,7 +8,7 @@ use Rattle.stuffing.specs.declared.Checked.the-variants.{Good}
 use Rattle.packet.specs.Packet.{bodyOf}
 use Rattle.device.specs.Answers.{callRefusal, callAnswer, callRegistered, callTable, callOut}
 use Rattle.reactions.specs.declared.Heard.the-variants.{Packet}
-use Rattle.device.proofs.Calls.{idle-refused, idle-none}
+use Rattle.device.proofs.Calls.{fault-told, no-fault}
 use Rattle.exchange.specs.Exchange.{Message}
 use Rattle.exchange.proofs.Hearing.{bad-stuffing, no-room, fits, unstuffed, first-count, message-is}
 use borrow.Author.Needs.{needs}
@@ -57,8 +57,8 @@ returns-2 c =
     let e = no-room (a .packet .now) (a .body .now) _ (good t) (omega arith) in
     (rw e, (rw e, (rw e, (rw e, rw e))))
 
-idle-requires : tie.Need-idle-requires
-idle-requires c κs = search needs
+call-refusal-requires : tie.Need-call-refusal-requires
+call-refusal-requires c κs = search needs
 
 enum-told-2 : tie.Need-enum-told-2
 enum-told-2 c = search needs
@@ -75,8 +75,8 @@ returns-3 c =
     let k = i .before .before .before in
     let a = k .before .before .before .before .before .before .before .before .before .before .args in
     let e = ready k in
-    let q = idle-refused (callRefusal (a .table .now) (a .registered) (a .out .now)) (i .idle .result) (i .idle .ensures)
-    (λ n slot h. miss (1 ∷ 2 ∷ 3 ∷ 4 ∷ []) 0 tt (rw h at (c .match2 .keys2))) in
+    let q = fault-told (callRefusal (a .table .now) (a .registered) (a .out .now)) (i .call-refusal .result) (i .call-refusal .ensures)
+    (λ n slot h. miss (1 ∷ 2 ∷ 3 ∷ 4 ∷ 5 ∷ 6 ∷ []) 0 tt (rw h at (c .match2 .keys2))) in
     (rw e (q .answers _), (rw e (q .keeps _ _), (rw e (q .leaves _ _), (rw e (q .leaves _ _), rw e (q .leaves _ _)))))
 
 unstuff-requires : tie.Need-unstuff-requires
@@ -117,7 +117,7 @@ returns-4 c =
     let k = i .before .before .before in
     let a = k .before .before .before .before .before .before .before .before .before .before .args in
     let e = ready k in
-    let f = idle-none (callRefusal (a .table .now) (a .registered) (a .out .now)) (i .idle .result) (i .idle .ensures) _ _ (t .enum-told2 .given .1) in
+    let f = no-fault (callRefusal (a .table .now) (a .registered) (a .out .now)) (i .call-refusal .result) (i .call-refusal .ensures) _ _ (t .enum-told2 .given .1) in
     let m = message-is (a .packet .now) (a .body .now) _ (good (k .before)) (omega arith) (s .id-heard .result) _ (s .id-heard .ensures) (u .unstuff .ensures .1) in (
       rw e (h .hear .ensures .0 ∙ ap (λ (x : Message). callAnswer (a .table .now) (a .registered) Packet (x .id) (x .body) (a .out .now)) m),
       (
@@ -142,7 +142,7 @@ answer-spec =
     enum-told
     returns
     returns-2
-    idle-requires
+    call-refusal-requires
     enum-told-2
     same-length
     same-length-2

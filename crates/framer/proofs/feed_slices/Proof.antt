@@ -56,10 +56,10 @@ module _ (g : tie.After-slice-known3 Inv-loop μ-loop) where
   same : length held′ ≡ 1030
   same = g .before .held .given ∙ p .loop .inv .1
 
-  filled : Filled protocol2 (take (p .loop .n) (p .loop .held)) (drop (p .loop .taken) (s .args .chunk .now)) held′
+  filled : Filled protocol2 (take (p .loop .n) (p .loop .held)) (drop (p .loop .taken) (s .args .chunk .now)) (p .loop .held) held′
       (f .fill .result)
   filled =
-      filled-rest protocol2 laws (take (p .loop .n) (p .loop .held)) (s .args .chunk .now) held′ (p .loop .taken) (f .fill .result)
+      filled-rest protocol2 laws (take (p .loop .n) (p .loop .held)) (s .args .chunk .now) (p .loop .held) held′ (p .loop .taken) (f .fill .result)
       (f .fill .ensures)
 
   -- so many bytes of what was left of the chunk
@@ -72,14 +72,15 @@ enum-known-seen c = search needs
 add-deliver : tie.Need-add-deliver Inv-loop μ-loop
 add-deliver c =
     let r = c .before .before .before .before in
-    let d = filled-done protocol2 laws _ _ _ _ (filled r) _ _ _ (c .before .before .seen .given .1) in
-    omega (arith, within r _ (d .0))
+    let d = filled-done protocol2 laws _ _ _ _ _ (filled r) _ _ _ (c .before .before .seen .given .1) in
+    omega (arith, within r _ (d .1))
 
 deliver-requires : tie.Need-deliver-requires Inv-loop μ-loop
 deliver-requires c κs =
     let r = c .before .before .before .before .before in
-    let d = filled-done protocol2 laws _ _ _ _ (filled r) _ _ _ (c .before .before .before .seen .given .1) in
-    (ends-on protocol2 laws _ _ (held′ r) _ _ _ (d .1) (d .2), d .1, room-for _ _ _ (d .2 .short) (p r .loop .inv .2))
+    let d = filled-done protocol2 laws _ _ _ _ _ (filled r) _ _ _ (c .before .before .before .seen .given .1) in
+    let l = p r .loop .inv .2 in
+    (ends-on protocol2 laws _ _ (held′ r) _ _ _ (d .2) (d .3), d .2, room-for _ _ _ (d .3 .short) l, l)
 
 same-length : tie.Need-same-length Inv-loop μ-loop
 same-length c = search needs
@@ -90,8 +91,8 @@ same-length-2 c = search needs
 returns : tie.Need-returns Inv-loop μ-loop
 returns c =
     let r = c .before .before .before .before .before .before .before .before .before .before in
-    let d = filled-done protocol2 laws _ _ _ _ (filled r) _ _ _ (c .before .before .before .before .before .before .before .before .seen .given .1) in
-    rw (ends-fed protocol2 laws _ _ _ _ _ _ _ (p r .loop .inv .3) (d .2)) (c .before .before .before .before .deliver .ensures)
+    let d = filled-done protocol2 laws _ _ _ _ _ (filled r) _ _ _ (c .before .before .before .before .before .before .before .before .seen .given .1) in
+    rw (ends-fed protocol2 laws _ _ _ _ _ _ _ (p r .loop .inv .3) (d .3)) (c .before .before .before .before .deliver .ensures)
 
 enum-known-more : tie.Need-enum-known-more Inv-loop μ-loop
 enum-known-more c = search needs
@@ -99,14 +100,14 @@ enum-known-more c = search needs
 add-read-chunk : tie.Need-add-read-chunk Inv-loop μ-loop
 add-read-chunk c =
     let r = c .before .before .before .before in
-    let d = filled-passed protocol2 laws _ _ _ _ (filled r) _ (c .before .before .more .given .1) in
-    omega (arith, within r _ (d .0))
+    let d = filled-passed protocol2 laws _ _ _ _ _ (filled r) _ (c .before .before .more .given .1) in
+    omega (arith, within r _ (d .1))
 
 read-chunk-requires : tie.Need-read-chunk-requires Inv-loop μ-loop
 read-chunk-requires c κs =
     let r = c .before .before .before .before .before in
-    let d = filled-passed protocol2 laws _ _ _ _ (filled r) _ (c .before .before .before .more .given .1) in
-    (within r _ (d .0), same r, p r .loop .inv .2)
+    let d = filled-passed protocol2 laws _ _ _ _ _ (filled r) _ (c .before .before .before .more .given .1) in
+    (within r _ (d .1), same r, p r .loop .inv .2)
 
 same-length-3 : tie.Need-same-length-3 Inv-loop μ-loop
 same-length-3 c = search needs
@@ -117,8 +118,8 @@ same-length-4 c = search needs
 returns-2 : tie.Need-returns-2 Inv-loop μ-loop
 returns-2 c =
     let r = c .before .before .before .before .before .before .before .before .before .before in
-    let d = filled-passed protocol2 laws _ _ _ _ (filled r) _ (c .before .before .before .before .before .before .before .before .more .given .1) in
-    rw (passed-fed protocol2 laws _ _ _ _ _ (p r .loop .inv .3) (d .1)) (c .before .before .before .before .read-chunk .ensures)
+    let d = filled-passed protocol2 laws _ _ _ _ _ (filled r) _ (c .before .before .before .before .before .before .before .before .more .given .1) in
+    rw (passed-fed protocol2 laws _ _ _ _ _ (p r .loop .inv .3) (d .2)) (c .before .before .before .before .read-chunk .ensures)
 
 enum-known-more-2 : tie.Need-enum-known-more-2 Inv-loop μ-loop
 enum-known-more-2 c = search needs
@@ -131,11 +132,11 @@ module _ (g : tie.After-more2 Inv-loop μ-loop) where
   abbrev past : ℕ
   past = g .more2 .given .0 .0
 
-  full : Filled protocol2 (take (p k .loop .n) (p k .loop .held)) (drop (p k .loop .taken) (s k .args .chunk .now)) (held′ k) (Full past)
-  full = filled-full protocol2 laws _ _ _ _ (filled k) _ (g .more2 .given .1)
+  full : Filled protocol2 (take (p k .loop .n) (p k .loop .held)) (drop (p k .loop .taken) (s k .args .chunk .now)) (p k .loop .held) (held′ k) (Full past)
+  full = filled-full protocol2 laws _ _ _ _ _ (filled k) _ (g .more2 .given .1)
 
   here : p k .loop .taken + past < length (s k .args .chunk .now)
-  here = rest-here (s k .args .chunk .now) (p k .loop .taken) past (full .0)
+  here = rest-here (s k .args .chunk .now) (p k .loop .taken) past (full .1)
 
   size : 1031 ≡ length (held′ k) + 1
   size = ap (λ (n : ℕ). n + 1) (sym (same k))
@@ -157,6 +158,9 @@ judge-longest-requires c κs =
 enum-known-size : tie.Need-enum-known-size Inv-loop μ-loop
 enum-known-size c = search needs
 
+id-in-requires : tie.Need-id-in-requires Inv-loop μ-loop
+id-in-requires c κs = search needs
+
 stepped-requires : tie.Need-stepped-requires Inv-loop μ-loop
 stepped-requires c κs = search needs
 
@@ -168,11 +172,13 @@ same-length-6 c = search needs
 
 returns-3 : tie.Need-returns-3 Inv-loop μ-loop
 returns-3 c =
-    let g = c .before .before .before .before .before .before .before .before .before .before .before .before .before in
+    let e = c .before .before .before .before in
+    let b = e .before .before .before .before .before .before in
+    let g = b .before .before .before .before .before in
     let d = full g in
-    let j = c .before .before .before .before .before .before .before .before .judge-longest .ensures in
-    full-packet protocol2 laws _ _ _ (held′ (k g)) _ _ _ (p (k g) .loop .inv .3) (d .1 .1) (d .0) (size g) _ _ _ _
-    (was-packet _ _ _ (sym (j .0) ∙ c .before .before .size .given .1)) (c .stepped .ensures) (j .1 .0)
+    let j = b .judge-longest .ensures in
+    full-packet protocol2 laws _ _ _ (held′ (k g)) _ _ (p (k g) .loop .inv .3) (d .2) (d .1) (size g) _ _ _ _ _
+    (was-packet _ _ _ (sym (j .0) ∙ e .size .given .1)) (c .stepped .ensures) (c .before .id-in .ensures) (j .1 .0)
 
 enum-known-id : tie.Need-enum-known-id Inv-loop μ-loop
 enum-known-id c = search needs
@@ -191,7 +197,7 @@ returns-4 c =
     let g = c .before .before .before .before .before .before .before .before .before .before .before .before .before in
     let d = full g in
     let j = c .before .before .before .before .before .before .before .before .judge-longest .ensures in
-    full-bad protocol2 laws _ _ _ (held′ (k g)) _ _ _ (p (k g) .loop .inv .3) (d .1 .1) (d .0) (size g) _ _ _ _ _
+    full-bad protocol2 laws _ _ _ (held′ (k g)) _ _ (p (k g) .loop .inv .3) (d .2) (d .1) (size g) _ _ _ _ _
     (was-bad _ _ _ (sym (j .0) ∙ c .before .before .id .given .1)) (c .stepped2 .ensures) refl (j .1 .1)
 
 loop-less : tie.Need-loop-less Inv-loop μ-loop
@@ -206,7 +212,7 @@ loop-again c =
       search needs,
       c .before .before .before .before .held4 .given ∙ same (k g),
       c .before .before .packet3 .given ∙ p (k g) .loop .inv .2,
-      full-other protocol2 laws _ _ _ (held′ (k g)) _ _ _ (p (k g) .loop .inv .3) (d .1 .1) (d .0) (size g) _ _
+      full-other protocol2 laws _ _ _ (held′ (k g)) _ _ (p (k g) .loop .inv .3) (d .2) (d .1) (size g) _ _
           (λ n e. miss (2 ∷ 3 ∷ []) 0 tt (rw (j .0, e) at (c .match2 .keys3)))
           (λ i e. miss (2 ∷ 3 ∷ []) 1 tt (rw (j .0, e) at (c .match2 .keys3))) refl (j .1 .1),
     )
@@ -240,6 +246,7 @@ feed-slices-spec =
     add-taken-2
     judge-longest-requires
     enum-known-size
+    id-in-requires
     stepped-requires
     same-length-5
     same-length-6

@@ -36,6 +36,7 @@ deliver-chunk-requires c κs =
       w .0,
       room-for _ _ _ (ends-left protocol2 laws _ _ _ _ _ v (w .0) (w .1) (search needs)) (s .pre .1),
       room-for _ _ _ (w .1 .short) (s .pre .2),
+      s .pre .2,
       omega (arith, rest-within (s .args .chunk .now) (s .args .from) _ (w .0) (s .pre .0)),
     )
 

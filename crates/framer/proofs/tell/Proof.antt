@@ -35,6 +35,9 @@ part-place-end c = on (c .before .before)
 place-requires : tie.Need-place-requires
 place-requires c κs = search needs
 
+id-in-requires : tie.Need-id-in-requires
+id-in-requires c κs = search needs
+
 enum-known-seen-2 : tie.Need-enum-known-seen-2
 enum-known-seen-2 c = search needs
 
@@ -46,8 +49,9 @@ same-length c = search needs
 
 returns : tie.Need-returns
 returns c =
-    let g = c .before .before .before .before .before .before in
-    told-packet _ (s g .args .seen) _ (s g .args .packet .now) _ _ (g .seen .given .1) (on g) (size g) (c .before .before .place .ensures)
+    let p = c .before .before .before .before in
+    let g = p .before .before .before .before in
+    told-packet _ (s g .args .seen) _ (s g .args .packet .now) _ _ (g .seen .given .1) (on g) (size g) (p .place .ensures) _ (c .id-in .ensures)
 
 returns-2 : tie.Need-returns-2
 returns-2 c = told-bad _ (c .before .before .before .before .before .args .seen) _ _ _ (c .before .seen2 .given .1)
@@ -65,6 +69,7 @@ tell-spec =
     part-place-start
     part-place-end
     place-requires
+    id-in-requires
     enum-known-seen-2
     enum-told
     same-length

@@ -1,12 +1,10 @@
 use mathlib.Core.Path.{_≡_, sym, ap, _∙_}
 use mathlib.Core.Bool.{true}
-use mathlib.Core.List.{List, []}
+use mathlib.Core.List.{[]}
 use Prim.Native.Nat.{ℕ, _≤_}
 use native.Mathlib.Omega.{arith}
 use lib.ListN.{length}
-use lib.Seq.{take-all}
 use borrow.Author.Tests.{not-true, not-false}
-use Rattle.lists.specs.Write.{padded}
 use Rattle.registers.specs.Registers.{tableSize}
 use Rattle.table_rules.specs.Outcomes.{isDone}
 use Rattle.table_rules.proofs.Judged.{done-none}
@@ -15,6 +13,7 @@ use Rattle.instructions.specs.Steps.{doneWith}
 use Rattle.instructions.specs.Instructions.{regWrite}
 use Rattle.instructions.proofs.Sized.{done}
 use Rattle.instructions.proofs.Effects.{reg-write-refused, reg-write-stays, reg-write-sized, reg-write-done, reg-write-table}
+use Rattle.instructions.specs.declared.RegisteredWrite.{RegisteredWrite}
 use borrow.Author.Needs.{needs}
 use Rattle.instructions.proofs.reg_write.Statement.{statement}
 use Rattle.instructions.proofs.reg_write.Tie as tie
@@ -56,20 +55,17 @@ right-size c =
     let a = j .before .before .before .before .args in
     reg-write-sized (a .table .now) (a .registered) (a .address) (a .bytes .now) (j .judge .result) (j .judge .ensures) (good c)
 
-slice-write-table : tie.Need-slice-write-table
-slice-write-table c = let s = right-size c in omega arith
-
 short : (c : tie.Else1) → length (c .before .before .before .before .before .before .args .bytes .now) ≤ 8
 short c =
     let j = c .before .before in
     let a = j .before .before .before .before .args in
     write-short (a .table .now) (a .address) (a .bytes .now) (sym (j .judge .ensures) ∙ done-none (j .judge .result) (good c))
 
-cast-t14 : tie.Need-cast-t14
-cast-t14 c = omega (arith, short c)
+registering-requires : tie.Need-registering-requires
+registering-requires c κs = short (c .before)
 
-first-eight-requires : tie.Need-first-eight-requires
-first-eight-requires c κs = search needs
+slice-write-table : tie.Need-slice-write-table
+slice-write-table c = let s = right-size (c .before .before) in omega arith
 
 without-data-requires-2 : tie.Need-without-data-requires-2
 without-data-requires-2 c κs = search needs
@@ -80,12 +76,11 @@ same-length-2 c = search needs
 returns-2 : tie.Need-returns-2
 returns-2 c =
     let p = c .before in
-    let k = p .before in
+    let k = p .before .before in
     let j = k .before .before in
     let a = j .before .before .before .before .args in
     done (a .table .now) (a .registered) (regWrite (a .table .now) (a .registered) (a .address) (a .bytes .now)) _ _ (right-size k)
-    (c .without-data2 .ensures
-    ∙ ap (λ (b : List ℕ). doneWith 0 [] (record { address = a .address; count = length (a .bytes .now); bytes = b })) (p .first-eight .ensures ∙ ap (λ (b : List ℕ). padded 8 b) (take-all 8 (a .bytes .now) (short k)))
+    (c .without-data2 .ensures ∙ ap (λ (v : RegisteredWrite). doneWith 0 [] v) (p .registering .ensures)
     ∙ reg-write-done (a .table .now) (a .registered) (a .address) (a .bytes .now) (j .judge .result) (j .judge .ensures) (good k))
     (reg-write-table (a .table .now) (a .registered) (a .address) (a .bytes .now) (j .judge .result) (j .judge .ensures) (good k))
 
@@ -99,9 +94,8 @@ reg-write-spec =
     without-data-requires
     same-length
     returns
+    registering-requires
     slice-write-table
-    cast-t14
-    first-eight-requires
     without-data-requires-2
     same-length-2
     returns-2)

@@ -1,4 +1,5 @@
-use Rattle.items.proofs.Signed.{below, above, above-fits, sum-is}
+use Rattle.items.proofs.Signed.{below, above, above-fits}
+use Rattle.lists.proofs.Numbers.{sum-is}
 use borrow.Author.Needs.{needs}
 use Rattle.items.proofs.signed_of.Statement.{statement}
 use Rattle.items.proofs.signed_of.Tie as tie

@@ -13,17 +13,17 @@ abbrev μ-loop : tie.MeasureT-loop
 loop-holds : tie.Need-loop-holds Inv-loop μ-loop
 loop-holds c = search needs
 
-sub-feed-into : tie.Need-sub-feed-into Inv-loop μ-loop
-sub-feed-into c = search needs
+sub-feed-in : tie.Need-sub-feed-in Inv-loop μ-loop
+sub-feed-in c = search needs
 
-part-feed-into-start : tie.Need-part-feed-into-start Inv-loop μ-loop
-part-feed-into-start c = search needs
+part-feed-in-start : tie.Need-part-feed-in-start Inv-loop μ-loop
+part-feed-in-start c = search needs
 
-part-feed-into-end : tie.Need-part-feed-into-end Inv-loop μ-loop
-part-feed-into-end c = search needs
+part-feed-in-end : tie.Need-part-feed-in-end Inv-loop μ-loop
+part-feed-in-end c = search needs
 
-feed-into-requires : tie.Need-feed-into-requires Inv-loop μ-loop
-feed-into-requires c κs = search needs
+feed-in-requires : tie.Need-feed-in-requires Inv-loop μ-loop
+feed-in-requires c κs = search needs
 
 sub-least : tie.Need-sub-least Inv-loop μ-loop
 sub-least c = search needs
@@ -59,10 +59,10 @@ feed-all-spec =
     Inv-loop
     μ-loop
     loop-holds
-    sub-feed-into
-    part-feed-into-start
-    part-feed-into-end
-    feed-into-requires
+    sub-feed-in
+    part-feed-in-start
+    part-feed-in-end
+    feed-in-requires
     sub-least
     least-requires
     add-at

@@ -11,8 +11,8 @@ abbrev μ-loop : tie.MeasureT-loop
 loop-holds : tie.Need-loop-holds Inv-loop μ-loop
 loop-holds c = search needs
 
-gap-into-requires : tie.Need-gap-into-requires Inv-loop μ-loop
-gap-into-requires c κs = search needs
+gap-in-requires : tie.Need-gap-in-requires Inv-loop μ-loop
+gap-in-requires c κs = search needs
 
 print-event-requires : tie.Need-print-event-requires Inv-loop μ-loop
 print-event-requires c κs = search needs
@@ -39,7 +39,7 @@ finish-spec =
     Inv-loop
     μ-loop
     loop-holds
-    gap-into-requires
+    gap-in-requires
     print-event-requires
     sub-left
     loop-less

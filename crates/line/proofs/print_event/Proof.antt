@@ -4,8 +4,8 @@ use borrow.Author.Needs.{needs}
 use Rattle.line.proofs.print_event.Statement.{statement}
 use Rattle.line.proofs.print_event.Tie as tie
 
-enum-known-heard : tie.Need-enum-known-heard
-enum-known-heard c = search needs
+enum-known-event : tie.Need-enum-known-event
+enum-known-event c = search needs
 
 slice-aggregate-print-packet : tie.Need-slice-aggregate-print-packet
 slice-aggregate-print-packet c = sym (length-take-le _ _ (c .before .if1 .taken))
@@ -13,8 +13,8 @@ slice-aggregate-print-packet c = sym (length-take-le _ _ (c .before .if1 .taken)
 print-packet-requires : tie.Need-print-packet-requires
 print-packet-requires c κs = search needs
 
-enum-known-heard-2 : tie.Need-enum-known-heard-2
-enum-known-heard-2 c = search needs
+enum-known-event-2 : tie.Need-enum-known-event-2
+enum-known-event-2 c = search needs
 
 print-bad-checksum-requires : tie.Need-print-bad-checksum-requires
 print-bad-checksum-requires c κs = search needs
@@ -44,10 +44,10 @@ pub print-event-spec : {M : Type 1} → statement M
 print-event-spec =
     tie.close
     (tie.spec
-    enum-known-heard
+    enum-known-event
     slice-aggregate-print-packet
     print-packet-requires
-    enum-known-heard-2
+    enum-known-event-2
     print-bad-checksum-requires
     enum-told
     enum-told-2

@@ -36,6 +36,12 @@ enum-told-3 c = search needs
 enum-told-4 : tie.Need-enum-told-4
 enum-told-4 c = search needs
 
+enum-told-5 : tie.Need-enum-told-5
+enum-told-5 c = search needs
+
+enum-told-6 : tie.Need-enum-told-6
+enum-told-6 c = search needs
+
 returns : tie.Need-returns
 returns c =
     let t = c .before .before .before .before .before .args .answer in
@@ -56,6 +62,12 @@ returns-4 c = by-case _ _ (c .before .before .before .args .answer .registered) 
 returns-5 : tie.Need-returns-5
 returns-5 c = by-case _ _ (c .before .before .before .args .answer .registered) (c .enum-told4 .given .1)
 
+returns-6 : tie.Need-returns-6
+returns-6 c = by-case _ _ (c .before .before .before .args .answer .registered) (c .enum-told5 .given .1)
+
+returns-7 : tie.Need-returns-7
+returns-7 c = by-case _ _ (c .before .before .before .args .answer .registered) (c .enum-told6 .given .1)
+
 pub response-spec : {M : Type 1} → statement M
 response-spec =
     tie.close
@@ -66,8 +78,12 @@ response-spec =
     enum-told-2
     enum-told-3
     enum-told-4
+    enum-told-5
+    enum-told-6
     returns
     returns-2
     returns-3
     returns-4
-    returns-5)
+    returns-5
+    returns-6
+    returns-7)

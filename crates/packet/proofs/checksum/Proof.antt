@@ -1,6 +1,6 @@
 use mathlib.Core.Path.{_∙_}
-use Rattle.crc16.specs.Crc.{reduceIf, shift, shifts, crcByte, crcFrom}
-use Rattle.crc16.proofs.Laws.{crc-append}
+use Rattle.crc.specs.Crc.{reduceIf, shift, shifts, crcByte, crcFrom}
+use Rattle.crc.proofs.Laws.{crc-append}
 use Rattle.packet_front.specs.Front.{header}
 use borrow.Author.Needs.{needs}
 use Rattle.packet.proofs.checksum.Statement.{statement}

@@ -5,7 +5,7 @@ use native.Mathlib.Omega.{arith}
 use lib.Dec.{eqb}
 use lib.ListN.{length, getD}
 use borrow.Author.Tests.{eq-eqb, ne-eqb}
-use Rattle.crc16.specs.Crc.{crcFrom}
+use Rattle.crc.specs.Crc.{crcFrom}
 use Rattle.stuffing.specs.Stuffing.{wellStuffed}
 use Rattle.stuffing.specs.Answers.{checked}
 use Rattle.stuffing.proofs.Answers.{checked-bad, checked-good}

@@ -4,50 +4,86 @@ use native.Mathlib.Omega.{arith}
 use lib.ListN.{length}
 use borrow.Author.Tests.{eq-eqb, ne-eqb}
 use borrow.Author.Needs.{needs}
-use Rattle.parameters.proofs.Searching.{Searching, searching-start, cut-short, no-id, again, next, searched}
+use Rattle.parameters.specs.Parameters.{entryOf}
+use Rattle.parameters.proofs.Searching.{Searching, searching-start, searched, not-allowed, allowed, size-is, barred, cut-short, no-id, again, next}
 use Rattle.parameters.proofs.search.Statement.{statement}
 use Rattle.parameters.proofs.search.Tie as tie
 
 abbrev Inv-loop : tie.InvT-loop
-Inv-loop params size own seen₀ found₀ slot₀ at₀ seen found slot at = Searching size own params seen at slot found
+Inv-loop params from kind own seen₀ found₀ slot₀ at₀ seen found slot at = Searching (entryOf kind) own params from seen at slot found
 
 abbrev μ-loop : tie.MeasureT-loop
-μ-loop params size own seen₀ found₀ slot₀ at₀ seen found slot at = length params - at
+μ-loop params from kind own seen₀ found₀ slot₀ at₀ seen found slot at = length params - at
 
 loop-holds : tie.Need-loop-holds Inv-loop μ-loop
-loop-holds c = searching-start (c .args .size) (c .args .own) (c .args .params .now)
+loop-holds c =
+    let a = c .before .args in
+    searching-start (entryOf (a .kind)) (a .own) (a .params .now) (a .from)
 
-sub-if1 : tie.Need-sub-if1 Inv-loop μ-loop
-sub-if1 c = search needs
+sub-entry-size : tie.Need-sub-entry-size Inv-loop μ-loop
+sub-entry-size c = search needs
+
+part-entry-size-start : tie.Need-part-entry-size-start Inv-loop μ-loop
+part-entry-size-start c = search needs
+
+part-entry-size-end : tie.Need-part-entry-size-end Inv-loop μ-loop
+part-entry-size-end c = search needs
+
+entry-size-requires : tie.Need-entry-size-requires Inv-loop μ-loop
+entry-size-requires c κs = search needs
 
 returns : tie.Need-returns Inv-loop μ-loop
 returns c =
-    let h = c .before .before .loop in
-    let a = c .before .before .before .args in
-    cut-short (a .size) (a .own) (a .params .now) (h .seen) (h .at) (h .slot) (h .found) (h .inv) (c .before .loop-test .taken) (omega arith)
+    let z = c .before in
+    let l = z .before .before in
+    let h = l .before .loop in
+    let a = l .before .before .before .args in
+    barred (entryOf (a .kind)) (a .own) (a .params .now) (a .from) (h .seen) (h .at) (h .slot) (h .found) (h .inv) (l .loop-test .taken) (not-allowed (a .kind) (a .params .now) (h .at) (z .entry-size .result) (omega arith) (z .entry-size .ensures) (c .if1 .taken))
+
+sub-if2 : tie.Need-sub-if2 Inv-loop μ-loop
+sub-if2 c = search needs
+
+returns-2 : tie.Need-returns-2 Inv-loop μ-loop
+returns-2 c =
+    let z = c .before .before in
+    let l = z .before .before in
+    let h = l .before .loop in
+    let a = l .before .before .before .args in
+    let n = c .before .if1 .left in
+    let ok = allowed (a .kind) (a .params .now) (h .at) (z .entry-size .result) (omega arith) (z .entry-size .ensures) n in
+    let size = size-is (a .kind) (a .params .now) (h .at) (z .entry-size .result) (omega arith) (z .entry-size .ensures) n in
+    cut-short (entryOf (a .kind)) (a .own) (a .params .now) (a .from) (h .seen) (h .at) (h .slot) (h .found) (h .inv) (l .loop-test .taken) ok (omega arith)
 
 shared-slice-read-id : tie.Need-shared-slice-read-id Inv-loop μ-loop
 shared-slice-read-id c = search needs
 
-returns-2 : tie.Need-returns-2 Inv-loop μ-loop
-returns-2 c =
-    let l = c .before .before .before in
+returns-3 : tie.Need-returns-3 Inv-loop μ-loop
+returns-3 c =
+    let z = c .before .before .before .before in
+    let l = z .before .before in
     let h = l .before .loop in
-    let a = l .before .before .args in
-    no-id (a .size) (a .own) (a .params .now) (h .seen) (h .at) (h .slot) (h .found) (h .inv) (l .loop-test .taken) (omega arith) (c .if2 .taken)
+    let a = l .before .before .before .args in
+    let n = c .before .before .before .if1 .left in
+    let ok = allowed (a .kind) (a .params .now) (h .at) (z .entry-size .result) (omega arith) (z .entry-size .ensures) n in
+    let size = size-is (a .kind) (a .params .now) (h .at) (z .entry-size .result) (omega arith) (z .entry-size .ensures) n in
+    no-id (entryOf (a .kind)) (a .own) (a .params .now) (a .from) (h .seen) (h .at) (h .slot) (h .found) (h .inv) (l .loop-test .taken) ok (omega arith) (c .if3 .taken)
 
 cast-k : tie.Need-cast-k Inv-loop μ-loop
 cast-k c = search needs
 
-array-read-if3 : tie.Need-array-read-if3 Inv-loop μ-loop
-array-read-if3 c = search needs
+array-read-if4 : tie.Need-array-read-if4 Inv-loop μ-loop
+array-read-if4 c = search needs
 
-returns-3 : tie.Need-returns-3 Inv-loop μ-loop
-returns-3 c =
-    let l = c .before .before .before .before in
+returns-4 : tie.Need-returns-4 Inv-loop μ-loop
+returns-4 c =
+    let z = c .before .before .before .before .before in
+    let l = z .before .before in
     let h = l .before .loop in
-    let a = l .before .before .args in
-    again (a .size) (a .own) (a .params .now) (h .seen) (h .at) (h .slot) (h .found) (h .inv) (l .loop-test .taken) (omega arith) (c .before .if2 .left) (c .if3 .taken)
+    let a = l .before .before .before .args in
+    let n = c .before .before .before .before .if1 .left in
+    let ok = allowed (a .kind) (a .params .now) (h .at) (z .entry-size .result) (omega arith) (z .entry-size .ensures) n in
+    let size = size-is (a .kind) (a .params .now) (h .at) (z .entry-size .result) (omega arith) (z .entry-size .ensures) n in
+    again (entryOf (a .kind)) (a .own) (a .params .now) (a .from) (h .seen) (h .at) (h .slot) (h .found) (h .inv) (l .loop-test .taken) ok (omega arith) (c .before .if3 .left) (c .if4 .taken)
 
 array-write-seen : tie.Need-array-write-seen Inv-loop μ-loop
 array-write-seen c = search needs
@@ -63,17 +99,21 @@ loop-less c = search needs
 
 loop-again : tie.Need-loop-again Inv-loop μ-loop
 loop-again c =
-    let l = c .before .before .before .before .before in
+    let z = c .before .before .before .before .before .before in
+    let l = z .before .before in
     let h = l .before .loop in
-    let a = l .before .before .args in
-    let n = next (a .size) (a .own) (a .params .now) (h .seen) (h .at) (h .slot) (h .found) (h .inv) (l .loop-test .taken) (omega arith) (c .before .before .if2 .left) (c .before .if3 .left) (l .before .before .pre) in
-    ⊎-elim (λ w. rw (w .1) (rw (eq-eqb _ _ (w .0 .taken)) at n)) (λ w. rw (w .1) (rw (ne-eqb _ _ (w .0 .left)) at n)) (c .if4 .came)
+    let a = l .before .before .before .args in
+    let n = c .before .before .before .before .before .if1 .left in
+    let ok = allowed (a .kind) (a .params .now) (h .at) (z .entry-size .result) (omega arith) (z .entry-size .ensures) n in
+    let size = size-is (a .kind) (a .params .now) (h .at) (z .entry-size .result) (omega arith) (z .entry-size .ensures) n in
+    let k = next (entryOf (a .kind)) (a .own) (a .params .now) (a .from) (h .seen) (h .at) (h .slot) (h .found) (h .inv) (l .loop-test .taken) ok (omega arith) (c .before .before .if3 .left) (c .before .if4 .left) (omega arith) in
+    rw size (⊎-elim (λ w. rw (w .1) (rw (eq-eqb _ _ (w .0 .taken)) at k)) (λ w. rw (w .1) (rw (ne-eqb _ _ (w .0 .left)) at k)) (c .if5 .came))
 
-returns-4 : tie.Need-returns-4 Inv-loop μ-loop
-returns-4 c =
+returns-5 : tie.Need-returns-5 Inv-loop μ-loop
+returns-5 c =
     let h = c .before .loop in
-    let a = c .before .before .args in
-    searched (a .size) (a .own) (a .params .now) (h .seen) (h .at) (h .slot) (h .found) (h .inv) (c .loop-test .left)
+    let a = c .before .before .before .args in
+    searched (entryOf (a .kind)) (a .own) (a .params .now) (a .from) (h .seen) (h .at) (h .slot) (h .found) (h .inv) (c .loop-test .left)
 
 pub search-spec : {M : Type 1} → statement M
 search-spec =
@@ -82,16 +122,21 @@ search-spec =
     Inv-loop
     μ-loop
     loop-holds
-    sub-if1
+    sub-entry-size
+    part-entry-size-start
+    part-entry-size-end
+    entry-size-requires
     returns
-    shared-slice-read-id
+    sub-if2
     returns-2
-    cast-k
-    array-read-if3
+    shared-slice-read-id
     returns-3
+    cast-k
+    array-read-if4
+    returns-4
     array-write-seen
     add-slot
     add-at
     loop-less
     loop-again
-    returns-4)
+    returns-5)

@@ -1,26 +1,17 @@
-use mathlib.Core.Path.{sym, ap, _∙_}
+use mathlib.Core.Path.{sym, _∙_}
 use borrow.Author.Tests.{not-true, not-false}
-use Rattle.parameters.specs.Parameters.{wordAt}
-use Rattle.instructions.specs.Instructions.{read}
-use Rattle.instructions.specs.Steps.{doneOf}
-use Rattle.instructions.proofs.Sized.{of-size}
-use Rattle.reactions.specs.Reactions.{speaks}
-use Rattle.reactions.specs.Steps.{reactedBy}
 use borrow.Author.Needs.{needs}
 use Rattle.reactions.proofs.heard_sync_read.Statement.{statement}
 use Rattle.reactions.proofs.heard_sync_read.Tie as tie
 
-without-data-requires : tie.Need-without-data-requires
-without-data-requires c κs = search needs
-
-own-only-requires : tie.Need-own-only-requires
-own-only-requires c κs = search needs
+nothing-done-requires : tie.Need-nothing-done-requires
+nothing-done-requires c κs = search needs
 
 returns : tie.Need-returns
 returns c =
-    let k = c .before .before in
+    let k = c .before in
     let a = k .before .before .before .args in
-    rw (not-true (a .all) (k .if1 .taken)) (c .own-only .ensures ∙ ap (reactedBy (speaks 1 0)) (c .before .without-data .ensures))
+    rw (not-true (a .all) (k .if1 .taken)) (c .nothing-done .ensures)
 
 shared-slice-read-sync-search : tie.Need-shared-slice-read-sync-search
 shared-slice-read-sync-search c = search needs
@@ -51,8 +42,8 @@ word-at-requires c κs = search needs
 word-at-requires-2 : tie.Need-word-at-requires-2
 word-at-requires-2 c κs = search needs
 
-read-requires : tie.Need-read-requires
-read-requires c κs = search needs
+sync-read-by-requires : tie.Need-sync-read-by-requires
+sync-read-by-requires c κs = search needs
 
 returns-3 : tie.Need-returns-3
 returns-3 c =
@@ -61,18 +52,15 @@ returns-3 c =
     let t = w₁ .before .before in
     let f = t .before .before in
     let k = f .before .before in
-    let s = k .before .before .before in
-    let a = s .args in
-    let p = of-size (a .table .now) (a .registered) (read (a .table .now) (a .registered) (wordAt (a .params .now) 0) (wordAt (a .params .now) 2)) (s .pre) in
+    let a = k .before .before .before .args in
     rw (not-false (a .all) (k .if1 .left), sym (f .sync-search .ensures) ∙ t .slot .given .1)
-    (ap (reactedBy (speaks 1 (t .slot .given .0 .0))) ((rw (w₁ .word-at .ensures, w₂ .word-at2 .ensures) at (c .read .ensures)) ∙ ap doneOf p))
+    (rw (w₁ .word-at .ensures, w₂ .word-at2 .ensures) at (c .sync-read-by .ensures))
 
 pub heard-sync-read-spec : {M : Type 1} → statement M
 heard-sync-read-spec =
     tie.close
     (tie.spec
-    without-data-requires
-    own-only-requires
+    nothing-done-requires
     returns
     shared-slice-read-sync-search
     sync-search-requires
@@ -82,5 +70,5 @@ heard-sync-read-spec =
     returns-2
     word-at-requires
     word-at-requires-2
-    read-requires
+    sync-read-by-requires
     returns-3)

@@ -1,31 +1,23 @@
-use mathlib.Core.Path.{_≡_, sym, ap, _∙_}
+use mathlib.Core.Path.{_≡_, sym, _∙_}
 use Prim.Native.Nat.{_+_, _-_, _≤_}
 use native.Mathlib.Omega.{arith}
-use lib.ListN.{length, take, drop, getD}
+use lib.ListN.{length, getD}
 use borrow.Author.Tests.{not-true, not-false}
 use Rattle.parameters.specs.Parameters.{wordAt, syncSearch}
 use Rattle.parameters.proofs.Searching.{sync-whole}
-use Rattle.instructions.specs.Instructions.{Effect, write}
-use Rattle.instructions.specs.Steps.{doneOf}
-use Rattle.instructions.proofs.Sized.{of-size}
-use Rattle.reactions.specs.Reactions.{silent, speaks}
-use Rattle.reactions.specs.Steps.{reactedBy}
 use borrow.Author.Needs.{needs}
 use Rattle.reactions.proofs.heard_sync_write.Statement.{statement}
 use Rattle.reactions.proofs.heard_sync_write.Tie as tie
 
-without-data-requires : tie.Need-without-data-requires
-without-data-requires c κs = search needs
-
-own-only-requires : tie.Need-own-only-requires
-own-only-requires c κs = search needs
+nothing-done-requires : tie.Need-nothing-done-requires
+nothing-done-requires c κs = search needs
 
 returns : tie.Need-returns
 returns c =
-    let k = c .before .before in
+    let k = c .before in
     let a = k .before .before .before .args in
     let own = not-true (a .all) (k .if1 .taken) in
-    (rw own (c .own-only .ensures ∙ ap (reactedBy (speaks 2 0)) (c .before .without-data .ensures)), rw own)
+    (rw own (c .nothing-done .ensures), rw own)
 
 word-at-requires : tie.Need-word-at-requires
 word-at-requires c κs = search needs
@@ -83,54 +75,47 @@ add-to c =
 word-at-requires-2 : tie.Need-word-at-requires-2
 word-at-requires-2 c κs = search needs
 
-sub-write : tie.Need-sub-write
-sub-write c = search needs
+sub-sync-write-by : tie.Need-sub-sync-write-by
+sub-sync-write-by c = search needs
 
-part-write-start : tie.Need-part-write-start
-part-write-start c = search needs
+part-sync-write-by-start : tie.Need-part-sync-write-by-start
+part-sync-write-by-start c = search needs
 
-part-write-end : tie.Need-part-write-end
-part-write-end c =
+part-sync-write-by-end : tie.Need-part-sync-write-by-end
+part-sync-write-by-end c =
     let t = c .before .before in
     let w = t .before .before .before .before .before in
     omega (arith, whole t, w .word-at .ensures)
 
-write-requires : tie.Need-write-requires
-write-requires c κs = search needs
-
-unanswered-requires : tie.Need-unanswered-requires
-unanswered-requires c κs = search needs
+sync-write-by-requires : tie.Need-sync-write-by-requires
+sync-write-by-requires c κs = search needs
 
 same-length : tie.Need-same-length
 same-length c = search needs
 
 returns-3 : tie.Need-returns-3
 returns-3 c =
-    let r = c .before .before .before in
-    let w = r .before .before in
-    let t = w .before .before in
+    let r = c .before .before in
+    let w = r .before .before .before in
+    let t = w .before in
     let f = t .before .before .before in
     let n = f .before .before in
     let k = n .before in
-    let s = k .before .before .before in
-    let a = s .args in
+    let a = k .before .before .before .args in
     let all = not-false (a .all) (k .if1 .left) in
     let some = searched f ∙ t .before .at .given .1 in
     let at = t .before .at .given .0 .1 .0 in
     let e = n .word-at .ensures in
-    let len : at + 1 + n .word-at .result - (at + 1) ≡ wordAt (a .params .now) 2 = omega arith in
-    let written = write (a .table .now) (a .registered) (wordAt (a .params .now) 0) (take (wordAt (a .params .now) 2) (drop (at + 1) (a .params .now))) in
-    let p = of-size (a .table .now) (a .registered) written (s .pre) in (
-      rw (all, some) (c .unanswered .ensures ∙ ap (reactedBy silent) ((rw (w .word-at2 .ensures, len) at (r .write .ensures .0)) ∙ ap doneOf p)),
-      rw (all, some) ((rw (w .word-at2 .ensures, len) at (r .write .ensures .1)) ∙ ap (λ (x : Effect). x .table) p),
+    let len : at + 1 + n .word-at .result - (at + 1) ≡ wordAt (a .params .now) 2 = omega arith in (
+      rw (all, some) (rw (w .word-at2 .ensures, len) at (r .sync-write-by .ensures .0)),
+      rw (all, some) (rw (w .word-at2 .ensures, len) at (r .sync-write-by .ensures .1)),
     )
 
 pub heard-sync-write-spec : {M : Type 1} → statement M
 heard-sync-write-spec =
     tie.close
     (tie.spec
-    without-data-requires
-    own-only-requires
+    nothing-done-requires
     returns
     word-at-requires
     slice-read-sync-search
@@ -143,10 +128,9 @@ heard-sync-write-spec =
     cast-to
     add-to
     word-at-requires-2
-    sub-write
-    part-write-start
-    part-write-end
-    write-requires
-    unanswered-requires
+    sub-sync-write-by
+    part-sync-write-by-start
+    part-sync-write-by-end
+    sync-write-by-requires
     same-length
     returns-3)

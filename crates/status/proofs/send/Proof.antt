@@ -1,84 +1,66 @@
-use mathlib.Core.Path.{_≡_}
-use lib.ListN.{length, length-take}
+use mathlib.Core.Path.{ap, _∙_}
 use native.Mathlib.Omega.{arith}
 use borrow.Author.Tests.{not-true, not-false}
-use Rattle.status.proofs.Sending.{params-are}
+use Rattle.status.specs.Sending.{writtenAnswer}
+use Rattle.status.proofs.Sending.{refuses-id, refuses-count, refuses-room, accepts, fits, goes-out}
 use borrow.Author.Needs.{needs}
 use Rattle.status.proofs.send.Statement.{statement}
 use Rattle.status.proofs.send.Tie as tie
 
 returns : tie.Need-returns
 returns c =
-    let e = not-true (c .before .before .before .args .reply .speaks) (c .if1 .taken) in
+    let a = c .before .before .before .args in
+    let e = refuses-id (a .reply) (a .out .now) (omega arith) in
     (rw e, rw e)
 
-array-read-t10 : tie.Need-array-read-t10
-array-read-t10 c = search needs
+returns-2 : tie.Need-returns-2
+returns-2 c =
+    let a = c .before .before .before .before .before .args in
+    let e = refuses-count (a .reply) (a .out .now) (omega arith) (omega arith) in
+    (rw e, rw e)
 
-array-read-t13 : tie.Need-array-read-t13
-array-read-t13 c = search needs
+returns-3 : tie.Need-returns-3
+returns-3 c =
+    let a = c .before .before .before .before .before .before .args in
+    let e = refuses-room (a .reply) (a .out .now) (omega arith) (omega arith) (omega arith) in
+    (rw e, rw e)
 
-array-read-t16 : tie.Need-array-read-t16
-array-read-t16 c = search needs
+returns-4 : tie.Need-returns-4
+returns-4 c =
+    let a = c .before .before .before .before .before .before .before .before .args in
+    let e = accepts (a .reply) (a .out .now) (omega arith) (omega arith) (omega arith) in
+    let s = not-true (a .reply .speaks) (c .if4 .taken) in
+    (rw (e, s), rw (e, s))
 
-array-read-t19 : tie.Need-array-read-t19
-array-read-t19 c = search needs
+write-status-requires : tie.Need-write-status-requires
+write-status-requires c κs = search needs
 
-array-read-t22 : tie.Need-array-read-t22
-array-read-t22 c = search needs
-
-array-read-t25 : tie.Need-array-read-t25
-array-read-t25 c = search needs
-
-array-read-t28 : tie.Need-array-read-t28
-array-read-t28 c = search needs
-
-array-read-t31 : tie.Need-array-read-t31
-array-read-t31 c = search needs
-
-parameter-count-requires : tie.Need-parameter-count-requires
-parameter-count-requires c κs = search needs
-
-array-share-prefix-params : tie.Need-array-share-prefix-params
-array-share-prefix-params c = search needs
-
-slice-aggregate-encode : tie.Need-slice-aggregate-encode
-slice-aggregate-encode c = let e = c .before .parameter-count .ensures in simp length-take (omega arith)
-
-encode-requires : tie.Need-encode-requires
-encode-requires c κs = search needs
+as-written-requires : tie.Need-as-written-requires
+as-written-requires c κs = search needs
 
 same-length : tie.Need-same-length
 same-length c = search needs
 
-full : (g : tie.After-encode) → length (g .before .before .before .before .before .before .before .before .args .reply .bytes) ≡ 8
-full g = search needs
-
-returns-2 : tie.Need-returns-2
-returns-2 c =
-    let g = c .before .before in
-    let a = g .before .before .before .before .before .before .before .before .args .reply in
-    let k = g .before .before .before .parameter-count .ensures in
-    let p = params-are (a .error) (a .count) (a .bytes) (full g) in
-    let s = not-false (a .speaks) (g .before .before .before .before .before .if1 .left) in
-    (rw s (rw (k, p) at (g .encode .ensures .0)), rw s (rw (k, p) at (g .encode .ensures .1)))
+returns-5 : tie.Need-returns-5
+returns-5 c =
+    let w = c .before .before .before in
+    let k = w .before .before in
+    let a = k .before .before .before .before .before .before .before .before .args in
+    let e = accepts (a .reply) (a .out .now) (omega arith) (omega arith) (omega arith) in
+    let f = fits (a .reply) (a .out .now) (omega arith) (omega arith) (omega arith) in
+    let s = not-false (a .reply .speaks) (k .if4 .left) in
+    let g = goes-out (a .reply) (a .out .now) (omega arith) (omega arith) (omega arith) (w .write-status .result) (w .write-status .ensures .0) in
+    (rw (e, s) (ap writtenAnswer (c .as-written .ensures) ∙ g), rw (e, s) (rw f at (w .write-status .ensures .1)))
 
 pub send-spec : {M : Type 1} → statement M
 send-spec =
     tie.close
     (tie.spec
     returns
-    array-read-t10
-    array-read-t13
-    array-read-t16
-    array-read-t19
-    array-read-t22
-    array-read-t25
-    array-read-t28
-    array-read-t31
-    parameter-count-requires
-    array-share-prefix-params
-    slice-aggregate-encode
-    encode-requires
+    returns-2
+    returns-3
+    returns-4
+    write-status-requires
+    as-written-requires
     same-length
-    returns-2)
+    returns-5)

@@ -3,7 +3,7 @@ use mir.Syntax.{w32}
 use mir.Facts.{toZ-ofZ}
 use borrow.Author.Needs.{needs}
 use Rattle.items.specs.Items.{signed}
-use Rattle.items.proofs.Signed.{four-bytes}
+use Rattle.lists.proofs.Numbers.{four-bytes}
 use Rattle.table_rules.proofs.word_at.Statement.{statement}
 use Rattle.table_rules.proofs.word_at.Tie as tie
 

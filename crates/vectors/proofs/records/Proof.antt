@@ -10,8 +10,8 @@ Inv-loop input table₀ registered₀ at₀ table registered at = at ≤ length 
 abbrev μ-loop : tie.MeasureT-loop
 μ-loop input table₀ registered₀ at₀ table registered at = length input - at
 
-nothing-registered-requires : tie.Need-nothing-registered-requires Inv-loop μ-loop
-nothing-registered-requires c κs = search needs
+dropped-requires : tie.Need-dropped-requires Inv-loop μ-loop
+dropped-requires c κs = search needs
 
 loop-holds : tie.Need-loop-holds Inv-loop μ-loop
 loop-holds c = search needs
@@ -85,7 +85,7 @@ records-spec =
     (tie.spec
     Inv-loop
     μ-loop
-    nothing-registered-requires
+    dropped-requires
     loop-holds
     sub-loop
     add-size

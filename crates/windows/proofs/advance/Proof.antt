@@ -85,19 +85,18 @@ returns-2 c =
     sought-bad protocol2 laws settledBy settles s (h .at) (h .end) (h .inv) _ (j .before .loop-test .taken) (g .0) (rw n at (g .1))
     (rw n at (g .2)) _ (omega arith) (omega (arith, none-lacks)) e
 
-enum-known-lacks : tie.Need-enum-known-lacks Inv-loop μ-loop
-enum-known-lacks c = search needs
+enum-told : tie.Need-enum-told Inv-loop μ-loop
+enum-told c = search needs
 
 returns-3 : tie.Need-returns-3 Inv-loop μ-loop
 returns-3 c =
-    let k = c .before in
-    let j = k .before .before in
+    let j = c .before .before in
     let h = j .before .before .loop in
-    let e = was-waiting _ _ _ (sym (j .judge .ensures) ∙ k .lacks .given .1) in
-    sought-end protocol2 laws settledBy settles _ (h .at) (h .end) (h .inv) (inl (e .0)) _
+    let e = was-waiting _ _ _ (sym (j .judge .ensures) ∙ c .enum-told .given .1) in
+    sought-end protocol2 laws settledBy settles _ (h .at) (h .end) (h .inv) (inl (e .0))
 
-enum-told : tie.Need-enum-told Inv-loop μ-loop
-enum-told c = search needs
+enum-told-2 : tie.Need-enum-told-2 Inv-loop μ-loop
+enum-told-2 c = search needs
 
 settled-requires-2 : tie.Need-settled-requires-2 Inv-loop μ-loop
 settled-requires-2 c κs = search needs
@@ -123,7 +122,7 @@ loop-again c =
     let j = k .before .before in
     let h = j .before .before .loop in
     let s = j .before .before .before .before .args .chunk .now in
-    let e = was-nothing _ _ (sym (j .judge .ensures) ∙ k .enum-told .given .1) in
+    let e = was-nothing _ _ (sym (j .judge .ensures) ∙ k .enum-told2 .given .1) in
     let n = c .before .settled2 .ensures in
     let g = c .greatest3 .ensures in
     sought-next protocol2 laws settledBy settles s (h .at) (h .end) (h .inv) _ (j .before .loop-test .taken) (g .0) (rw n at (g .1))
@@ -132,7 +131,7 @@ loop-again c =
 returns-4 : tie.Need-returns-4 Inv-loop μ-loop
 returns-4 c =
     let h = c .before .loop in
-    sought-end protocol2 laws settledBy settles _ (h .at) (h .end) (h .inv) (inr (c .loop-test .left)) _
+    sought-end protocol2 laws settledBy settles _ (h .at) (h .end) (h .inv) (inr (c .loop-test .left))
 
 pub advance-spec : {M : Type 1} → statement M
 advance-spec =
@@ -151,9 +150,9 @@ advance-spec =
     add-greatest-2
     greatest-requires-2
     returns-2
-    enum-known-lacks
-    returns-3
     enum-told
+    returns-3
+    enum-told-2
     settled-requires-2
     add-greatest-3
     greatest-requires-3

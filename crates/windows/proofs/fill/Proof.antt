@@ -3,16 +3,17 @@ use mathlib.Core.List.{[], _∷_}
 use types.Run.{miss}
 use lib.Seq.{length-take-le}
 use Rattle.reading.specs.Reading.{open′}
+use Rattle.reading.specs.Progress.{Patient}
 use Rattle.packet.specs.Verdict.{protocol2}
 use Rattle.packet.proofs.Laws.{laws}
 use Rattle.windows.specs.Scan.{Waits}
 use Rattle.windows.proofs.Windows.{not-none, Filling, filling-start, filling-none, filling-fits, filling-ordered}
 use Rattle.windows.proofs.Windows.{filling-decided, window-fits, window-end}
-use Rattle.windows.proofs.Windows.{window-passed, window-full, window-room, window-more, room-behind}
+use Rattle.windows.proofs.Windows.{window-passed, window-full, window-waits, window-room, window-more, room-behind}
 use mathlib.Core.Path.{refl, sym}
 use Prim.Native.Nat.{ℕ, _+_, _-_, _≤_, _<_}
 use native.Mathlib.Omega.{arith}
-use lib.ListN.{length, take}
+use lib.ListN.{length, take, drop}
 use Rattle.windows.proofs.fill.Statement.{statement}
 use Rattle.windows.proofs.fill.Tie as tie
 
@@ -27,7 +28,7 @@ least-requires : tie.Need-least-requires Inv-loop μ-loop
 least-requires c κs = search needs
 
 returns : tie.Need-returns Inv-loop μ-loop
-returns c = (search needs, filling-none protocol2 laws _ 0 _ _ _ (c .before .least .ensures) (c .if1 .taken))
+returns c = (refl, search needs, filling-none protocol2 laws _ 0 _ _ _ (c .before .least .ensures) (c .if1 .taken))
 
 loop-holds : tie.Need-loop-holds Inv-loop μ-loop
 loop-holds c = filling-start protocol2 laws _ _ _ _ _ (c .before .least .ensures) refl
@@ -50,10 +51,11 @@ same-length c = search needs
 returns-2 : tie.Need-returns-2 Inv-loop μ-loop
 returns-2 c =
     let w = c .before .before .before .loop .inv in (
+      w .size,
       w .taken-within,
       filling-fits protocol2 laws _ _ _ _ _ _ _ w,
-      filling-decided protocol2 laws _ _ _ _ _ _ _ w (c .before .scan .result)
-          (λ at k e. miss (0 ∷ 1 ∷ []) 2 tt (rw e at (c .match .keys2))) (c .before .scan .ensures),
+      filling-decided protocol2 laws _ _ _ _ _ _ _ w (c .before .scan .result .seen)
+          (λ at e. miss (0 ∷ 1 ∷ []) 2 tt (rw e at (c .match .keys2))) (c .before .scan .ensures .0),
     )
 
 -- the held bytes wait, from `start` on
@@ -65,10 +67,13 @@ module _ (g : tie.After-known-told Inv-loop μ-loop) where
   start = g .before .seen .given .0 .0
 
   abbrev lacks : ℕ
-  lacks = g .before .seen .given .0 .1 .0
+  lacks = g .before .before .before .scan .result .lacks
 
-  waits : Waits protocol2 open′ (take (p .loop .end) (p .loop .held)) (p .loop .at) start lacks
-  waits = rw (g .before .seen .given .1) at (g .before .before .before .scan .ensures)
+  waits : Waits protocol2 open′ (take (p .loop .end) (p .loop .held)) (p .loop .at) start
+  waits = rw (g .before .seen .given .1) at (g .before .before .before .scan .ensures .0)
+
+  wants : start < length (take (p .loop .end) (p .loop .held)) → Patient protocol2 (drop start (take (p .loop .end) (p .loop .held))) lacks
+  wants = rw (g .before .seen .given .1) at (g .before .before .before .scan .ensures .1)
 
 sub-left : tie.Need-sub-left Inv-loop μ-loop
 sub-left c = search needs
@@ -80,10 +85,10 @@ returns-3 : tie.Need-returns-3 Inv-loop μ-loop
 returns-3 c =
     let g = c .before in
     let w = p g .loop .inv in
-    (w .taken-within, filling-fits protocol2 laws _ _ _ _ _ _ _ w, window-end protocol2 laws _ _ _ _ _ _ _ w _ _ (waits g) (c .if2 .taken))
+    (w .size, w .taken-within, filling-fits protocol2 laws _ _ _ _ _ _ _ w, window-end protocol2 laws _ _ _ _ _ _ _ w _ (waits g) (c .if2 .taken))
 
 sub-waiting : tie.Need-sub-waiting Inv-loop μ-loop
-sub-waiting c = window-fits protocol2 laws _ _ _ _ _ _ _ (p (c .before) .loop .inv) _ _ (waits (c .before))
+sub-waiting c = window-fits protocol2 laws _ _ _ _ _ _ _ (p (c .before) .loop .inv) _ (waits (c .before))
 
 same-length-3 : tie.Need-same-length-3 Inv-loop μ-loop
 same-length-3 c = search needs
@@ -92,7 +97,7 @@ returns-4 : tie.Need-returns-4 Inv-loop μ-loop
 returns-4 c =
     let g = c .before .before in
     let w = p g .loop .inv in
-    (w .taken-within, window-passed protocol2 laws _ _ _ _ _ _ _ w _ _ (waits g) (c .if3 .taken))
+    (w .size, w .taken-within, window-passed protocol2 laws _ _ _ _ _ _ _ w _ (waits g) (c .if3 .taken))
 
 sub-room : tie.Need-sub-room Inv-loop μ-loop
 sub-room c = omega (arith, filling-fits protocol2 laws _ _ _ _ _ _ _ (p (c .before .before) .loop .inv))
@@ -104,7 +109,8 @@ returns-5 : tie.Need-returns-5 Inv-loop μ-loop
 returns-5 c =
     let g = c .before .before .before in
     let w = p g .loop .inv in
-    window-full protocol2 laws _ _ _ _ _ _ _ w _ _ (waits g) (c .if4 .taken) (not-none _ (c .before .before .if2 .left))
+    let f = window-full protocol2 laws _ _ _ _ _ _ _ w _ (waits g) (c .if4 .taken) (not-none _ (c .before .before .if2 .left)) in
+    (w .size, f .0, f .1)
 
 least-requires-2 : tie.Need-least-requires-2 Inv-loop μ-loop
 least-requires-2 c κs = search needs
@@ -123,13 +129,16 @@ module _ (l : tie.After-least3 Inv-loop μ-loop) where
   abbrev m : ℕ
   m = l .least3 .result
 
+  patient : Patient protocol2 (drop (start g) (take (p g .loop .end) (p g .loop .held))) (lacks g)
+  patient = wants g (window-waits protocol2 laws _ _ _ _ _ _ _ (p g .loop .inv) _ (waits g) (l .before .before .before .if3 .left))
+
   some : 0 < m
   some =
       omega (
         arith,
         l .least3 .ensures,
         l .before .least2 .ensures,
-        waits g .patient .some,
+        patient .some,
         not-none _ (l .before .before .if4 .left),
         not-none _ (l .before .before .before .before .if2 .left),
       )
@@ -155,7 +164,7 @@ part-append-end c = taken-fits (c .before)
 append-requires : tie.Need-append-requires Inv-loop μ-loop
 append-requires c κs =
     let l = c .before .before in
-    window-room protocol2 laws _ _ _ _ _ _ _ (p (g l) .loop .inv) _ _ (waits (g l)) (m l)
+    window-room protocol2 laws _ _ _ _ _ _ _ (p (g l) .loop .inv) _ (waits (g l)) (m l)
     (omega (arith, l .least3 .ensures, l .before .least2 .ensures))
 
 -- and they stand behind it
@@ -184,7 +193,7 @@ loop-again : tie.Need-loop-again Inv-loop μ-loop
 loop-again c =
     let j = c .before in
     let l = l2 j in
-    window-more protocol2 laws _ _ _ _ _ _ _ (p (g l) .loop .inv) _ _ (waits (g l)) _ (m l) _ (within l) (taken-fits l) (room j) (j .held .given)
+    window-more protocol2 laws _ _ _ _ _ _ _ (p (g l) .loop .inv) _ (waits (g l)) _ _ (m l) _ (patient l) (within l) (taken-fits l) (room j) (j .held .given)
     (j .before .append .ensures .2)
 
 pub fill-spec : {M : Type 1} → statement M

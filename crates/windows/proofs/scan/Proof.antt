@@ -2,13 +2,14 @@ use mathlib.Core.Logic.{⊎-elim}
 use borrow.Author.Needs.{needs}
 use mathlib.Core.Path.{_≡_, refl, sym, _∙_}
 use Prim.Native.Nat.{_-_, _≤_}
+use native.Mathlib.Omega.{arith}
 use lib.ListN.{length, drop}
 use Rattle.reading.specs.Calls.{first}
 use Rattle.packet.specs.Verdict.{protocol2}
 use Rattle.packet.proofs.Laws.{laws}
 use Rattle.windows.specs.Scan.{modeOf}
 use Rattle.windows.proofs.Scans.{was-packet, was-bad, was-waiting, was-nothing, scan-packet, scan-bad, scan-nothing}
-use Rattle.windows.proofs.Scans.{scan-blank, scan-end, scan-waits, scan-past}
+use Rattle.windows.proofs.Scans.{scan-end, scan-waits, scan-wants, scan-past}
 use Rattle.windows.proofs.scan.Statement.{statement}
 use Rattle.windows.proofs.scan.Tie as tie
 
@@ -32,8 +33,8 @@ returns : tie.Need-returns Inv-loop μ-loop
 returns c =
     let j = c .before .before .before in
     let i = j .before .before .loop .inv in
-    scan-packet protocol2 laws _ _ _ _ (i .0) (i .2) _ (search needs)
-    (was-packet _ _ _ (sym (j .judge .ensures) ∙ c .before .count .given .1))
+    let v = was-packet _ _ _ (sym (j .judge .ensures) ∙ c .before .count .given .1) in
+    (scan-packet protocol2 laws _ _ _ _ (i .0) (i .2) _ (search needs) v, refl)
 
 enum-known-id : tie.Need-enum-known-id Inv-loop μ-loop
 enum-known-id c = search needs
@@ -42,8 +43,8 @@ returns-2 : tie.Need-returns-2 Inv-loop μ-loop
 returns-2 c =
     let j = c .before .before .before in
     let i = j .before .before .loop .inv in
-    scan-bad protocol2 laws _ _ _ _ (i .0) (i .2) _ (search needs) (search needs)
-    (was-bad _ _ _ (sym (j .judge .ensures) ∙ c .before .id .given .1))
+    let v = was-bad _ _ _ (sym (j .judge .ensures) ∙ c .before .id .given .1) in
+    (scan-bad protocol2 laws _ _ _ _ (i .0) (i .2) _ (search needs) (search needs) v, refl)
 
 enum-known-lacks : tie.Need-enum-known-lacks Inv-loop μ-loop
 enum-known-lacks c = search needs
@@ -52,8 +53,10 @@ returns-3 : tie.Need-returns-3 Inv-loop μ-loop
 returns-3 c =
     let j = c .before .before .before .before in
     let i = j .before .before .loop .inv in
-    let w = was-waiting _ _ _ (sym (j .judge .ensures) ∙ c .before .before .lacks .given .1) in
-    scan-waits protocol2 laws _ _ _ (i .0) (search needs) (w .0) _ _ (c .if1 .taken) (w .1) (i .2)
+    let w = was-waiting _ _ _ (sym (j .judge .ensures) ∙ c .before .before .lacks .given .1) in (
+      scan-waits protocol2 laws _ _ _ (i .0) (search needs) (w .0) _ (c .if1 .taken) (i .2),
+      λ _. scan-wants protocol2 laws _ _ _ (i .0) (search needs) (w .0) _ (w .1),
+    )
 
 enum-told : tie.Need-enum-told Inv-loop μ-loop
 enum-told c = search needs
@@ -79,22 +82,11 @@ loop-again c =
           (c .match .came),
     )
 
-judge-requires-2 : tie.Need-judge-requires-2 Inv-loop μ-loop
-judge-requires-2 c κs = search needs
-
-enum-known-lacks-2 : tie.Need-enum-known-lacks-2 Inv-loop μ-loop
-enum-known-lacks-2 c = search needs
-
 returns-4 : tie.Need-returns-4 Inv-loop μ-loop
 returns-4 c =
-    let i = c .before .before .before .before .before .loop .inv in
-    let w = was-waiting _ _ _ (sym (c .before .before .before .judge2 .ensures) ∙ c .before .lacks2 .given .1) in
-    scan-blank protocol2 laws _ _ _ _ (i .0) (i .2) _ (search needs) (search needs) (w .0) (w .1)
-
-returns-5 : tie.Need-returns-5 Inv-loop μ-loop
-returns-5 c =
-    let i = c .before .before .before .loop .inv in
-    scan-end protocol2 laws _ _ _ _ (i .0) (i .2) (search needs) (search needs) (search needs)
+    let i = c .before .loop .inv in
+    let l = c .loop-test .left in
+    (scan-end protocol2 laws _ _ _ _ (i .0) (i .2) l (search needs), λ h. absurd (omega arith))
 
 pub scan-spec : {M : Type 1} → statement M
 scan-spec =
@@ -114,7 +106,4 @@ scan-spec =
     add-at
     loop-less
     loop-again
-    judge-requires-2
-    enum-known-lacks-2
-    returns-4
-    returns-5)
+    returns-4)

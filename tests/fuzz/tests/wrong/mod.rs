@@ -1,7 +1,7 @@
 //! Exports that are wrong in one thing each.
 
 use compare::{Calls, PROVED};
-use exports::{Answer, Registered, Step};
+use exports::{Answer, Reader, Registered, Step};
 use std::hint::black_box;
 
 pub struct Wrong {
@@ -26,12 +26,15 @@ pub fn all() -> Vec<Wrong> {
         wrong("dxl_feed", "the answer", Calls { feed: no_longest_packet, ..PROVED }),
         wrong("dxl_feed", "the count of held bytes, with the words around it", Calls { feed: skips_a_failed_packet, ..PROVED }),
         wrong("dxl_gap", "the packet buffer", Calls { gap: leaves_the_packet, ..PROVED }),
+        wrong("dxl_reader_feed", "the count of held bytes", Calls { reader_feed: forgets_the_count, ..PROVED }),
+        wrong("dxl_reader_gap", "the held bytes", Calls { reader_gap: leaves_a_held_byte, ..PROVED }),
         wrong("dxl_fresh", "the answer", Calls { fresh: any_length, ..PROVED }),
         wrong("dxl_measure", "the table", Calls { measure: short_position, ..PROVED }),
         wrong("dxl_device", "the reply buffer", Calls { device: other_error, ..PROVED }),
         wrong("dxl_device", "the table", Calls { device: stores_one_by_one, ..PROVED }),
         wrong("dxl_device", "the answer", Calls { device: keeps_registered, ..PROVED }),
         wrong("dxl_exchange", "the body buffer", Calls { exchange: body_before_the_tests, ..PROVED }),
+        wrong("dxl_exchange", "the answer", Calls { exchange: hears_a_wrong_checksum, ..PROVED }),
         wrong("dxl_device", "the bytes around the table", Calls { device: before_the_table, ..PROVED }),
     ]
 }
@@ -131,6 +134,24 @@ fn leaves_the_packet(held: &mut [u8; 1030], count: &mut usize, packet: &mut [u8;
     step
 }
 
+/// The count of held bytes is not stored.
+fn forgets_the_count(reader: &mut Reader, chunk: &[u8], packet: &mut [u8; 1031]) -> Step {
+    let before = reader.count;
+    let step = exports::reader_feed(reader, chunk, packet);
+    reader.count = before;
+    step
+}
+
+/// A finished gap does not clear the record.
+fn leaves_a_held_byte(reader: &mut Reader, packet: &mut [u8; 1031]) -> Step {
+    let first = reader.bytes[0];
+    let step = exports::reader_gap(reader, packet);
+    if step.kind == 0 {
+        reader.bytes[0] = first;
+    }
+    step
+}
+
 fn any_length(table: &mut [u8]) -> i64 {
     exports::fresh(table).max(if table.len() > 136 { 0 } else { -21 })
 }
@@ -176,6 +197,16 @@ fn body_before_the_tests(table: &mut [u8], registered: Registered, packet: &[u8]
         exports::unstuff(&packet[7..packet.len() - 2], body);
     }
     answer
+}
+
+/// The checksum of a packet as received is put right first.
+fn hears_a_wrong_checksum(table: &mut [u8], registered: Registered, packet: &[u8], body: &mut [u8], reply: &mut [u8]) -> Answer {
+    let mut mended = packet.to_vec();
+    if let Some(end) = packet.len().checked_sub(2) {
+        let sum = exports::crc16(0, &packet[..end]);
+        mended[end..].copy_from_slice(&sum.to_le_bytes());
+    }
+    exports::exchange(table, registered, &mended, body, reply)
 }
 
 fn before_the_table(table: &mut [u8], registered: Registered, kind: u8, id: u8, body: &[u8], reply: &mut [u8]) -> Answer {

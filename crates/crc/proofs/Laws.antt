@@ -1,0 +1,51 @@
+-- The laws of the checksum that other crates cite: it goes on where another left off, and it stays within 16 bits.
+use mathlib.Core.Path.{_≡_, refl, ap}
+use mathlib.Core.List.{List, [], _∷_, _++_}
+use Prim.Native.Nat.{ℕ, zero, suc, _+_, _*_, _/_, _%_, _^_, _≤_, _<_}
+use native.Mathlib.Nat.{mod-lt}
+use native.Mathlib.Numerals.{add-one}
+use native.Mathlib.Omega.{arith}
+use lib.Pow.{pow-pos}
+use lib.Bits.{bitXor, xor-lt}
+use lib.ListN.{length, getD, drop, drop-of-length-le}
+use lib.Seq.{drop-cons}
+use Rattle.lists.proofs.Xor.{bit-lt}
+use Rattle.crc.specs.Crc.{polynomial, shift, shifts, crcByte, crcFrom}
+use Rattle.crc.proofs.Linear.{shift-flat}
+
+-- going on over y from the sum of x is the sum of both joined; either may be empty
+pub crc-append : (start : ℕ) (x y : List ℕ) → crcFrom (crcFrom start x) y ≡ crcFrom start (x ++ y)
+unfolding crcFrom
+crc-append start [] y = refl
+crc-append start (b ∷ x) y = crc-append (crcByte start b) x y
+
+shift-lt : (c : ℕ) → shift c < 2 ^ 16
+shift-lt c =
+    let top : c / 2 ^ 15 % 2 < 2 = bit-lt (c / 2 ^ 15) in
+    rw (shift-flat c)
+    (xor-lt 16 (c * 2 % 2 ^ 16) (c / 2 ^ 15 % 2 * polynomial) (mod-lt (c * 2) (pow-pos 16)) (omega arith))
+
+shifts-lt : (n c : ℕ) → c < 2 ^ 16 → shifts n c < 2 ^ 16
+unfolding shifts
+shifts-lt zero c h = h
+shifts-lt (suc n) c h = shifts-lt n (shift c) (shift-lt c)
+
+pub crcByte-lt : (c b : ℕ) → crcByte c b < 2 ^ 16
+unfolding crcByte shifts
+crcByte-lt c b = shifts-lt 7 (shift (bitXor c (b * 2 ^ 8))) (shift-lt (bitXor c (b * 2 ^ 8)))
+
+pub crc-lt : (start : ℕ) (s : List ℕ) → start < 2 ^ 16 → crcFrom start s < 2 ^ 16
+unfolding crcFrom
+crc-lt start [] h = h
+crc-lt start (b ∷ s) h = crc-lt (crcByte start b) s (crcByte-lt start b)
+
+-- a loop's turn: the byte at i goes in
+pub crc-turn : (c : ℕ) (s : List ℕ) (i : ℕ) → i < length s
+    → crcFrom (crcByte c (getD s i 0)) (drop (i + 1) s) ≡ crcFrom c (drop i s)
+unfolding crcFrom
+crc-turn c s i h = rw (add-one, drop-cons s i 0)
+
+-- a loop's end: nothing is left
+pub crc-done : (c : ℕ) (s : List ℕ) (i : ℕ) → length s ≤ i → crcFrom c (drop i s) ≡ c
+unfolding crcFrom
+crc-done c s i h = ap (crcFrom c) (drop-of-length-le s h)

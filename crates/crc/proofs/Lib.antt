@@ -1,0 +1,4 @@
+pub mod Linear
+pub mod Laws
+pub mod Lookup
+pub mod Examples

@@ -1,0 +1,1 @@
+// The checksum of Protocol 2.0, defined as a shift register, with its laws. There are no functions here; `crc16` computes it.

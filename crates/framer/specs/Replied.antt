@@ -1,0 +1,34 @@
+-- What the parts of a call come to before the buffers' ends are cleared.
+use mathlib.Core.Path.{_≡_}
+use mathlib.Core.List.{List}
+use mathlib.Core.Option.{Option, none, some}
+use Prim.Native.Nat.{ℕ}
+use lib.ListN.{length, take}
+use Rattle.reading.specs.Reading.{Event, packet, badChecksum}
+use Rattle.reading.specs.Calls.{Reply}
+use Rattle.packet_front.specs.Front.{idOf}
+use Rattle.framer.specs.declared.StepEvent.{StepEvent}
+use Rattle.framer.specs.declared.StepEvent.the-variants.{Packet, BadChecksum, Silent, Refused}
+use Rattle.framer.specs.declared.Step.{Step}
+use Rattle.framer.specs.Answer.{bytesOf}
+
+-- the event, where a packet's ID is read from its buffer
+abbrev pub eventWith : ℕ → Option Event → StepEvent
+eventWith id (some (packet w)) = Packet id (length w)
+eventWith _ (some (badChecksum id)) = BadChecksum id
+eventWith _ none = Silent
+
+-- the byte count of the event's packet
+abbrev pub sizeIn : StepEvent → ℕ
+sizeIn (Packet id n) = n
+sizeIn (BadChecksum id) = 0
+sizeIn Silent = 0
+sizeIn Refused = 0
+
+-- the step says what the reply says; the held bytes and the packet's bytes stand at the start of their buffers
+pub record Replied (r : Reply) (step : Step) (held bytes : List ℕ) : Type 0 where
+  pub taken-is : step .taken ≡ r .taken
+  pub event-is : step .event ≡ eventWith (idOf bytes) (r .answer)
+  pub count-is : step .held ≡ length (r .held)
+  pub held-is : take (step .held) held ≡ r .held
+  pub bytes-are : take (length (bytesOf (r .answer))) bytes ≡ bytesOf (r .answer)

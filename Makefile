@@ -5,7 +5,7 @@ SHELL := /bin/sh
 .DELETE_ON_ERROR:
 # rt works in one target/ folder, so two of its runs must never overlap.
 .NOTPARALLEL:
-.PHONY: help run checksum demo lib test fuzz replay bench memory mutants fmt clean kit format promises_test vectors_test c_test header_test demo_test rust_test
+.PHONY: help run checksum demo lib test fuzz replay bench memory mutants fmt clean kit format promises_test vectors_test c_test header_test demo_test programs_test rust_test
 .PHONY: fuzz_program replay_file
 
 # Each crate listed here becomes an archive for C: capi is libmednukals.a, capi_NAME is libmednukals_NAME.a.
@@ -19,7 +19,6 @@ SOURCES := crates.txt $(shell find crates -path '*/must-fail' -prune -o -print)
 
 CC := gcc
 WARNINGS := -std=c99 -Wall -Wextra -Wpedantic -Werror
-CAPTURE ?= examples/capture.bin
 
 # $(call need,TOOL): one clear line where a tool is missing.
 need = command -v $(1) >/dev/null 2>&1 || { echo "mednukals: $(1) is needed and is not on the PATH" >&2; exit 1; }
@@ -40,23 +39,15 @@ help:
 	@echo 'make fmt    format every Rattle file'
 	@echo 'make clean  remove build/ and target/'
 
-# $(call on_capture,PROGRAM,WHAT): the program over a file, or over standard input where CAPTURE is -
-define on_capture
-	@if [ '$(CAPTURE)' = - ]; then \
-	    echo '$(2) standard input:'; $(1); \
-	elif [ -r '$(CAPTURE)' ]; then \
-	    echo '$(2) $(CAPTURE):'; $(1) <'$(CAPTURE)'; \
-	else \
-	    echo 'mednukals: $(CAPTURE) is no file that can be read' >&2; exit 1; \
-	fi
-endef
+# The name goes to the shell through the environment, and unexpanded: quotes, dollars and spaces in it are its own.
+run checksum: export MEDNUKALS_CAPTURE := $(value CAPTURE)
+unexport CAPTURE
 
 run: build/bin/line
-	$(call on_capture,build/bin/line,events in)
+	@sh tools/run_program.sh $< 'end [0-9]+' 'events in' "$${MEDNUKALS_CAPTURE:-examples/capture.bin}"
 
-checksum: CAPTURE = examples/ping.bin
 checksum: build/bin/checksum
-	$(call on_capture,build/bin/checksum,checksum and byte count of)
+	@sh tools/run_program.sh $< '[0-9a-f]{4} [0-9]+' 'checksum and byte count of' "$${MEDNUKALS_CAPTURE:-examples/ping.bin}"
 
 $(PROGRAMS:%=build/bin/%): build/bin/%: $(SOURCES)
 	@$(call need,rt)
@@ -117,6 +108,10 @@ demo: build/c/board
 demo_test: build/c/board build/c/refusing_board
 	@$(call need,python3)
 	@python3 tests/demo_test.py build/c/board build/c/refusing_board || $(call failed,the test of board and master)
+
+programs_test: $(PROGRAMS:%=build/bin/%)
+	@$(call need,python3)
+	@python3 tests/programs_test.py build/bin/line build/bin/checksum || $(call failed,the test of the programs line and checksum)
 
 header_test: $(LIBS)
 	@$(call need,python3)

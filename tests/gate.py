@@ -18,13 +18,14 @@ from pathlib import Path
 EDITS_BEGIN = "rt: must-fail "
 KEPT = ["rlib", "obj", "bin", "log", "stamp"]  # of target/: what rt goes by to see that a crate is proved
 ARCHIVES = {"capi": "libmednukals.a", "capi_test": "libmednukals_test.a"}
-TESTS = ["c_test", "header_test", "demo_test", "rust_test"]
+PROGRAMS = ["line", "checksum"]
+TESTS = ["c_test", "header_test", "programs_test", "demo_test", "rust_test"]
 # what the tests link is there: make must not call rt beside the command
-MADE = [word for archive in ARCHIVES.values() for word in ("-o", f"build/lib/{archive}")] + ["-o", "build/bin/line"]
+MADE = [f"build/lib/{archive}" for archive in ARCHIVES.values()] + [f"build/bin/{program}" for program in PROGRAMS]
 
 
 def archives(room):
-    """Archives and the line program under build/, from what is proved."""
+    """Archives and programs under build/, from what is proved."""
     shutil.copytree("crates", room / "crates")
     shutil.copy("crates.txt", room)
     for part in KEPT:
@@ -36,7 +37,8 @@ def archives(room):
         if made.returncode != 0:
             return f"the archive of {crate}: {made.stdout[-2000:]}{made.stderr[-2000:]}"
         shutil.copy(room / "target" / "staticlib" / f"lib{crate}.a", Path("build/lib") / archive)
-    shutil.copy(room / "target" / "bin" / "line", "build/bin/line")
+    for program in PROGRAMS:
+        shutil.copy(room / "target" / "bin" / program, Path("build/bin") / program)
     return ""
 
 
@@ -51,7 +53,7 @@ class Tests(threading.Thread):
         with tempfile.TemporaryDirectory(prefix="mednukals-") as room:
             self.fault = archives(Path(room))
         if not self.fault:
-            made = subprocess.run(["make", "--no-print-directory", *MADE, *TESTS], stdout=subprocess.PIPE, stderr=subprocess.STDOUT,
+            made = subprocess.run(["make", "--no-print-directory", *(f"--old-file={file}" for file in MADE), *TESTS], stdout=subprocess.PIPE, stderr=subprocess.STDOUT,
                                   text=True)
             self.said = made.stdout
             self.fault = "a test" if made.returncode != 0 else ""

@@ -5,7 +5,7 @@ SHELL := /bin/sh
 .DELETE_ON_ERROR:
 # rt works in one target/ folder, so two of its runs must never overlap.
 .NOTPARALLEL:
-.PHONY: help run checksum demo lib test fuzz replay bench memory mutants fmt clean kit format promises_test vectors_test c_test header_test demo_test programs_test rust_test
+.PHONY: help run checksum demo lib test fuzz replay bench memory mutants fmt clean kit format promises_test vectors_test c_test header_test demo_test programs_test make_test rust_test
 .PHONY: fuzz_program replay_file
 
 # Each crate listed here becomes an archive for C: capi is libmednukals.a, capi_NAME is libmednukals_NAME.a.
@@ -24,20 +24,55 @@ WARNINGS := -std=c99 -Wall -Wextra -Wpedantic -Werror
 need = command -v $(1) >/dev/null 2>&1 || { echo "mednukals: $(1) is needed and is not on the PATH" >&2; exit 1; }
 # COMMAND || $(call failed,WHAT)
 failed = { echo "mednukals: FAILED: $(1)" >&2; exit 1; }
+# $(call step,NAME,LABEL) COMMAND: one line with its time, and the command's output in build/log/NAME.log
+step = sh tools/step.sh $(1) '$(2)'
+
+# One line for each target, and one for each of its variables; tests/make_test.py holds it to the targets.
+define HELP
+use it
+  make run                 print the packets and bad checksums in a capture, by the proved program line
+      CAPTURE=FILE         a capture of your own; - is standard input
+  make checksum            print the checksum and byte count of a file, likewise
+      CAPTURE=FILE         a file of your own; - is standard input
+  make demo                run a device in C on a pseudo-terminal, talk to it and show the exchanges
+  make lib                 prove the exports and build the archives that C links, under build/lib
+
+prove and test it
+  make test                the gate: every proof from nothing, every must-fail edit, and all that follows down to rust_test
+  make kit                 the tools that are needed, and the kit's version
+  make format              the layout of the Rattle files
+  make promises_test       docs/PROMISES.md and docs/BELIEVE.md beside the tree
+  make vectors_test        the input of the program vectors beside the published packets
+  make make_test           these commands themselves
+  make c_test              the archive from C: published packets, and the loop that the header shows
+  make header_test         the header beside the archive
+  make programs_test       the programs line and checksum where something is wrong
+  make demo_test           the example board and its master
+  make rust_test           every export beside the second implementation
+  make fuzz                the same on random cases, for ten minutes
+      SECONDS=N            for so long
+      SEED=S               the cases of an earlier run
+  make replay FILE=FILE    run a case again in which make fuzz has found a difference
+  make mutants CRATE=NAME  change a crate's source in one place at a time and sort what the checker says
+      DEFINITIONS=1        change its definitions instead
+      SINCE=REV            only in lines that are new since that commit
+      MOST=N SEED=S        only N of the changes, drawn by that seed
+
+measure it
+  make bench               the exports beside plain C, as ratios
+      RUNS=N               so many times, with the medians
+  make memory              records, answers, stack depths and the archive's size
+
+keep it tidy
+  make fmt                 format every Rattle file
+  make clean               remove build/ and target/
+
+A step prints one line, with its time in seconds; what it says besides is in build/log.
+endef
 
 help:
-	@echo 'make run    print the packets and bad checksums in a capture, by the proved program (CAPTURE=FILE; CAPTURE=- reads standard input)'
-	@echo 'make checksum  print the checksum and byte count of a file, likewise (CAPTURE=FILE or -)'
-	@echo 'make demo   run a device in C on a pseudo-terminal, talk to it and show the exchanges'
-	@echo 'make lib    prove the exports and build the archives that C links: $(LIBS)'
-	@echo 'make test   the gate: formatting, every proof from nothing and every must-fail edit, C and Rust tests'
-	@echo 'make fuzz   compare all exports with the second implementation for 10 minutes (SECONDS=N, SEED=S)'
-	@echo 'make replay FILE=FILE  run a case again in which make fuzz has found a difference'
-	@echo 'make bench  measure the exports beside plain C, as ratios (RUNS=N repeats it and gives the medians)'
-	@echo 'make memory  print the size of records and answers, the stack depth of each export and the size of the archive'
-	@echo 'make mutants CRATE=NAME  change the source of a crate in one place at a time and sort what the checker says (DEFINITIONS=1: its definitions)'
-	@echo 'make fmt    format every Rattle file'
-	@echo 'make clean  remove build/ and target/'
+	$(info $(HELP))
+	@:
 
 # The name goes to the shell through the environment, and unexpanded: quotes, dollars and spaces in it are its own.
 run checksum: export MEDNUKALS_CAPTURE := $(value CAPTURE)
@@ -51,22 +86,23 @@ checksum: build/bin/checksum
 
 $(PROGRAMS:%=build/bin/%): build/bin/%: $(SOURCES)
 	@$(call need,rt)
-	@rt check $* || $(call failed,proving and building the program $*)
+	@$(call step,program-$*,proving and building the program $*) rt check $*
 	@mkdir -p $(@D) && cp target/bin/$* $@
 
 lib: $(LIBS)
+	@echo 'archives: $(LIBS)'
 
 define archive_rule
 $(call archive,$(1)): $(SOURCES)
 	@$$(call need,rt)
-	@rt staticlib $(1) || $$(call failed,proving and building the archive of $(1))
+	@$$(call step,archive-$(1),proving the exports and building $$@) rt staticlib $(1)
 	@mkdir -p $$(@D) && cp target/staticlib/lib$(1).a $$@
 endef
 $(foreach crate,$(EXPORT_CRATES),$(eval $(call archive_rule,$(crate))))
 
 # rt ci comes last: it removes target/, and its count is the last line. The tests that link the archives run beside it.
-test: kit format promises_test vectors_test
-	@python3 tests/gate.py rt ci || $(call failed,rt ci and the tests beside it)
+test: kit format promises_test vectors_test make_test
+	@python3 tests/gate.py rt ci
 
 # Another kit may prove the same crates, so a difference is only said.
 kit:
@@ -78,11 +114,11 @@ kit:
 	@[ "$$(rt version)" = "$$(cat KIT)" ] || echo "WARNING: the project is written for the kit $$(cat KIT)" >&2
 
 format:
-	@rt fmt --check || $(call failed,the layout of a Rattle file; make fmt puts it right)
+	@$(call step,format,layout of the Rattle files (make fmt puts it right)) rt fmt --check
 
 c_test: build/c/published build/c/exchange
-	@build/c/published tests/vectors/packets.txt || $(call failed,the C test)
-	@build/c/exchange || $(call failed,the C test of the loop in the header)
+	@$(call step,published,published packets through the archive) build/c/published tests/vectors/packets.txt
+	@$(call step,exchange,the loop that the header shows) build/c/exchange
 
 build/c/published build/c/exchange: build/c/%: tests/c/%.c include/mednukals.h build/lib/libmednukals.a
 	@$(call need,$(CC))
@@ -107,29 +143,34 @@ demo: build/c/board
 
 demo_test: build/c/board build/c/refusing_board
 	@$(call need,python3)
-	@python3 tests/demo_test.py build/c/board build/c/refusing_board || $(call failed,the test of board and master)
+	@$(call step,demo_test,example board and its master) python3 tests/demo_test.py build/c/board build/c/refusing_board
 
 programs_test: $(PROGRAMS:%=build/bin/%)
 	@$(call need,python3)
-	@python3 tests/programs_test.py build/bin/line build/bin/checksum || $(call failed,the test of the programs line and checksum)
+	@$(call step,programs_test,programs line and checksum where something is wrong) \
+	    python3 tests/programs_test.py build/bin/line build/bin/checksum
 
 header_test: $(LIBS)
 	@$(call need,python3)
-	@python3 tests/check_header.py include/mednukals.h build/lib/libmednukals.a || $(call failed,the header beside the archive)
+	@$(call step,check_header,header beside the archive) python3 tests/check_header.py include/mednukals.h build/lib/libmednukals.a
 
 promises_test:
 	@$(call need,python3)
-	@python3 tests/check_promises.py || $(call failed,docs/PROMISES.md beside the tree)
-	@python3 tests/check_believe.py || $(call failed,docs/BELIEVE.md beside the tree)
+	@$(call step,check_promises,docs/PROMISES.md beside the tree) python3 tests/check_promises.py
+	@$(call step,check_believe,docs/BELIEVE.md beside the tree) python3 tests/check_believe.py
+
+make_test:
+	@$(call need,python3)
+	@$(call step,make_test,the commands: make help and quiet steps; gate.py) python3 tests/make_test.py
 
 # The rest is in tests/vectors, and rt ci holds the proved program to its stored run.
 vectors_test:
 	@$(call need,python3)
-	@python3 tests/check_vectors.py || $(call failed,the input of the program vectors beside the published packets)
+	@$(call step,check_vectors,input of the program vectors beside the published packets) python3 tests/check_vectors.py
 
 rust_test: $(LIBS) build/bin/line
 	@$(call need,cargo)
-	@cd tests && cargo test --release --offline --quiet || $(call failed,the comparison tests)
+	@$(call step,rust_test,comparison with the second implementation) sh -c 'cd tests && exec cargo test --release --offline --quiet'
 
 # Ends at the first difference, with a file under build/fuzz that replays it. The same seed gives the same cases.
 SECONDS ?= 600
@@ -148,7 +189,8 @@ replay_file:
 
 fuzz_program: $(LIBS)
 	@$(call need,cargo)
-	@cd tests && cargo build --release --offline --quiet --bin fuzz || $(call failed,building the search for differences)
+	@$(call step,fuzz_program,building the search for differences) \
+	    sh -c 'cd tests && exec cargo build --release --offline --quiet --bin fuzz'
 
 RUNS ?= 1
 BENCH_SOURCES := tests/bench/bench.c tests/bench/baseline.c tests/bench/baseline_reader.c tests/bench/baseline_device.c

@@ -5,7 +5,7 @@ SHELL := /bin/sh
 .DELETE_ON_ERROR:
 # rt works in one target/ folder, so two of its runs must never overlap.
 .NOTPARALLEL:
-.PHONY: help run checksum demo lib test fuzz replay bench memory mutants fmt clean kit format promises_test vectors_test c_test header_test demo_test programs_test make_test rust_test
+.PHONY: help run checksum demo lib test fuzz replay bench memory mutants fmt clean kit format promises_test constants_test vectors_test c_test header_test demo_test programs_test make_test rust_test
 .PHONY: fuzz_program replay_file
 
 # Each crate listed here becomes an archive for C: capi is libmednukals.a, capi_NAME is libmednukals_NAME.a.
@@ -42,6 +42,7 @@ prove and test it
   make kit                 the tools that are needed, and the kit's version
   make format              the layout of the Rattle files
   make promises_test       docs/PROMISES.md and docs/BELIEVE.md beside the tree
+  make constants_test      the names for numbers in the header beside the definitions
   make vectors_test        the input of the program vectors beside the published packets
   make make_test           these commands themselves
   make c_test              the archive from C: published packets, and the loop that the header shows
@@ -101,7 +102,7 @@ endef
 $(foreach crate,$(EXPORT_CRATES),$(eval $(call archive_rule,$(crate))))
 
 # rt ci comes last: it removes target/, and its count is the last line. The tests that link the archives run beside it.
-test: kit format promises_test vectors_test make_test
+test: kit format promises_test constants_test vectors_test make_test
 	@python3 tests/gate.py rt ci
 
 # Another kit may prove the same crates, so a difference is only said.
@@ -158,6 +159,10 @@ promises_test:
 	@$(call need,python3)
 	@$(call step,check_promises,docs/PROMISES.md beside the tree) python3 tests/check_promises.py
 	@$(call step,check_believe,docs/BELIEVE.md beside the tree) python3 tests/check_believe.py
+
+constants_test:
+	@$(call need,python3)
+	@$(call step,check_constants,names for numbers in the header beside the definitions) python3 tests/check_constants.py include/mednukals.h
 
 make_test:
 	@$(call need,python3)

@@ -19,11 +19,6 @@
 /* Exit codes. */
 enum { ENDED = 0, FAILED = 1, BAD_OPTION = 2, REFUSED = 3 };
 
-/* The registers that are read here. */
-enum { ID = 7, TORQUE_ENABLE = 64, GOAL_POSITION = 116 };
-
-enum { PING = 0x01 };
-
 /* The arm moves by at most ARM_STEP in ARM_TICK microseconds. */
 enum { ARM_TICK = 10000, ARM_STEP = 32 };
 
@@ -219,12 +214,12 @@ static int32_t signed_at(size_t address)
 /* Stands in for motor and sensor: towards the goal while torque is on, and the table learns where the arm is. */
 static void move_arm(void)
 {
-    int64_t way = (int64_t)signed_at(GOAL_POSITION) - position;
+    int64_t way = (int64_t)signed_at(DXL_REG_GOAL_POSITION) - position;
     if (way > ARM_STEP)
         way = ARM_STEP;
     if (way < -ARM_STEP)
         way = -ARM_STEP;
-    if (table[TORQUE_ENABLE] != 0)
+    if (table[DXL_REG_TORQUE_ENABLE] != 0)
         position += (int32_t)way;
     accepted("dxl_measure", dxl_measure(table, sizeof table, position, 0));
 }
@@ -286,7 +281,7 @@ static void expect_checksum(const uint8_t *bytes, size_t n)
 static void self_test(void)
 {
     uint8_t ping[16];
-    size_t n = accepted("dxl_encode", dxl_encode(table[ID], PING, body, 0, ping, sizeof ping, 0));
+    size_t n = accepted("dxl_encode", dxl_encode(table[DXL_REG_ID], DXL_INST_PING, body, 0, ping, sizeof ping, 0));
     expect_checksum(ping, n);
     struct dxl_step step = dxl_feed(held, &count, ping, n, packet);
     if (!is_event("dxl_feed", step) || step.count != n || memcmp(packet, ping, n) != 0)
@@ -433,7 +428,7 @@ int main(int argc, char **argv)
     if (argc > 0)
         take_options(argv + 1);
     accepted("dxl_fresh", dxl_fresh(table, sizeof table));
-    table[ID] = (uint8_t)own_id; /* as firmware brings back what it keeps of ROM */
+    table[DXL_REG_ID] = (uint8_t)own_id; /* as firmware brings back what it keeps of ROM */
     self_test();
     if (self_test_only)
         return ENDED;

@@ -5,7 +5,7 @@ SHELL := /bin/sh
 .DELETE_ON_ERROR:
 # rt works in one target/ folder, so two of its runs must never overlap.
 .NOTPARALLEL:
-.PHONY: help run checksum demo lib test fuzz replay bench memory mutants fmt clean kit format promises_test constants_test vectors_test c_test header_test demo_test programs_test make_test rust_test
+.PHONY: help run checksum demo lib install test fuzz replay bench memory mutants fmt clean kit format promises_test constants_test vectors_test c_test header_test demo_test programs_test install_test make_test rust_test
 .PHONY: fuzz_program replay_file
 
 # Each crate listed here becomes an archive for C: capi is libmednukals.a, capi_NAME is libmednukals_NAME.a.
@@ -18,8 +18,10 @@ LIBS := $(foreach crate,$(EXPORT_CRATES),$(call archive,$(crate)))
 SOURCES := crates.txt $(shell find crates -path '*/must-fail' -prune -o -print)
 
 CC := gcc
+CXX := g++
 WARNINGS := -std=c99 -Wall -Wextra -Wpedantic -Werror
 
+comma := ,
 # $(call need,TOOL): one clear line where a tool is missing.
 need = command -v $(1) >/dev/null 2>&1 || { echo "mednukals: $(1) is needed and is not on the PATH" >&2; exit 1; }
 # COMMAND || $(call failed,WHAT)
@@ -36,6 +38,9 @@ use it
       CAPTURE=FILE         a file of your own; - is standard input
   make demo                run a device in C on a pseudo-terminal, talk to it and show the exchanges
   make lib                 prove the exports and build the archives that C links, under build/lib
+  make install             put header, archive and a pkg-config file below /usr/local
+      PREFIX=DIR           below that folder
+      DESTDIR=DIR          staged below that one, for a package
 
 prove and test it
   make test                the gate: every proof from nothing, every must-fail edit, and all that follows down to rust_test
@@ -46,7 +51,8 @@ prove and test it
   make vectors_test        the input of the program vectors beside the published packets
   make make_test           these commands themselves
   make c_test              the archive from C: published packets, and the loop that the header shows
-  make header_test         the header beside the archive
+  make header_test         the header beside the archive, and as C99 and C++11
+  make install_test        make install, and the version
   make programs_test       the programs line and checksum where something is wrong
   make demo_test           the example board and its master
   make rust_test           every export beside the second implementation
@@ -93,6 +99,13 @@ $(PROGRAMS:%=build/bin/%): build/bin/%: $(SOURCES)
 lib: $(LIBS)
 	@echo 'archives: $(LIBS)'
 
+# As CAPTURE above, these names are their own.
+install: export MEDNUKALS_PREFIX := $(if $(value PREFIX),$(value PREFIX),/usr/local)
+install: export MEDNUKALS_DESTDIR := $(value DESTDIR)
+unexport PREFIX DESTDIR
+install: build/lib/libmednukals.a
+	@sh tools/install.sh include/mednukals.h $< "$$MEDNUKALS_PREFIX" "$$MEDNUKALS_DESTDIR"
+
 define archive_rule
 $(call archive,$(1)): $(SOURCES)
 	@$$(call need,rt)
@@ -133,7 +146,6 @@ build/c/board: $(BOARD_SOURCES) examples/pty_line.h include/mednukals.h build/li
 	@$(CC) $(WARNINGS) -O2 -Iinclude -o $@ $(BOARD_SOURCES) build/lib/libmednukals.a || $(call failed,compiling the example board)
 
 # The board again, with a library that refuses what the test asks it to.
-comma := ,
 REFUSING := encode unstuff feed gap fresh measure device
 build/c/refusing_board: tests/c/refusing.c build/c/board
 	@$(CC) $(WARNINGS) -O2 -Iinclude -o $@ $(REFUSING:%=-Wl$(comma)--wrap=dxl_%) $(BOARD_SOURCES) $< build/lib/libmednukals.a \
@@ -151,9 +163,25 @@ programs_test: $(PROGRAMS:%=build/bin/%)
 	@$(call step,programs_test,programs line and checksum where something is wrong) \
 	    python3 tests/programs_test.py build/bin/line build/bin/checksum
 
-header_test: $(LIBS)
+header_test: $(LIBS) build/c/header_c99 build/c/header_cxx11
 	@$(call need,python3)
+	@$(call step,header,header as C99 and as C++11) sh -c 'build/c/header_c99 && build/c/header_cxx11'
 	@$(call step,check_header,header beside the archive) python3 tests/check_header.py include/mednukals.h build/lib/libmednukals.a
+
+build/c/header_c99: tests/c/header.c include/mednukals.h build/lib/libmednukals.a
+	@$(call need,$(CC))
+	@mkdir -p $(@D)
+	@$(CC) $(WARNINGS) -Iinclude -o $@ $< build/lib/libmednukals.a || $(call failed,the header as C99)
+
+build/c/header_cxx11: tests/c/header.c include/mednukals.h build/lib/libmednukals.a
+	@$(call need,$(CXX))
+	@mkdir -p $(@D)
+	@$(CXX) -std=c++11 -Wall -Wextra -Wpedantic -Werror -Iinclude -o $@ -x c++ $< -x none build/lib/libmednukals.a \
+	    || $(call failed,the header as C++11)
+
+install_test: build/lib/libmednukals.a
+	@$(call need,python3)
+	@$(call step,install_test,make install$(comma) a program with what is there$(comma) the version) python3 tests/install_test.py $(CC) $<
 
 promises_test:
 	@$(call need,python3)

@@ -23,6 +23,12 @@
 #include <stddef.h>
 #include <stdint.h>
 
+/* CHANGELOG.md says what each version has. */
+#define DXL_VERSION_MAJOR 0
+#define DXL_VERSION_MINOR 1
+#define DXL_VERSION_PATCH 0
+#define DXL_VERSION "0.1.0"
+
 #ifdef __cplusplus
 extern "C" {
 #endif

@@ -5,7 +5,7 @@ SHELL := /bin/sh
 .DELETE_ON_ERROR:
 # rt works in one target/ folder, so two of its runs must never overlap.
 .NOTPARALLEL:
-.PHONY: help run checksum demo lib install test fuzz replay bench memory mutants fmt clean kit format promises_test constants_test vectors_test c_test header_test demo_test programs_test install_test make_test rust_test
+.PHONY: help run checksum demo lib install test fuzz replay bench memory mutants fmt clean kit format promises_test constants_test vectors_test c_test header_test demo_test programs_test install_test docs_test make_test rust_test
 .PHONY: fuzz_program replay_file
 
 # Each crate listed here becomes an archive for C: capi is libmednukals.a, capi_NAME is libmednukals_NAME.a.
@@ -20,6 +20,7 @@ SOURCES := crates.txt $(shell find crates -path '*/must-fail' -prune -o -print)
 CC := gcc
 CXX := g++
 WARNINGS := -std=c99 -Wall -Wextra -Wpedantic -Werror
+CXX_WARNINGS := -std=c++11 -Wall -Wextra -Wpedantic -Werror
 
 comma := ,
 # $(call need,TOOL): one clear line where a tool is missing.
@@ -50,9 +51,10 @@ prove and test it
   make constants_test      the names for numbers in the header beside the definitions
   make vectors_test        the input of the program vectors beside the published packets
   make make_test           these commands themselves
-  make c_test              the archive from C: published packets, and the loop that the header shows
+  make c_test              the archive from C: published packets, the loop that the header shows, a board with a UART
   make header_test         the header beside the archive, and as C99 and C++11
   make install_test        make install, and the version
+  make docs_test           links, commands and code in the documents
   make programs_test       the programs line and checksum where something is wrong
   make demo_test           the example board and its master
   make rust_test           every export beside the second implementation
@@ -130,9 +132,10 @@ kit:
 format:
 	@$(call step,format,layout of the Rattle files (make fmt puts it right)) rt fmt --check
 
-c_test: build/c/published build/c/exchange
+c_test: build/c/published build/c/exchange build/c/uart_test
 	@$(call step,published,published packets through the archive) build/c/published tests/vectors/packets.txt
 	@$(call step,exchange,the loop that the header shows) build/c/exchange
+	@$(call step,uart_test,example board on a simulated UART) build/c/uart_test
 
 build/c/published build/c/exchange: build/c/%: tests/c/%.c include/mednukals.h build/lib/libmednukals.a
 	@$(call need,$(CC))
@@ -151,6 +154,13 @@ build/c/refusing_board: tests/c/refusing.c build/c/board
 	@$(CC) $(WARNINGS) -O2 -Iinclude -o $@ $(REFUSING:%=-Wl$(comma)--wrap=dxl_%) $(BOARD_SOURCES) $< build/lib/libmednukals.a \
 	    || $(call failed,compiling the refusing board)
 
+build/c/uart_test: tests/c/uart_test.c tests/c/refusing.c examples/uart_board.c examples/uart_board.h include/mednukals.h \
+    build/lib/libmednukals.a
+	@$(call need,$(CC))
+	@mkdir -p $(@D)
+	@$(CC) $(WARNINGS) -O2 -Iinclude -Iexamples -o $@ $(REFUSING:%=-Wl$(comma)--wrap=dxl_%) $(filter %.c %.a,$^) \
+	    || $(call failed,compiling the example board with a UART)
+
 demo: build/c/board
 	@sh examples/demo.sh build/c/board || $(call failed,the demo)
 
@@ -163,9 +173,9 @@ programs_test: $(PROGRAMS:%=build/bin/%)
 	@$(call step,programs_test,programs line and checksum where something is wrong) \
 	    python3 tests/programs_test.py build/bin/line build/bin/checksum
 
-header_test: $(LIBS) build/c/header_c99 build/c/header_cxx11
+header_test: $(LIBS) build/c/header_c99 build/c/header_cxx11 build/c/empty
 	@$(call need,python3)
-	@$(call step,header,header as C99 and as C++11) sh -c 'build/c/header_c99 && build/c/header_cxx11'
+	@$(call step,header,header as C99 and as C++11) sh -c 'build/c/header_c99 && build/c/header_cxx11 && build/c/empty'
 	@$(call step,check_header,header beside the archive) python3 tests/check_header.py include/mednukals.h build/lib/libmednukals.a
 
 build/c/header_c99: tests/c/header.c include/mednukals.h build/lib/libmednukals.a
@@ -176,8 +186,16 @@ build/c/header_c99: tests/c/header.c include/mednukals.h build/lib/libmednukals.
 build/c/header_cxx11: tests/c/header.c include/mednukals.h build/lib/libmednukals.a
 	@$(call need,$(CXX))
 	@mkdir -p $(@D)
-	@$(CXX) -std=c++11 -Wall -Wextra -Wpedantic -Werror -Iinclude -o $@ -x c++ $< -x none build/lib/libmednukals.a \
-	    || $(call failed,the header as C++11)
+	@$(CXX) $(CXX_WARNINGS) -Iinclude -o $@ -x c++ $< -x none build/lib/libmednukals.a || $(call failed,the header as C++11)
+
+build/c/empty: tests/c/empty.cpp include/mednukals.h build/lib/libmednukals.a
+	@$(call need,$(CXX))
+	@mkdir -p $(@D)
+	@$(CXX) $(CXX_WARNINGS) -Iinclude -o $@ $< build/lib/libmednukals.a || $(call failed,compiling the C++ test)
+
+docs_test: build/lib/libmednukals.a
+	@$(call need,python3)
+	@$(call step,docs_test,documents: links$(comma) commands and code) python3 tests/docs_test.py $(CC) $<
 
 install_test: build/lib/libmednukals.a
 	@$(call need,python3)

@@ -24,7 +24,8 @@ LOG = Path("build/log/rt-ci.log")
 KEPT = ["rlib", "obj", "bin", "log", "stamp"]  # of target/: what rt goes by to see that a crate is proved
 ARCHIVES = {"capi": "libmednukals.a", "capi_test": "libmednukals_test.a"}
 PROGRAMS = ["line", "checksum"]
-TESTS = ["c_test", "header_test", "install_test", "programs_test", "demo_test", "rust_test"]
+TESTS = ["c_test", "header_test", "install_test", "docs_test", "programs_test", "demo_test",
+         "rust_test"]
 # what the tests link is there: make must not call rt beside the command
 MADE = [f"build/lib/{archive}" for archive in ARCHIVES.values()] + [f"build/bin/{program}" for program in PROGRAMS]
 MOST_LINES, MOST_CHARACTERS = 40, 500  # of what a failed proof says

@@ -33,6 +33,10 @@ class Documents(unittest.TestCase):
                 if not link.startswith(("http:", "https:")):
                     self.assertTrue((page.parent / link).exists(), f"{page}: {link}")
 
+    def test_index(self):
+        for page in Path("docs").glob("*.md"):
+            self.assertIn(f"](docs/{page.name})", text(Path("README.md")), "the index of documents")
+
     def test_commands(self):
         targets = {word for line in re.findall(r"^\.PHONY: (.*)$", text(Path("Makefile")), flags=re.M) for word in line.split()}
         targets |= {"build/bin/line"}

@@ -124,6 +124,7 @@ test: kit format promises_test constants_test vectors_test make_test
 kit:
 	@$(call need,rt)
 	@$(call need,$(CC))
+	@$(call need,$(CXX))
 	@$(call need,cargo)
 	@$(call need,python3)
 	@echo "kit: $$(rt version)"

@@ -1,8 +1,10 @@
 /*
  * Mednukals: the bus side of a DYNAMIXEL Protocol 2.0 device.
  *
- * Link with libmednukals.a. What is said of each function here is proved for every input, as long as the caller keeps to the
- * following, which C cannot check:
+ * Link with libmednukals.a. docs/INTEGRATING.md is about the firmware around these calls.
+ *
+ * What is said of each function here is proved for every input, as long as the caller keeps to the following, which C cannot
+ * check:
  *
  * - A pointer and the length after it name memory that is the caller's for the whole call. The pointer is valid and not null,
  *   also where the length is 0 (then nothing is read or written through it).

@@ -92,7 +92,7 @@ class Progress:
 
     def __init__(self):
         self.said = []  # of the crate that is being proved
-        self.of, self.count, self.began = "", 0, time.monotonic()  # edits of one crate
+        self.of, self.count, self.began = "", 0, time.monotonic()  # the edits of one crate, and since when
 
     def show(self, line):
         proved = re.fullmatch(r"rt: (\w+) proved \((\d+) s\)\n", line)
@@ -102,6 +102,7 @@ class Progress:
             self.refused(refused.group(1))
         elif proved:
             self.said.clear()
+            self.began = time.monotonic()
             say(f"proved from nothing: {proved.group(1)}", proved.group(2))
         elif ran:
             self.edits_end()
@@ -138,7 +139,6 @@ def hand_on(command, tests):
                 progress.show(held)
             held = line
             if line.startswith("rt: must-fail ") and tests.ident is None:
-                progress.edits_end()
                 tests.start()
     progress.edits_end()
     return held

@@ -11,10 +11,10 @@
 enum { GAP_MICROS = 1500, CHUNK = 64 };
 
 /* What is lent to the library, as its header says. */
-static uint8_t held[DXL_MAX_HELD], packet[DXL_MAX_PACKET], body[DXL_MAX_BODY];
+static struct dxl_reader reader;
+static uint8_t packet[DXL_MAX_PACKET], body[DXL_MAX_BODY];
 static uint8_t table[DXL_TABLE_BYTES], reply[DXL_MIN_REPLY];
 static struct dxl_registered registered;
-static size_t count;
 
 static uint32_t taken; /* how many of the received bytes are taken from the ring, or passed over */
 static uint32_t speed; /* of the UART, in baud */
@@ -150,7 +150,7 @@ static void hear(struct dxl_step step)
 static void bytes_came(const uint8_t *chunk, size_t n)
 {
     for (;;) {
-        struct dxl_step step = dxl_feed(held, &count, chunk, n, packet);
+        struct dxl_step step = dxl_reader_feed(&reader, chunk, n, packet);
         accepted(step.kind == DXL_BAD_READER ? -DXL_BAD_READER : 0);
         if (step.kind == DXL_NO_EVENT)
             return;
@@ -163,7 +163,7 @@ static void bytes_came(const uint8_t *chunk, size_t n)
 static void line_was_silent(void)
 {
     for (;;) {
-        struct dxl_step step = dxl_gap(held, &count, packet);
+        struct dxl_step step = dxl_reader_gap(&reader, packet);
         accepted(step.kind == DXL_BAD_READER ? -DXL_BAD_READER : 0);
         if (step.kind == DXL_NO_EVENT)
             return;
@@ -257,7 +257,7 @@ void board_poll(void)
     size_t n = take_chunk(chunk);
     if (n > 0)
         bytes_came(chunk, n);
-    else if (count > 0 && gap_is_over())
+    else if (reader.count > 0 && gap_is_over())
         line_was_silent();
     if (status_is_due())
         send_waiting();
@@ -272,7 +272,7 @@ void board_start(void)
     restore_rom();
     accepted(dxl_device(table, sizeof table, none, DXL_PACKET, table[DXL_REG_ID], reboot, 1, reply, sizeof reply).count);
     registered = none;
-    count = 0;
+    reader.count = 0;
     waiting = 0;
     sending = 0;
     echoing = 0;

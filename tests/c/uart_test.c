@@ -513,8 +513,8 @@ int main(void)
     test_changes();
     test_rom();
     test_baud();
-    test_fault("dxl_feed", "25");
-    test_fault("dxl_gap", "25");
+    test_fault("dxl_reader_feed", "25");
+    test_fault("dxl_reader_gap", "25");
     test_fault("dxl_measure", "21");
     if (failures != 0)
         return 1;

@@ -5,7 +5,7 @@ SHELL := /bin/sh
 .DELETE_ON_ERROR:
 # rt works in one target/ folder, so two of its runs must never overlap.
 .NOTPARALLEL:
-.PHONY: help run checksum demo lib install test fuzz replay bench memory mutants fmt clean kit format promises_test constants_test vectors_test c_test header_test demo_test programs_test install_test docs_test make_test rust_test
+.PHONY: help run checksum demo lib install test fuzz replay bench memory mutants promises fmt clean kit format promises_test constants_test vectors_test c_test header_test demo_test programs_test install_test docs_test make_test rust_test
 .PHONY: fuzz_program replay_file
 
 # Each crate listed here becomes an archive for C: capi is libmednukals.a, capi_NAME is libmednukals_NAME.a.
@@ -73,6 +73,7 @@ measure it
   make memory              records, answers, stack depths and the archive's size
 
 keep it tidy
+  make promises            write docs/PROMISES.md from the comments in the tree, and say what a rule lacks
   make fmt                 format every Rattle file
   make clean               remove build/ and target/
 
@@ -204,7 +205,7 @@ install_test: build/lib/libmednukals.a
 
 promises_test:
 	@$(call need,python3)
-	@$(call step,check_promises,docs/PROMISES.md beside the tree) python3 tests/check_promises.py
+	@$(call step,promises,docs/PROMISES.md beside the tree) python3 tools/promises.py --check
 	@$(call step,check_believe,docs/BELIEVE.md beside the tree) python3 tests/check_believe.py
 
 constants_test:
@@ -276,6 +277,12 @@ mutants:
 	@$(call need,python3)
 	@[ -n '$(CRATE)' ] || { echo 'mednukals: make mutants CRATE=NAME [DEFINITIONS=1] [SINCE=REV] [MOST=N] [SEED=S]' >&2; exit 1; }
 	@python3 tools/mutants.py $(CRATE) $(if $(DEFINITIONS),--definitions) $(if $(SINCE),--since '$(SINCE)') $(if $(MOST),--most $(MOST)) $(if $(SEED),--seed $(SEED))
+
+# PROMISES is made from the comments in the tree.
+promises:
+	@$(call need,python3)
+	@python3 tools/promises.py
+	@python3 tests/check_believe.py --write
 
 fmt:
 	@$(call need,rt)

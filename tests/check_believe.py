@@ -1,4 +1,4 @@
-"""Holds docs/BELIEVE.md to the tree: usage check_believe.py, in the repository's root
+"""Holds docs/BELIEVE.md to the tree: usage check_believe.py [--write], in the repository's root; --write puts the counts right
 
 Every file of definitions has its row there, with its count of lines, and every row has its file. No file that is to be believed
 names one that is said to be inside.
@@ -30,6 +30,10 @@ def main():
         if path.name != "Lib.antt":
             there[str(path.relative_to("crates"))] = len(path.read_text(encoding="utf-8").splitlines())
 
+    if "--write" in sys.argv[1:]:
+        text = re.sub(row, lambda m: f"| `{m.group(1)}` | {there.get(m.group(1), m.group(2))} |", text, flags=re.M)
+        PAGE.write_text(text, encoding="utf-8")
+        listed = {name: int(lines) for name, lines in re.findall(row, text, flags=re.M)}
     faults = [f"{name} has two rows" for name in sorted(listed) if sum(row[0] == name for row in rows) > 1]
     faults += [f"{name} has no row" for name in sorted(there.keys() - listed.keys())]
     faults += [f"{name} has a row and is not there" for name in sorted(listed.keys() - there.keys())]

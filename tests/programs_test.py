@@ -62,6 +62,7 @@ class Program(unittest.TestCase):
 
     each = [(program, Path(program).name) for program in (LINE, CHECKSUM)]
 
+    # [L7]
     def test_directory(self):
         for program, name in self.each:
             folder = os.open(".", os.O_RDONLY)
@@ -82,6 +83,7 @@ class Program(unittest.TestCase):
             self.assertEqual(run(program, stdin=board), (0, "", f"{name}: standard input cannot be read\n"))
             os.close(board)
 
+    # [L7]
     def test_no_room_for_output(self):
         for program, name in self.each:
             with open("/dev/full", "wb") as full:

@@ -42,7 +42,7 @@ DEFINITION_SWAPS = [(" + ", " - "), (" - ", " + "), (" * ", " + "), (" / ", " % 
                     ("leb ", "ltb "), ("ltb ", "leb "), ("take ", "drop "), ("drop ", "take "), (" < ", " ≤ "), (" ≤ ", " < ")]
 HOMES = {"leb": "lib.Dec", "ltb": "lib.Dec", "take": "lib.ListN", "drop": "lib.ListN", "+": "Prim.Native.Nat", "-": "Prim.Native.Nat",
          "%": "Prim.Native.Nat", "/": "Prim.Native.Nat", "<": "Prim.Native.Nat", "≤": "Prim.Native.Nat", "&&": "mathlib.Core.Bool",
-         "||": "mathlib.Core.Bool"}
+         "||": "mathlib.Core.Bool", "true": "mathlib.Core.Bool", "false": "mathlib.Core.Bool"}
 # what says nothing of numbers; a field of a record is a statement, and is changed
 NO_DEFINITION = re.compile(r"^\s*(--|use |pub mod |mod |module |unfolding |$)")
 PASSED_OVER = re.compile(r"^\s*(//|ghost |use |mod |pub use |requires|ensures|#\[|pub struct|pub enum|\}|\{|$)")
@@ -117,7 +117,9 @@ def changed_definitions(text):
                     yield number, other
         for old, new in WORDS:
             for found in re.finditer(rf"(?<![\w-]){old}(?![\w-])", line):
-                yield number, changed(text, number, line[:found.start()] + new + line[found.end():])
+                other = brought(changed(text, number, line[:found.start()] + new + line[found.end():]), new)
+                if other:
+                    yield number, other
         for found in NUMBER.finditer(line):
             if not line[:found.start()].endswith(("Type ", "-")):  # a universe, or a part of a name
                 yield number, changed(text, number, line[:found.start()] + str(int(found.group(), 0) + 1) + line[found.end():])

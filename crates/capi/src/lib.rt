@@ -17,13 +17,15 @@ ghost use Rattle.control_table.specs.Answers.{freshOut, measureOut};
 ghost use Rattle.reading.specs.Calls.{feed as Call·feed, gap as Call·gap};
 ghost use Rattle.reader.specs.Records.{saidOn, leftBy, lent, packetOn, ReaderPromises};
 ghost use Rattle.device.specs.Answers.{callAnswer, callRegistered, callTable, callOut};
-ghost use Rattle.device.specs.Stays.{StaysAccepted};
+ghost use Rattle.device.specs.Promises.{DevicePromises};
 ghost use Rattle.exchange.specs.Exchange.{exchangeAnswer, exchangeRegistered, exchangeTable, exchangeBody, exchangeOut};
+ghost use Rattle.exchange.specs.Stays.{StaysAccepted};
+ghost use Rattle.exchange.specs.Promises.{ExchangePromises};
 ghost use Rattle.cases.specs.Cases.{CasesHold};
 ghost use Rattle.numbers.specs.Exported.{exported, exportedRefusal, stepNumbers, deviceNumbers};
 ghost use Rattle.capi.specs.Heard.{heardBy, idBy};
 
-// The checksum of the bytes, going on from an earlier one; 0 starts a packet's.
+// The checksum of the bytes, going on from an earlier one; 0 starts a packet's. [C1-C7 C5 G5]
 #[no_mangle]
 pub extern "C" fn dxl_crc16(start: u16, bytes: &[u8]) -> u16
     ensures { λ crc. ⌜ crc ≡ crcFrom start (now (bytes .entry)) ⌝ }
@@ -31,7 +33,7 @@ pub extern "C" fn dxl_crc16(start: u16, bytes: &[u8]) -> u16
     crc16::update(start, bytes)
 }
 
-// The encoder: the packet's byte count, or minus a refusal number.
+// The encoder: the packet's byte count, or minus a refusal number. [E1-E9 E2-E5 E7 E8 G5 N1 N2 N4]
 #[no_mangle]
 pub extern "C" fn dxl_encode(
     id: u8,
@@ -47,7 +49,7 @@ pub extern "C" fn dxl_encode(
     numbers::encoded(encoder::encode(id, instruction, params, out, at))
 }
 
-// Removal of stuffing: the count of the unstuffed bytes, or minus a refusal number.
+// Removal of stuffing: the count of the unstuffed bytes, or minus a refusal number. [G5 N3 N4 S8-S11]
 #[no_mangle]
 pub extern "C" fn dxl_unstuff(body: &[u8], out: &mut [u8]) -> i64
     ensures { λ r. ⌜ r ≡ exported (removalAnswer (now (body .entry)) (now (out .entry))) ⌝ }
@@ -56,25 +58,28 @@ pub extern "C" fn dxl_unstuff(body: &[u8], out: &mut [u8]) -> i64
     numbers::unstuffed(stuffing::unstuff_into(body, out))
 }
 
-// The table as it comes from the factory: 0, or minus 21 for a table that is not 136 bytes long.
+// The table as it comes from the factory: 0, or minus 21 for a table that is not 136 bytes long. [D42 G5 N5 N13 T1 T2 T4]
 #[no_mangle]
 pub extern "C" fn dxl_fresh(table: &mut [u8]) -> i64
     ensures { λ r. ⌜ r ≡ exportedRefusal (inTable (now (table .entry)) none) ⌝ }
     ensures { λ _. ⌜ now (table .exit) ≡ freshOut (now (table .entry)) ⌝ }
+    ensures { λ _. ⌜ StaysAccepted ⌝ }
 {
     numbers::outcome(control_table::fresh(table))
 }
 
-// Present position and hardware error: 0, or minus 21.
+// Present position and hardware error: 0, or minus 21. [D42 G5 N5 N13 T5]
 #[no_mangle]
 pub extern "C" fn dxl_measure(table: &mut [u8], position: i32, hardware_error: u8) -> i64
     ensures { λ r. ⌜ r ≡ exportedRefusal (inTable (now (table .entry)) none) ⌝ }
     ensures { λ _. ⌜ now (table .exit) ≡ measureOut (now (table .entry)) position «hardware_error» ⌝ }
+    ensures { λ _. ⌜ StaysAccepted ⌝ }
 {
     numbers::outcome(control_table::measure(table, position, hardware_error))
 }
 
 // A feeding call on a reader's record by its parts, the held bytes and their count. Demand 3 is promised of these calls.
+// [F1 F1-F16 G5 K3 K7 N9 Q1-Q14 V1-V12]
 #[no_mangle]
 pub extern "C" fn dxl_feed(
     held: &mut [u8; 1030],
@@ -93,7 +98,7 @@ pub extern "C" fn dxl_feed(
     numbers::step(step)
 }
 
-// A gap call, likewise.
+// A gap call, likewise. [F1 F1-F16 G5 N9 Q1-Q14 V1 V1-V12]
 #[no_mangle]
 pub extern "C" fn dxl_gap(
     held: &mut [u8; 1030],
@@ -111,7 +116,7 @@ pub extern "C" fn dxl_gap(
     numbers::step(step)
 }
 
-// A feeding call on a reader's record, in place: its held bytes are lent on, and none is copied.
+// A feeding call on a reader's record, in place: its held bytes are lent on, and none is copied. [F1-F16 N9 Q1-Q14 V1-V12]
 #[no_mangle]
 pub extern "C" fn dxl_reader_feed<'r, 'c, 'p>(
     reader: &'r mut Reader,
@@ -129,7 +134,7 @@ pub extern "C" fn dxl_reader_feed<'r, 'c, 'p>(
     numbers::step(step)
 }
 
-// A gap call on a reader's record, likewise.
+// A gap call on a reader's record, likewise. [F1-F16 N9 Q1-Q14 V1-V12]
 #[no_mangle]
 pub extern "C" fn dxl_reader_gap<'r, 'p>(
     reader: &'r mut Reader,
@@ -168,6 +173,7 @@ fn id_by(kind: u8, id: u8) -> u8
 }
 
 // Kind 1 is a packet, 2 a bad checksum. Of any other kind nothing was heard, as of what is sent to an ID that no device has.
+// [D1-D37 D40-D42 G5 N5-N8 N10-N12 T1-T3 T6-T18]
 #[no_mangle]
 pub extern "C" fn dxl_device(
     table: &mut [u8],
@@ -182,14 +188,15 @@ pub extern "C" fn dxl_device(
         (callRegistered (now (table .entry)) registered (heardBy kind) (idBy kind id) (now (body .entry)) (now (reply .entry))) ⌝ }
     ensures { λ _. ⌜ (now (table .exit) ≡ callTable (now (table .entry)) registered (heardBy kind) (idBy kind id) (now (body .entry)) (now (reply .entry)))
         × (now (reply .exit) ≡ callOut (now (table .entry)) registered (heardBy kind) (idBy kind id) (now (body .entry)) (now (reply .entry))) ⌝ }
-    ensures { λ _. ⌜ StaysAccepted ⌝ }
+    ensures { λ _. ⌜ DevicePromises × StaysAccepted ⌝ }
 {
     let heard = heard_by(kind);
     let heard_id = id_by(kind, id);
     numbers::response(device::hear(table, registered, heard, heard_id, body, reply))
 }
 
-// The device call on a packet as received, whose body goes to `body` without its stuffing.
+// The device call on a packet as received, whose body goes to `body` without its stuffing. What is no well-formed packet is met with
+// silence. [D38-D42 G5 N3 N4]
 #[no_mangle]
 pub extern "C" fn dxl_exchange(
     table: &mut [u8],
@@ -204,7 +211,7 @@ pub extern "C" fn dxl_exchange(
     ensures { λ _. ⌜ (now (table .exit) ≡ exchangeTable (now (table .entry)) registered (now (packet .entry)) (now (body .entry)) (now (reply .entry)))
         × (now (body .exit) ≡ exchangeBody (now (table .entry)) registered (now (packet .entry)) (now (body .entry)) (now (reply .entry)))
         × (now (reply .exit) ≡ exchangeOut (now (table .entry)) registered (now (packet .entry)) (now (body .entry)) (now (reply .entry))) ⌝ }
-    ensures { λ _. ⌜ CasesHold ⌝ }
+    ensures { λ _. ⌜ ExchangePromises × CasesHold ⌝ }
 {
     numbers::answered(exchange::answer(table, registered, packet, body, reply))
 }

@@ -7,7 +7,7 @@ use mathlib.Core.Logic.{⊎-elim}
 use Prim.Native.Nat.{ℕ}
 use native.Mathlib.Omega.{arith}
 use lib.Dec.{eqb}
-use lib.ListN.{length, replicate}
+use lib.ListN.{length}
 use borrow.Author.Tests.{eqb-true}
 use Rattle.lists.proofs.Bools.{and-left, and-right, both-ways}
 use Rattle.reading.specs.Rules.{Verdict, isPacket, isBadChecksum, isWaiting, isNothing}
@@ -15,6 +15,7 @@ use Rattle.reading.specs.Across.{reachesAcross}
 use Rattle.reading.proofs.Across.{across-decided}
 use Rattle.crc.specs.Crc.{reduceIf, shift, shifts, crcByte, crcFrom}
 use Rattle.stuffing.specs.Stuffing.{stuffAfter, stuff, wellAfter, wellStuffed, unstuffAfter, unstuff}
+use Rattle.stuffing.specs.Answers.{removalRefusal}
 use Rattle.packet_front.specs.Front.{lengthOf}
 use Rattle.packet.specs.Packet.{bodyOf, checksumRight}
 use Rattle.packet_front.specs.Begun.{frontAgrees, lengthAgrees}
@@ -27,13 +28,15 @@ use Rattle.items.specs.Items.{valueAt, put}
 use Rattle.control_table.specs.Fresh.{freshened}
 use Rattle.registers.specs.Registers.{everyByte}
 use Rattle.table_rules.specs.Rules.{everyTouched, limitsOrdered, goalWithin, writeRule, readRule}
-use Rattle.instructions.specs.Registered.{dropped}
-use Rattle.instructions.specs.Instructions.{read, write}
+use Rattle.instructions.specs.Instructions.{read, write, action}
+use Rattle.parameters.specs.Entries.{occurs, searchFrom}
 use Rattle.reactions.specs.Reactions.{heardInstruction}
-use Rattle.device.specs.Device.{carryOut}
-use Rattle.status.specs.Status.{replyBytes}
+use Rattle.device.specs.Device.{heeded}
+use Rattle.device.specs.Answers.{Answer, sent, refused, stateRefusal, roomRefusal, callRefusal}
+use Rattle.exchange.specs.Exchange.{idHeard}
 use Rattle.instructions.specs.declared.RegisteredWrite.{RegisteredWrite}
-use Rattle.cases.specs.Cases.{Case, packet, stuffing, exchange, apart, across, carriedOut, Claim, table, CasesHold}
+use Rattle.cases.specs.Exchanges.{Lent, answerTo, leftBy}
+use Rattle.cases.specs.Cases.{Case, packet, stuffing, exchange, apart, across, Claim, table, CasesHold}
 
 -- ---- equality as a test
 
@@ -63,18 +66,50 @@ packet-of (isBadChecksum id) n e = let z : _≡_ {A = ℕ} 0 1 = cc in absurd (o
 packet-of isWaiting n e = let z : _≡_ {A = ℕ} 0 1 = cc in absurd (omega arith)
 packet-of isNothing n e = let z : _≡_ {A = ℕ} 0 1 = cc in absurd (omega arith)
 
-abbrev isDropped : RegisteredWrite → Bool
-isDropped w = eqb (w .address) 0 && (eqb (w .count) 0 && same (w .bytes) (replicate 8 0))
+abbrev sameRegistered : RegisteredWrite → RegisteredWrite → Bool
+sameRegistered v w = eqb (v .address) (w .address) && (eqb (v .count) (w .count) && same (v .bytes) (w .bytes))
 
-is-dropped : (w : RegisteredWrite) → isDropped w ≡ true → w ≡ dropped
-is-dropped w e =
-    let r = and-right (eqb (w .address) 0) (eqb (w .count) 0 && same (w .bytes) (replicate 8 0)) e in
-    ap (λ (a : ℕ). record { address = a; count = w .count; bytes = w .bytes })
-    (eqb-true (w .address) 0 (and-left (eqb (w .address) 0) (eqb (w .count) 0 && same (w .bytes) (replicate 8 0)) e))
-    ∙ ap (λ (n : ℕ). record { address = 0; count = n; bytes = w .bytes })
-    (eqb-true (w .count) 0 (and-left (eqb (w .count) 0) (same (w .bytes) (replicate 8 0)) r))
-    ∙ ap (λ (b : List ℕ). record { address = 0; count = 0; bytes = b })
-    (same-lists (w .bytes) (replicate 8 0) (and-right (eqb (w .count) 0) (same (w .bytes) (replicate 8 0)) r))
+same-registered : (v w : RegisteredWrite) → sameRegistered v w ≡ true → v ≡ w
+same-registered v w e =
+    let a = eqb (v .address) (w .address) in
+    let n = eqb (v .count) (w .count) in
+    let b = same (v .bytes) (w .bytes) in
+    let r = and-right a (n && b) e in
+    ap (λ (x : ℕ). record { address = x; count = v .count; bytes = v .bytes }) (eqb-true (v .address) (w .address) (and-left a (n && b) e))
+    ∙ ap₂ (λ (x : ℕ) (l : List ℕ). record { address = w .address; count = x; bytes = l })
+    (eqb-true (v .count) (w .count) (and-left n b r)) (same-lists (v .bytes) (w .bytes) (and-right n b r))
+
+abbrev sameAnswer : Answer → Answer → Bool
+sameAnswer (sent n slot) (sent m place) = eqb n m && eqb slot place
+sameAnswer (sent n slot) (refused number) = false
+sameAnswer (refused number) (sent n slot) = false
+sameAnswer (refused number) (refused other) = eqb number other
+
+same-answer : (a b : Answer) → sameAnswer a b ≡ true → a ≡ b
+same-answer (sent n slot) (sent m place) e =
+    ap₂ sent (eqb-true n m (and-left (eqb n m) (eqb slot place) e)) (eqb-true slot place (and-right (eqb n m) (eqb slot place) e))
+same-answer (sent n slot) (refused number) e = let z : _≡_ {A = ℕ} 0 1 = cc in absurd (omega arith)
+same-answer (refused number) (sent n slot) e = let z : _≡_ {A = ℕ} 0 1 = cc in absurd (omega arith)
+same-answer (refused number) (refused other) e = ap refused (eqb-true number other e)
+
+abbrev sameLent : Lent → Lent → Bool
+sameLent k l =
+    same (k .table) (l .table)
+    && (sameRegistered (k .registered) (l .registered) && (same (k .body) (l .body) && same (k .reply) (l .reply)))
+
+same-lent : (k l : Lent) → sameLent k l ≡ true → k ≡ l
+same-lent k l e =
+    let t = same (k .table) (l .table) in
+    let w = sameRegistered (k .registered) (l .registered) in
+    let b = same (k .body) (l .body) in
+    let o = same (k .reply) (l .reply) in
+    let r = and-right t (w && (b && o)) e in
+    let q = and-right w (b && o) r in
+    ap₂ (λ (x : List ℕ) (v : RegisteredWrite). record { table = x; registered = v; body = k .body; reply = k .reply })
+    (same-lists (k .table) (l .table) (and-left t (w && (b && o)) e))
+    (same-registered (k .registered) (l .registered) (and-left w (b && o) r))
+    ∙ ap₂ (λ (x y : List ℕ). record { table = l .table; registered = l .registered; body = x; reply = y })
+    (same-lists (k .body) (l .body) (and-left b o q)) (same-lists (k .reply) (l .reply) (and-right b o q))
 
 fails : (a : Bool) → not a ≡ true → a ≡ false
 fails false e = refl
@@ -85,9 +120,7 @@ fails true e = let z : _≡_ {A = ℕ} 0 1 = cc in absurd (omega arith)
 abbrev right : Case → Bool
 right (packet id body bytes) = same (packetOf id body) bytes && isPacketOf (verdict bytes) (length bytes)
 right (stuffing body stuffed) = same (stuff body) stuffed && (wellStuffed stuffed && same (unstuff stuffed) body)
-right (exchange before bytes status slot after) =
-    let c = carriedOut before bytes in
-    same (replyBytes (c .reply)) status && (eqb (c .reply .slot) slot && (same (c .table) after && isDropped (c .registered)))
+right (exchange bytes before answer after) = sameAnswer (answerTo bytes before) answer && sameLent (leftBy bytes before) after
 right (apart noise beyond) = not (reachesAcross protocol2 noise beyond)
 right (across noise beyond) = reachesAcross protocol2 noise beyond
 
@@ -102,19 +135,10 @@ claimed (stuffing body stuffed) e =
     let c = same (unstuff stuffed) body in
     let r = and-right a (b && c) e in
     (same-lists (stuff body) stuffed (and-left a (b && c) e), and-left b c r, same-lists (unstuff stuffed) body (and-right b c r))
-claimed (exchange before bytes status slot after) e =
-    let c = carriedOut before bytes in
-    let a = same (replyBytes (c .reply)) status in
-    let b = eqb (c .reply .slot) slot in
-    let d = same (c .table) after in
-    let f = isDropped (c .registered) in
-    let r = and-right a (b && (d && f)) e in
-    let q = and-right b (d && f) r in (
-      same-lists (replyBytes (c .reply)) status (and-left a (b && (d && f)) e),
-      eqb-true (c .reply .slot) slot (and-left b (d && f) r),
-      same-lists (c .table) after (and-left d f q),
-      is-dropped (c .registered) (and-right d f q),
-    )
+claimed (exchange bytes before answer after) e =
+    let a = sameAnswer (answerTo bytes before) answer in
+    let b = sameLent (leftBy bytes before) after in
+    (same-answer (answerTo bytes before) answer (and-left a b e), same-lent (leftBy bytes before) after (and-right a b e))
 claimed (apart noise beyond) e = across-decided protocol2 laws noise beyond .0 (fails (reachesAcross protocol2 noise beyond) e)
 claimed (across noise beyond) e =
     λ n. both-ways (reachesAcross protocol2 noise beyond) e (across-decided protocol2 laws noise beyond .1 n)
@@ -131,5 +155,5 @@ each (d ∷ cs) e c m =
 
 -- the test is computed here
 pub cases-hold : CasesHold
-unfolding reachesAcross reduceIf shift shifts crcByte crcFrom stuffAfter wellAfter unstuffAfter lengthOf bodyOf checksumRight withChecksum packetOf frontAgrees lengthAgrees verdict registers permitsBy numberAt valueAt bytesOf put freshened everyByte everyTouched limitsOrdered goalWithin writeRule readRule read write heardInstruction carryOut
+unfolding reachesAcross reduceIf shift shifts crcByte crcFrom stuffAfter wellAfter unstuffAfter lengthOf bodyOf checksumRight withChecksum packetOf frontAgrees lengthAgrees verdict registers permitsBy numberAt valueAt bytesOf put freshened everyByte everyTouched limitsOrdered goalWithin writeRule readRule read write action occurs searchFrom heardInstruction heeded stateRefusal roomRefusal callRefusal removalRefusal idHeard
 cases-hold = each table refl

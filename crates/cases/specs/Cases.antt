@@ -1,9 +1,8 @@
 -- The worked examples that are proved. Most are printed in the maker's pages.
 use mathlib.Core.Path.{_≡_}
 use mathlib.Core.Bool.{true}
-use mathlib.Core.List.{List, [], _∷_, List·Memᴰ}
+use mathlib.Core.List.{List, [], _∷_, _++_, List·Memᴰ}
 use Prim.Native.Nat.{ℕ}
-use lib.IntN.{pos}
 use lib.ListN.{length, take, drop}
 use Rattle.reading.specs.Rules.{isPacket}
 use Rattle.reading.specs.Promise.{NoneAcross}
@@ -12,38 +11,29 @@ use Rattle.packet.specs.Verdict.{verdict, protocol2}
 use Rattle.encoder.specs.Writing.{packetOf}
 use Rattle.registers.specs.Registers.{goalPosition}
 use Rattle.items.specs.Items.{put}
-use Rattle.control_table.specs.Fresh.{freshTable, measured}
+use Rattle.control_table.specs.Fresh.{freshTable}
 use Rattle.instructions.specs.Registered.{dropped}
-use Rattle.device.specs.Device.{Carried, carryOut}
-use Rattle.status.specs.Status.{replyBytes}
-use Rattle.reactions.specs.declared.Heard.the-variants.{Packet}
-use Rattle.exchange.specs.Exchange.{heardOf}
+use Rattle.device.specs.Answers.{Answer, sent, refused}
+use Rattle.cases.specs.Exchanges.{Lent, answerTo, leftBy, lent, left, at166, registeredTable, goalTooLarge, markedLimits}
+use Rattle.cases.specs.Exchanges.{pingWrongSum, pingWithParameter, lengthStatus, actionTo1, actionToAll, rangeStatus, syncReadPosition, readLimits, longestStatus}
 
 pub data Case : Type 0 where
   -- the packet with an ID and a body, and its bytes
   packet : ℕ → List ℕ → List ℕ → Case
   -- a body, and its stuffed form
   stuffing : List ℕ → List ℕ → Case
-  -- a control table and a packet as received: the status packet, the reply slot, and the table that is left
-  exchange : List ℕ → List ℕ → List ℕ → ℕ → List ℕ → Case
+  -- a packet as received, and what is lent to the call on it: its answer, and what it leaves
+  exchange : List ℕ → Lent → Answer → Lent → Case
   -- noise, and the bytes beyond it: no packet reaches across the noise's end, as demand 3 supposes
   apart : List ℕ → List ℕ → Case
   -- one does
   across : List ℕ → List ℕ → Case
 
--- what a device without a registered write makes of a packet as received
-abbrev pub carriedOut : List ℕ → List ℕ → Carried
-carriedOut table bytes = carryOut table dropped Packet (heardOf bytes .id) (heardOf bytes .body)
-
 -- what each case says
 abbrev pub Claim : Case → Type 0
 Claim (packet id body bytes) = (packetOf id body ≡ bytes) × (verdict bytes ≡ isPacket (length bytes))
 Claim (stuffing body stuffed) = (stuff body ≡ stuffed) × (wellStuffed stuffed ≡ true) × (unstuff stuffed ≡ body)
-Claim (exchange before bytes status slot after) =
-    (replyBytes (carriedOut before bytes .reply) ≡ status)
-    × (carriedOut before bytes .reply .slot ≡ slot)
-    × (carriedOut before bytes .table ≡ after)
-    × (carriedOut before bytes .registered ≡ dropped)
+Claim (exchange bytes before answer after) = (answerTo bytes before ≡ answer) × (leftBy bytes before ≡ after)
 Claim (apart noise beyond) = NoneAcross protocol2 noise beyond
 Claim (across noise beyond) = ¬ NoneAcross protocol2 noise beyond
 
@@ -80,10 +70,6 @@ lacksFF = 0xFF ∷ 0xFF ∷ 0xFD ∷ 0x00 ∷ 0x01 ∷ 0x04 ∷ 0x00 ∷ 0x02 �
 
 -- ---- the cases
 
--- a fresh table with 166 measured
-abbrev pub at166 : List ℕ
-at166 = measured freshTable (pos 166) 0
-
 abbrev pub table : List Case
 table =
     packet 1 (0x01 ∷ []) pingTo1
@@ -98,10 +84,26 @@ table =
     ∷ stuffing (0x03 ∷ 0xFF ∷ 0xFF ∷ 0xFD ∷ 0xFD ∷ []) (0x03 ∷ 0xFF ∷ 0xFF ∷ 0xFD ∷ 0xFD ∷ 0xFD ∷ [])
     ∷ stuffing (0x03 ∷ 0xFF ∷ 0xFF ∷ []) (0x03 ∷ 0xFF ∷ 0xFF ∷ [])
     -- what a fresh device does with these packets
-    ∷ exchange freshTable pingTo1 pingStatus 0 freshTable
-    ∷ exchange freshTable pingToAll pingStatus 1 freshTable
-    ∷ exchange at166 readPosition readStatus 0 at166
-    ∷ exchange freshTable writeGoal writeStatus 0 (put freshTable goalPosition 512)
+    ∷ exchange pingTo1 (lent freshTable dropped 2) (sent 14 0) (left freshTable dropped 2 (0x01 ∷ []) pingStatus)
+    ∷ exchange pingToAll (lent freshTable dropped 1) (sent 14 1) (left freshTable dropped 1 (0x01 ∷ []) pingStatus)
+    ∷ exchange readPosition (lent at166 dropped 5) (sent 15 0) (left at166 dropped 5 (0x02 ∷ 0x84 ∷ 0x00 ∷ 0x04 ∷ 0x00 ∷ []) readStatus)
+    ∷ exchange writeGoal (lent freshTable dropped 8) (sent 11 0)
+    (left (put freshTable goalPosition 512) dropped 8 (0x03 ∷ 0x74 ∷ 0x00 ∷ 0x00 ∷ 0x02 ∷ 0x00 ∷ 0x00 ∷ []) writeStatus)
+    -- the third of a Sync Read's list; the longest status
+    ∷ exchange syncReadPosition (lent at166 dropped 8) (sent 15 2)
+    (left at166 dropped 8 (0x82 ∷ 0x84 ∷ 0x00 ∷ 0x04 ∷ 0x00 ∷ 0x03 ∷ 0x02 ∷ 0x01 ∷ []) readStatus)
+    ∷ exchange readLimits (lent markedLimits dropped 5) (sent 21 0)
+    (left markedLimits dropped 5 (0x02 ∷ 0x30 ∷ 0x00 ∷ 0x08 ∷ 0x00 ∷ []) longestStatus)
+    -- a wrong checksum, and a byte beyond the packet: silence
+    ∷ exchange pingWrongSum (lent freshTable dropped 1) (sent 0 0) (left freshTable dropped 1 (0x01 ∷ []) [])
+    ∷ exchange (pingTo1 ++ 0x00 ∷ []) (lent freshTable dropped 3) (sent 0 0) (left freshTable dropped 3 (0x01 ∷ 0x19 ∷ []) [])
+    -- a refused Action drops the registered write, also where it is not answered; a refused Ping keeps it
+    ∷ exchange actionTo1 (lent registeredTable goalTooLarge 1) (sent 11 0) (left freshTable dropped 1 (0x05 ∷ []) rangeStatus)
+    ∷ exchange actionToAll (lent registeredTable goalTooLarge 1) (sent 0 0) (left freshTable dropped 1 (0x05 ∷ []) [])
+    ∷ exchange pingWithParameter (lent registeredTable goalTooLarge 2) (sent 11 0)
+    (left registeredTable goalTooLarge 2 (0x01 ∷ 0x00 ∷ []) lengthStatus)
+    -- no room for the body
+    ∷ exchange pingTo1 (lent freshTable dropped 0) (refused 13) (lent freshTable dropped 0)
     -- noise that is a packet itself and ends right before one; a packet that ends with the first byte beyond the noise, and one
     -- that begins with the last byte of the noise
     ∷ apart pingTo1 pingStatus

@@ -6,14 +6,15 @@ use lib.ListN.{replicate}
 use Rattle.registers.specs.Registers.{Register, registers, tableSize, presentPosition, hardwareError}
 use Rattle.items.specs.Items.{unsigned, put}
 
--- the table with the fresh value of each register of a list
+-- the table with the fresh value of each register of a list [T4]
 unfoldable pub freshened : List Register → List ℕ → List ℕ
 freshened [] table = table
 freshened (r ∷ rs) table = put (freshened rs table) r (r .fresh)
 
--- undefined bytes are 0
+-- undefined bytes are 0 [T4]
 abbrev pub freshTable : List ℕ
 freshTable = freshened registers (replicate tableSize 0)
 
+-- [T5]
 abbrev pub measured : List ℕ → ℤ → ℕ → List ℕ
 measured table position error = put (put table presentPosition (unsigned position)) hardwareError error

@@ -15,7 +15,7 @@ pub struct Reading {
     pub bytes: [u8; 8],
 }
 
-// The write: judged first, then stored whole. A refused one leaves every byte.
+// The write: judged first, then stored whole. A refused one leaves every byte. [M5 N5 N12 T3 T6-T14 T6-T13]
 pub fn write(table: &mut [u8], address: u16, bytes: &[u8]) -> Outcome
     ensures { λ r. ⌜ refusalOf r ≡ inTable (now (table .entry)) (writeRule (now (table .entry)) address (now (bytes .entry))) ⌝ }
     ensures { λ _. ⌜ now (table .exit) ≡ writeOut (now (table .entry)) address (now (bytes .entry)) ⌝ }
@@ -36,7 +36,7 @@ fn bytes_from(table: &[u8], at: usize, n: usize) -> [u8; 8]
     buffers::first_eight(&table[at..at + n])
 }
 
-// The read rule. A read that is not refused has at most 8 bytes.
+// The read rule. A read that is not refused has at most 8 bytes. [N5 T15-T17]
 pub fn read(table: &[u8], address: u16, count: u16) -> Reading
     ensures { λ r. ⌜ refusalOf (r .outcome) ≡ inTable (now (table .entry)) (readRule address count) ⌝ }
     ensures { λ r. ⌜ r .bytes ≡ readBytes (now (table .entry)) address count ⌝ }
@@ -67,7 +67,7 @@ pub fn read(table: &[u8], address: u16, count: u16) -> Reading
     }
 }
 
-// The table as it comes from the factory: each register has its fresh value, undefined bytes are 0.
+// The table as it comes from the factory: each register has its fresh value, undefined bytes are 0. [N5 N12 N13 T4]
 pub fn fresh(table: &mut [u8]) -> Outcome
     ensures { λ r. ⌜ refusalOf r ≡ inTable (now (table .entry)) none ⌝ }
     ensures { λ _. ⌜ now (table .exit) ≡ freshOut (now (table .entry)) ⌝ }
@@ -87,7 +87,7 @@ pub fn fresh(table: &mut [u8]) -> Outcome
     Outcome::Done
 }
 
-// The measurement call: present position and hardware error.
+// The measurement call: present position and hardware error. [N5 N12 N13 T3 T5]
 pub fn measure(table: &mut [u8], position: i32, error: u8) -> Outcome
     ensures { λ r. ⌜ refusalOf r ≡ inTable (now (table .entry)) none ⌝ }
     ensures { λ _. ⌜ now (table .exit) ≡ measureOut (now (table .entry)) position error ⌝ }

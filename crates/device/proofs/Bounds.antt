@@ -1,9 +1,9 @@
--- A reply has at most 8 data bytes, and the own ID or 0.
+-- A reply has at most 8 data bytes, an error byte of at most 135, and the own ID or 0.
 use mathlib.Core.Path.{_≡_, refl, ap}
-use mathlib.Core.Bool.{Bool, true, false, cond}
+use mathlib.Core.Bool.{Bool, true, false, cond, false≢true}
 use mathlib.Core.List.{List, []}
 use mathlib.Core.Option.{Option, none, some}
-use Prim.Native.Nat.{ℕ, _≤_}
+use Prim.Native.Nat.{ℕ, _+_, _%_, _≤_}
 use native.Mathlib.Omega.{arith}
 use lib.Dec.{eqb, leb}
 use lib.ListN.{length, take, drop, getD, length-append, length-take}
@@ -13,34 +13,38 @@ use Rattle.registers.specs.Registers.{tableSize}
 use Rattle.table_rules.specs.Rules.{readRule}
 use Rattle.control_table.proofs.Theorems.{read-short}
 use Rattle.instructions.proofs.Options.{pick, each-option}
+use Rattle.instructions.proofs.Errors.{read-number, write-number}
 use Rattle.reactions.proofs.Every.{every}
+use Rattle.device.proofs.Replies.{to-whomever}
 use Rattle.instructions.specs.Instructions.{Effect, ping, read, write, regWrite, action}
-use Rattle.reactions.specs.Reactions.{Voice, silent, speaks, ownId, reaction}
-use Rattle.device.specs.Device.{replyBy, Carried, carried, carryOut}
+use Rattle.reactions.specs.Reactions.{Voice, silent, speaks, ownId, Reaction, reaction}
+use Rattle.device.specs.Device.{hardwareErrorIn, replyBy, heeded, carryOut}
 use Rattle.status.specs.Status.{silence}
 use Rattle.instructions.specs.declared.RegisteredWrite.{RegisteredWrite}
 use Rattle.status.specs.declared.Reply.{Reply}
 use Rattle.reactions.specs.declared.Heard.{Heard}
 
-pub record Sendable (r : Reply) : Type 0 where
+pub record Sendable (own : ℕ) (r : Reply) : Type 0 where
   pub known : r .id ≤ 252
   pub short : r .count ≤ 8
+  -- 7, with the alert 135
+  pub numbered : r .error ≤ 135
+  pub own-id : r .speaks ≡ true → r .id ≡ own
 
-Small : Effect → Type 0
-Small e = length (e .bytes) ≤ 8
+record Small (e : Effect) : Type 0 where
+  pub few : length (e .bytes) ≤ 8
+  pub at-most-7 : e .error ≤ 7
 
-none-small : (e : Effect) → e .bytes ≡ [] → Small e
-unfolding Small
-none-small e h = omega (arith, ap length h)
+none-small : (e : Effect) → e .bytes ≡ [] → e .error ≤ 7 → Small e
+none-small e h n = record { few = omega (arith, ap length h); at-most-7 = n }
 
 module _ (table : List ℕ) (w : RegisteredWrite) (sized : length table ≡ tableSize) where
   ping-small : Small (ping table w)
-  unfolding Small
-  ping-small = simp (length-append, length-take) (omega arith)
+  ping-small = record { few = simp (length-append, length-take) (omega arith); at-most-7 = omega arith }
 
   read-small : (address n : ℕ) → Small (read table w address n)
-  unfolding Small read
-  read-small address n = by-rule (readRule address n) refl
+  unfolding read
+  read-small address n = record { few = by-rule (readRule address n) refl; at-most-7 = read-number address n }
     where
       by-rule : (rule : Option ℕ) → readRule address n ≡ rule → length (unlessRefused rule [] (take n (drop address table))) ≤ 8
       by-rule (some error) e = omega arith
@@ -50,43 +54,45 @@ module _ (table : List ℕ) (w : RegisteredWrite) (sized : length table ≡ tabl
 
   write-small : (t : List ℕ) (v : RegisteredWrite) (address : ℕ) (bytes : List ℕ) → Small (write t v address bytes)
   unfolding write
-  write-small t v address bytes = none-small _ refl
+  write-small t v address bytes = none-small _ refl (write-number t address bytes)
 
   reg-write-small : (address : ℕ) (bytes : List ℕ) → Small (regWrite table w address bytes)
   unfolding regWrite
-  reg-write-small address bytes = none-small _ refl
+  reg-write-small address bytes = none-small _ refl (write-number table address bytes)
 
   action-small : Small (action table w)
   unfolding action
-  action-small = pick Small (eqb (w .count) 0) _ _ (none-small _ refl) (write-small _ _ _ _)
+  action-small = pick Small (eqb (w .count) 0) _ _ (none-small _ refl (omega arith)) (write-small _ _ _ _)
 
-  reaction-small : (heard : Heard) (all : Bool) (body : List ℕ) → Small (reaction heard all table w body .effect)
-  reaction-small =
-      every Small table w (λ error. none-small _ refl) (none-small _ refl) ping-small read-small (write-small table w) reg-write-small action-small
-      (none-small _ refl) (each-option Small table w (λ keeps. none-small _ refl) (none-small _ refl))
+  heeded-small : (heard : Heard) (id : ℕ) (body : List ℕ) → Small (heeded table w heard id body .effect)
+  heeded-small heard id body =
+      to-whomever table w heard id body (λ (r : Reaction). Small (r .effect))
+      (λ all. every (λ acting. Small) table w (λ error le. none-small _ refl le) (none-small _ refl (omega arith)) ping-small read-small (write-small table w)
+      reg-write-small action-small (none-small _ refl (omega arith))
+      (each-option Small table w (λ keeps. none-small _ refl (omega arith)) (none-small _ refl (omega arith))) heard all body)
+      (none-small _ refl (omega arith))
 
   -- the reply can be sent
   module _ (own : ownId table ≤ 252) where
-    pick-sendable : (b : Bool) (x y : Reply) → Sendable x → Sendable y → Sendable (cond b x y)
+    pick-sendable : (b : Bool) (x y : Reply) → Sendable (ownId table) x → Sendable (ownId table) y → Sendable (ownId table) (cond b x y)
     pick-sendable true x y f g = f
     pick-sendable false x y f g = g
 
-    silence-sendable : Sendable silence
-    silence-sendable = record { known = omega arith; short = omega arith }
+    alerted : (b : Bool) (error : ℕ) → error ≤ 7 → cond b error (error % 128 + 128) ≤ 135
+    alerted true error l = omega arith
+    alerted false error l = omega arith
 
-    by-voice : (voice : Voice) (e : Effect) → Small e → Sendable (replyBy voice table e)
-    unfolding Small
+    silence-sendable : Sendable (ownId table) silence
+    silence-sendable =
+        record { known = omega arith; short = omega arith; numbered = omega arith; own-id = λ e. absurd (false≢true e) }
+
+    by-voice : (voice : Voice) (e : Effect) → Small e → Sendable (ownId table) (replyBy voice table e)
     by-voice silent e s = silence-sendable
-    by-voice (speaks least slot) e s = pick-sendable (leb least (getD table 68 0)) _ silence (record { known = own; short = s }) silence-sendable
+    by-voice (speaks least slot) e s =
+        pick-sendable (leb least (getD table 68 0)) _ silence
+        (record { known = own; short = s .few; numbered = alerted (eqb (hardwareErrorIn (e .table)) 0) (e .error) (s .at-most-7); own-id = λ h. refl })
+        silence-sendable
 
-    heeded : (heard : Heard) (all : Bool) (body : List ℕ) → Sendable (carried table (reaction heard all table w body) .reply)
-    heeded heard all body = by-voice (reaction heard all table w body .voice) (reaction heard all table w body .effect) (reaction-small heard all body)
-
-    pick-carried : (b : Bool) (x y : Carried) → Sendable (x .reply) → Sendable (y .reply) → Sendable (cond b x y .reply)
-    pick-carried true x y f g = f
-    pick-carried false x y f g = g
-
-    pub sendable : (heard : Heard) (id : ℕ) (body : List ℕ) → Sendable (carryOut table w heard id body .reply)
-    unfolding carryOut
+    pub sendable : (heard : Heard) (id : ℕ) (body : List ℕ) → Sendable (ownId table) (carryOut table w heard id body .reply)
     sendable heard id body =
-        pick-carried (eqb id (ownId table)) _ _ (heeded heard false body) (pick-carried (eqb id 254) _ _ (heeded heard true body) silence-sendable)
+        by-voice (heeded table w heard id body .voice) (heeded table w heard id body .effect) (heeded-small heard id body)

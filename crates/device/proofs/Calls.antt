@@ -38,6 +38,28 @@ module _ (table : List ℕ) (w : RegisteredWrite) where
       unfolding stateRefusal
       accepts-state short = rw (eq-eqb (length table) tableSize sized, le-leb (ownId table) 252 own, le-leb (w .count) 8 short)
 
+-- what holds where none applies
+pub record AcceptedState (table : List ℕ) (w : RegisteredWrite) : Type 0 where
+  pub sized : length table ≡ tableSize
+  pub known : ownId table ≤ 252
+  pub short : w .count ≤ 8
+
+passed : (b : Bool) (number : ℕ) (rest : Option ℕ) → cond b rest (some number) ≡ none → (b ≡ true) × (rest ≡ none)
+passed true number rest e = (refl, e)
+passed false number rest e = let z : _≡_ {A = ℕ} 0 1 = cc in absurd (omega arith)
+
+pub state-accepted : (table : List ℕ) (w : RegisteredWrite) → stateRefusal table w ≡ none → AcceptedState table w
+unfolding stateRefusal
+state-accepted table w e =
+    let p = passed (eqb (length table) tableSize) 21 _ e in
+    let q = passed (leb (ownId table) 252) 22 _ (p .1) in
+    let r = passed (leb (w .count) 8) 23 _ (q .1) in
+    record {
+      sized = eqb-true (length table) tableSize (p .0);
+      known = leb-true (ownId table) 252 (q .0);
+      short = leb-true (w .count) 8 (r .0);
+    }
+
 pub refuses-room : (out : List ℕ) → length out < 32 → roomRefusal out ≡ some 24
 unfolding roomRefusal
 refuses-room out l = rw (lt-leb 32 (length out) l)
@@ -62,29 +84,17 @@ module _ (table : List ℕ) (w : RegisteredWrite) (out : List ℕ) where
     pub short : w .count ≤ 8
     pub room : 32 ≤ length out
 
-  passed : (b : Bool) (number : ℕ) (rest : Option ℕ) → cond b rest (some number) ≡ none → (b ≡ true) × (rest ≡ none)
-  passed true number rest e = (refl, e)
-  passed false number rest e = let z : _≡_ {A = ℕ} 0 1 = cc in absurd (omega arith)
-
   both : (a b : Option ℕ) → orElse a b ≡ none → (a ≡ none) × (b ≡ none)
   both none b e = (refl, e)
   both (some number) b e = let z : _≡_ {A = ℕ} 0 1 = cc in absurd (omega arith)
 
   pub accepted : callRefusal table w out ≡ none → Accepted
-  unfolding callRefusal stateRefusal roomRefusal
+  unfolding callRefusal roomRefusal
   accepted h =
       let parts = both _ _ h in
-      let e = parts .0 in
-      let p = passed (eqb (length table) tableSize) 21 _ e in
-      let q = passed (leb (ownId table) 252) 22 _ (p .1) in
-      let r = passed (leb (w .count) 8) 23 _ (q .1) in
+      let a = state-accepted table w (parts .0) in
       let s = passed (leb 32 (length out)) 24 _ (parts .1) in
-      record {
-        sized = eqb-true (length table) tableSize (p .0);
-        known = leb-true (ownId table) 252 (q .0);
-        short = leb-true (w .count) 8 (r .0);
-        room = leb-true 32 (length out) (s .0);
-      }
+      record { sized = a .sized; known = a .known; short = a .short; room = leb-true 32 (length out) (s .0) }
 
 -- ---- what the test of the caller's faults has answered
 

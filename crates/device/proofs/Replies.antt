@@ -1,12 +1,13 @@
 -- The reply of a reaction, and to whom the device listens.
 use mathlib.Core.Path.{_≡_, refl}
-use mathlib.Core.Bool.{true, false}
+use mathlib.Core.Bool.{Bool, true, false, cond}
 use mathlib.Core.List.{List}
 use Prim.Native.Nat.{ℕ, _-_}
+use lib.Dec.{eqb}
 use lib.ListN.{getD}
 use borrow.Author.Tests.{eq-eqb, ne-eqb}
-use Rattle.reactions.specs.Reactions.{Voice, silent, speaks, reaction, Reaction}
-use Rattle.device.specs.Device.{replyBy, Carried, carried, carryOut}
+use Rattle.reactions.specs.Reactions.{ownId, Voice, silent, speaks, reaction, Reaction, reacting, unchanged}
+use Rattle.device.specs.Device.{replyBy, Carried, carried, heeded, carryOut}
 use Rattle.reactions.specs.declared.Heard.{Heard}
 use Rattle.instructions.specs.Steps.{doneOf}
 use Rattle.reactions.specs.Steps.{reactedBy, reactedOf}
@@ -25,14 +26,24 @@ reply-of table q = by-voice (q .voice)
 
 module _ (table : List ℕ) (w : RegisteredWrite) (heard : Heard) (id : ℕ) (body : List ℕ) where
   pub to-own : id ≡ getD table 7 0 → carried table (reaction heard false table w body) ≡ carryOut table w heard id body
-  unfolding carryOut
+  unfolding heeded
   to-own e = rw (eq-eqb id (getD table 7 0) e)
 
   pub to-all : (id ≡ getD table 7 0 → ⊥) → id ≡ 254 → carried table (reaction heard true table w body) ≡ carryOut table w heard id body
-  unfolding carryOut
+  unfolding heeded
   to-all n e = rw (ne-eqb id (getD table 7 0) n, eq-eqb id 254 e)
 
   pub to-another : (id ≡ getD table 7 0 → ⊥) → (id ≡ 254 → ⊥)
       → _≡_ {A = Carried} (record { table = table; registered = w; reply = silence }) (carryOut table w heard id body)
-  unfolding carryOut
+  unfolding heeded
   to-another n m = rw (ne-eqb id (getD table 7 0) n, ne-eqb id 254 m)
+
+  -- what holds of each of the three holds of what is done
+  pub to-whomever : (P : Reaction → Type 0) → ((all : Bool) → P (reaction heard all table w body)) → P (reacting (unchanged table w) silent)
+      → P (heeded table w heard id body)
+  unfolding heeded
+  to-whomever P known other = pick (eqb id (ownId table)) _ _ (known false) (pick (eqb id 254) _ _ (known true) other)
+    where
+      pick : (b : Bool) (x y : Reaction) → P x → P y → P (cond b x y)
+      pick true x y f g = f
+      pick false x y f g = g

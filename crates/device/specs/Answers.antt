@@ -2,11 +2,11 @@
 use mathlib.Core.List.{List, [], _∷_}
 use mathlib.Core.Option.{Option, none, some}
 use Prim.Native.Nat.{ℕ}
-use lib.Dec.{leb, eqb}
+use lib.Dec.{leb}
 use lib.ListN.{length}
 use Rattle.lists.specs.Answer.{Answer as Lists·Answer, count, refused as Lists·refused, firstFailing, unlessRefused}
 use Rattle.lists.specs.Write.{overwritten}
-use Rattle.registers.specs.Registers.{tableSize}
+use Rattle.table_rules.specs.Outcomes.{inTable}
 use Rattle.instructions.specs.Registered.{keptBy}
 use Rattle.reactions.specs.Reactions.{ownId}
 use Rattle.device.specs.Device.{carryOut}
@@ -17,11 +17,11 @@ use Rattle.device.specs.declared.Replied.{Replied}
 use Rattle.device.specs.declared.Replied.the-variants.{Sent, NotTable, BadId, BadRegistered, NoRoom, BadReplyId, LongReply}
 use Rattle.status.specs.Status.{replyBytes}
 
--- of table and registered write
+-- of table and registered write [N5-N7]
 unfoldable pub stateRefusal : List ℕ → RegisteredWrite → Option ℕ
-stateRefusal table w = firstFailing ((eqb (length table) tableSize, 21) ∷ (leb (ownId table) 252, 22) ∷ (leb (w .count) 8, 23) ∷ [])
+stateRefusal table w = inTable table (firstFailing ((leb (ownId table) 252, 22) ∷ (leb (w .count) 8, 23) ∷ []))
 
--- of the reply buffer
+-- of the reply buffer [N8]
 unfoldable pub roomRefusal : List ℕ → Option ℕ
 roomRefusal out = firstFailing ((leb 32 (length out), 24) ∷ [])
 
@@ -30,7 +30,7 @@ abbrev pub orElse : Option ℕ → Option ℕ → Option ℕ
 orElse none second = second
 orElse (some number) second = some number
 
--- faults of the caller come first, whatever was heard
+-- faults of the caller come first, whatever was heard [N5-N8 N10 T18]
 unfoldable pub callRefusal : List ℕ → RegisteredWrite → List ℕ → Option ℕ
 callRefusal table w out = orElse (stateRefusal table w) (roomRefusal out)
 
@@ -39,6 +39,7 @@ pub data Answer : Type 0 where
   sent : ℕ → ℕ → Answer
   refused : ℕ → Answer
 
+-- [K5 N6-N8]
 abbrev pub repliedAnswer : Replied → Answer
 repliedAnswer (Sent n slot) = sent n slot
 repliedAnswer NotTable = refused 21
@@ -48,11 +49,12 @@ repliedAnswer NoRoom = refused 24
 repliedAnswer BadReplyId = refused 11
 repliedAnswer LongReply = refused 12
 
--- what the function that sends answers, with the reply slot
+-- what the function that sends answers, with the reply slot [D35]
 abbrev pub withSlot : Lists·Answer → ℕ → Answer
 withSlot (count n) slot = sent n slot
 withSlot (Lists·refused number) slot = refused number
 
+-- [D35]
 abbrev pub answeredBy : Option ℕ → Reply → Answer
 answeredBy none reply = sent (length (replyBytes reply)) (reply .slot)
 answeredBy (some number) reply = refused number
@@ -67,6 +69,6 @@ module _ (table : List ℕ) (w : RegisteredWrite) (heard : Heard) (id : ℕ) (bo
   abbrev pub callRegistered : RegisteredWrite
   callRegistered = keptBy (callRefusal table w out) w (carryOut table w heard id body .registered)
 
-  -- the bytes after the status stay, and so do all of them when silent
+  -- the bytes after the status stay, and so do all of them when silent [D36 D37]
   abbrev pub callOut : List ℕ
   callOut = unlessRefused (callRefusal table w out) out (overwritten out (replyBytes (carryOut table w heard id body .reply)))

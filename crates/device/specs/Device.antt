@@ -11,12 +11,12 @@ use Rattle.instructions.specs.Instructions.{Effect}
 use Rattle.instructions.specs.declared.RegisteredWrite.{RegisteredWrite}
 use Rattle.status.specs.declared.Reply.{Reply}
 use Rattle.reactions.specs.declared.Heard.{Heard}
-use Rattle.reactions.specs.Reactions.{ownId, Voice, silent, speaks, Reaction, reaction}
+use Rattle.reactions.specs.Reactions.{ownId, Voice, silent, speaks, Reaction, reacting, unchanged, reaction}
 
 abbrev pub hardwareErrorIn : List ℕ → ℕ
 hardwareErrorIn table = getD table (hardwareError .address) 0
 
--- ID and status return level are those before the instruction, the alert is that after it
+-- ID and status return level are those before the instruction, the alert is that after it [D29 D30 D32]
 abbrev pub replyBy : Voice → List ℕ → Effect → Reply
 replyBy silent table e = silence
 replyBy (speaks least slot) table e =
@@ -32,8 +32,12 @@ abbrev pub carried : List ℕ → Reaction → Carried
 carried table r =
     record { table = r .effect .table; registered = r .effect .registered; reply = replyBy (r .voice) table (r .effect) }
 
--- to the own ID, to all devices, or to another
-unfoldable pub carryOut : List ℕ → RegisteredWrite → Heard → ℕ → List ℕ → Carried
-carryOut table w heard id body =
-    cond (eqb id (ownId table)) (carried table (reaction heard false table w body))
-    (cond (eqb id 254) (carried table (reaction heard true table w body)) (record { table = table; registered = w; reply = silence }))
+-- what is done with what was sent to the own ID, to all devices, or to another
+unfoldable pub heeded : List ℕ → RegisteredWrite → Heard → ℕ → List ℕ → Reaction
+heeded table w heard id body =
+    cond (eqb id (ownId table)) (reaction heard false table w body)
+    (cond (eqb id 254) (reaction heard true table w body) (reacting (unchanged table w) silent))
+
+-- [D1 K9]
+abbrev pub carryOut : List ℕ → RegisteredWrite → Heard → ℕ → List ℕ → Carried
+carryOut table w heard id body = carried table (heeded table w heard id body)

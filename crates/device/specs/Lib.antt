@@ -1,4 +1,6 @@
 pub mod Device
 pub mod Answers
 pub mod Steps
-pub mod Stays
+pub mod Demand1
+pub mod Written
+pub mod Promises

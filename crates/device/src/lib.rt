@@ -108,7 +108,7 @@ pub struct Response {
 }
 
 // The caller's fault in table and registered write, or silence where there is none. In their order: a table that is not 136 bytes
-// long, an ID above 252 in it, a registered write of more than 8 bytes.
+// long, an ID above 252 in it, a registered write of more than 8 bytes. [N5-N7]
 pub fn state_refusal(table: &[u8], registered: RegisteredWrite) -> Replied
     ensures { λ r. ⌜ repliedAnswer r ≡ answeredBy (stateRefusal (now (table .entry)) registered) Status·silence ⌝ }
 {
@@ -124,7 +124,7 @@ pub fn state_refusal(table: &[u8], registered: RegisteredWrite) -> Replied
     Replied::Sent(0, 0)
 }
 
-// The caller's fault in what is lent to the device call, or silence: the same, then a reply buffer under 32 bytes.
+// The caller's fault in what is lent to the device call, or silence: the same, then a reply buffer under 32 bytes. [N5-N8 N10]
 pub fn call_refusal(table: &[u8], registered: RegisteredWrite, out: &[u8]) -> Replied
     ensures { λ r. ⌜ repliedAnswer r ≡ answeredBy (callRefusal (now (table .entry)) registered (now (out .entry))) Status·silence ⌝ }
 {
@@ -150,7 +150,7 @@ fn with_slot(written: Written, slot: usize) -> Replied
     }
 }
 
-// The device call. Faults of the caller come first, whatever was heard, and change nothing.
+// The device call. Faults of the caller come first, whatever was heard, and change nothing. [D1-D37 G4 M4 N5-N8 N10-N12 N14]
 pub fn hear(
     table: &mut [u8],
     registered: RegisteredWrite,

@@ -12,7 +12,7 @@ use Rattle.encoder.specs.Writing.{packetOf}
 use Rattle.encoder.specs.declared.Encoded.{Encoded}
 use Rattle.encoder.specs.declared.Encoded.the-variants.{Count, BadId, TooLong, NoRoom}
 
--- the refusal numbers of the encoder
+-- the refusal numbers of the encoder [E3 E5 K5 N1 N2]
 abbrev pub encodedAnswer : Encoded → Answer
 encodedAnswer (Count n) = count n
 encodedAnswer BadId = refused 11
@@ -20,6 +20,7 @@ encodedAnswer TooLong = refused 12
 encodedAnswer NoRoom = refused 13
 
 -- the first refusal that applies: the ID, then a length field that would pass 1,024, then no room from `at` on
+-- [E5-E8 N1 N2 N4 N10 P5]
 unfoldable pub encodeRefusal : ℕ → List ℕ → List ℕ → ℕ → Option ℕ
 encodeRefusal id body out at =
     firstFailing ((goodId id, 11)
@@ -27,9 +28,10 @@ encodeRefusal id body out at =
     ∷ (leb (at + length (packetOf id body)) (length out), 13)
     ∷ [])
 
+-- [E1 E3]
 abbrev pub encodeAnswer : ℕ → List ℕ → List ℕ → ℕ → Answer
 encodeAnswer id body out at = answered (encodeRefusal id body out at) (length (packetOf id body))
 
--- the bytes before `at` and after the packet stay
+-- the bytes before `at` and after the packet stay [E2 E4 E8 E9]
 abbrev pub encodeOut : ℕ → List ℕ → List ℕ → ℕ → List ℕ
 encodeOut id body out at = unlessRefused (encodeRefusal id body out at) out (placed out at (packetOf id body))

@@ -12,6 +12,7 @@ use Rattle.packet.specs.Packet.{bodyOf, WellFormed}
 use Rattle.packet.specs.Verdict.{verdict}
 use Rattle.encoder.specs.Writing.{packetOf}
 
+-- [E2]
 pub record RoundTrip : Type 0 where
   -- for a good ID and a body, not empty, that fits
   pub well-formed : (id : ℕ) (body : List ℕ) → goodId id ≡ true → 0 < length body → length (stuff body) + 2 ≤ 1024

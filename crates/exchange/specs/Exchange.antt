@@ -1,33 +1,46 @@
 -- From a packet as received to the device: what it hears, and what the call on a packet answers and leaves.
+use mathlib.Core.Bool.{cond}
 use mathlib.Core.List.{List}
 use mathlib.Core.Option.{Option, none, some}
 use Prim.Native.Nat.{ℕ}
-use lib.ListN.{getD}
+use lib.Dec.{eqb}
+use lib.ListN.{length}
 use Rattle.lists.specs.Answer.{unlessRefused}
 use Rattle.lists.specs.Write.{overwritten}
 use Rattle.stuffing.specs.Stuffing.{unstuff}
 use Rattle.stuffing.specs.Answers.{removalRefusal}
+use Rattle.reading.specs.Rules.{Verdict, isPacket, isBadChecksum, isWaiting, isNothing}
+use Rattle.packet_front.specs.Front.{idOf}
 use Rattle.packet.specs.Packet.{bodyOf}
+use Rattle.packet.specs.Verdict.{verdict}
 use Rattle.instructions.specs.Registered.{keptBy}
-use Rattle.device.specs.Answers.{Answer, refused, repliedAnswer, callRefusal, callAnswer, callTable, callRegistered, callOut}
+use Rattle.device.specs.Answers.{Answer, refused, repliedAnswer, orElse, callRefusal, callAnswer, callTable, callRegistered, callOut}
 use Rattle.instructions.specs.declared.RegisteredWrite.{RegisteredWrite}
 use Rattle.reactions.specs.declared.Heard.the-variants.{Packet}
 use Rattle.exchange.specs.declared.Exchanged.{Exchanged}
 use Rattle.exchange.specs.declared.Exchanged.the-variants.{Device, BadStuffing, NoRoom}
 
--- byte 4; bytes too few to have it are sent to nobody, as 255 is
-abbrev pub idHeard : List ℕ → ℕ
-idHeard packet = getD packet 4 255
+-- by the verdict on the bytes: one well-formed packet, and nothing beyond it, is for its ID; anything else is for nobody, as
+-- what is sent to 255 is
+abbrev pub idBy : Verdict → List ℕ → ℕ
+idBy (isPacket n) packet = cond (eqb n (length packet)) (idOf packet) 255
+idBy (isBadChecksum id) packet = 255
+idBy isWaiting packet = 255
+idBy isNothing packet = 255
+
+-- [D38]
+unfoldable pub idHeard : List ℕ → ℕ
+idHeard packet = idBy (verdict packet) packet
 
 pub record Message : Type 0 where
   pub id : ℕ
   pub body : List ℕ
 
--- what the device hears of a packet event's bytes: the ID and the unstuffed body
+-- what the device hears of a packet as received: the ID and the unstuffed body [D38]
 abbrev pub heardOf : List ℕ → Message
 heardOf packet = record { id = idHeard packet; body = unstuff (bodyOf packet) }
 
--- a refusal by its number
+-- a refusal by its number [K5 N3 N4]
 abbrev pub exchangedAnswer : Exchanged → Answer
 exchangedAnswer (Device replied) = repliedAnswer replied
 exchangedAnswer BadStuffing = refused 14
@@ -44,6 +57,10 @@ module _ (table : List ℕ) (w : RegisteredWrite) (packet body out : List ℕ) w
   abbrev pub bodyRefusal : Option ℕ
   bodyRefusal = removalRefusal (bodyOf packet) body
 
+  -- of the call
+  abbrev pub exchangeRefusal : Option ℕ
+  exchangeRefusal = orElse bodyRefusal (callRefusal table w out)
+
   abbrev pub exchangeAnswer : Answer
   exchangeAnswer = refusedOr bodyRefusal (callAnswer table w Packet (heardOf packet .id) (heardOf packet .body) out)
 
@@ -56,6 +73,6 @@ module _ (table : List ℕ) (w : RegisteredWrite) (packet body out : List ℕ) w
   abbrev pub exchangeOut : List ℕ
   exchangeOut = unlessRefused bodyRefusal out (callOut table w Packet (heardOf packet .id) (heardOf packet .body) out)
 
-  -- the unstuffed body, unless either of them refuses; the bytes after it stay
+  -- the unstuffed body, unless either of them refuses; the bytes after it stay [D39]
   abbrev pub exchangeBody : List ℕ
-  exchangeBody = unlessRefused bodyRefusal body (unlessRefused (callRefusal table w out) body (overwritten body (heardOf packet .body)))
+  exchangeBody = unlessRefused exchangeRefusal body (overwritten body (heardOf packet .body))

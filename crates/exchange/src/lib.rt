@@ -2,6 +2,7 @@
 use device::Replied;
 use device::Response;
 use instructions::RegisteredWrite;
+use packet::Verdict;
 use reactions::Heard;
 use stuffing::Checked;
 ghost use mathlib.Core.Path.{_≡_};
@@ -19,11 +20,14 @@ pub struct Answered {
     pub registered: RegisteredWrite,
 }
 
-// The packet's ID. Where its byte is not there, 255, which no device has.
+// The packet's ID. Where the bytes are not one well-formed packet and no more, 255, which no device has.
 fn id_heard(packet: &[u8]) -> u8
     ensures { λ r. ⌜ r ≡ idHeard (now (packet .entry)) ⌝ }
 {
-    if packet.len() <= 4 {
+    let Verdict::Packet(n) = packet::judge(packet, 0) else {
+        return 255;
+    };
+    if n != packet.len() {
         return 255;
     }
     packet[4]
@@ -31,6 +35,7 @@ fn id_heard(packet: &[u8]) -> u8
 
 // The packet's body goes to the body buffer without its stuffing, and the device hears it. Faults of the caller come first, in
 // the order of their tests here, and change nothing: not the body buffer either, which is written when all tests are passed.
+// [D38 D39 N3 N4 N6-N8 N10-N12 N14]
 pub fn answer(
     table: &mut [u8],
     registered: RegisteredWrite,

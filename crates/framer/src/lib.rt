@@ -200,13 +200,14 @@ fn clear_rest(held: &mut [u8], packet: &mut [u8], step: Step)
         ≡ take (sizeIn (step .event)) (now (packet .entry)) ++ replicate (length (now (packet .entry)) - sizeIn (step .event)) 0) ⌝ }
 {
     let event = step.event;
+    let size = size_of(event);
     buffers::clear(held, step.held);
-    buffers::clear(packet, size_of(event));
+    buffers::clear(packet, size);
 }
 
 // A feeding call on the caller's held bytes, of which there are `count`, and packet buffer: the fewest bytes of the chunk that
 // decide an event are taken, or all of it. Feed the rest again until a call gives no event, also where the rest is empty: events
-// may lie in what is held.
+// may lie in what is held. [F2-F10 F15 F16 K2-K4]
 pub fn feed_in(held: &mut [u8; 1030], count: usize, chunk: &[u8], packet: &mut [u8; 1031]) -> Step
     ensures { λ r. ⌜ (r ≡ stepFor count (call protocol2 (take count (now (held .entry))) (Call·feed (now (chunk .entry)))))
         × (now (held .exit) ≡ heldFor count (now (held .entry)) (call protocol2 (take count (now (held .entry))) (Call·feed (now (chunk .entry)))))
@@ -221,6 +222,7 @@ pub fn feed_in(held: &mut [u8; 1030], count: usize, chunk: &[u8], packet: &mut [
 }
 
 // A gap call, likewise: the next event as if the segment ended with what is held. Call it until it says that nothing is left.
+// [F12-F16 K2-K4]
 pub fn gap_in(held: &mut [u8; 1030], count: usize, packet: &mut [u8; 1031]) -> Step
     ensures { λ r. ⌜ (r ≡ stepFor count (call protocol2 (take count (now (held .entry))) Call·gap))
         × (now (held .exit) ≡ heldFor count (now (held .entry)) (call protocol2 (take count (now (held .entry))) Call·gap))

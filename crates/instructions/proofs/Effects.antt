@@ -6,7 +6,6 @@ use mathlib.Core.Option.{Option, none, some}
 use Prim.Native.Nat.{ℕ}
 use native.Mathlib.Omega.{arith}
 use lib.ListN.{length, take, drop, set, length-take, length-drop}
-use borrow.Author.Tests.{eq-eqb, ne-eqb}
 use Rattle.lists.specs.Answer.{unlessRefused}
 use Rattle.lists.specs.Write.{padded}
 use Rattle.registers.specs.Registers.{tableSize, registeredInstruction}
@@ -14,6 +13,7 @@ use Rattle.table_rules.specs.Rules.{stored, readRule, writeRule}
 use Rattle.table_rules.specs.Outcomes.{isDone, refusalOf, inTable}
 use Rattle.table_rules.specs.declared.Outcome.{Outcome}
 use Rattle.table_rules.specs.declared.Outcome.the-variants.{Done, DataRange, DataLength, DataLimit, NoAccess, NotTable}
+use Rattle.table_rules.proofs.Size.{in-table, not-in-table}
 use Rattle.table_rules.proofs.Judged.{done-none, good-read, good-write}
 use Rattle.control_table.specs.Answers.{readBytes, writeOut}
 use Rattle.control_table.proofs.Theorems.{read-inside}
@@ -34,21 +34,15 @@ refused-some NoAccess e = refl
 refused-some NotTable e = refl
 
 module _ (table : List ℕ) (rule : Option ℕ) where
-  in-table : length table ≡ tableSize → inTable table rule ≡ rule
-  in-table s = rw (eq-eqb (length table) tableSize s)
-
-  not-in-table : (length table ≡ tableSize → ⊥) → inTable table rule ≡ some 21
-  not-in-table n = rw (ne-eqb (length table) tableSize n)
-
   module _ (o : Outcome) (e : refusalOf o ≡ inTable table rule) where
     refused-rule : length table ≡ tableSize → isDone o ≡ false → rule ≡ some (errorOf (refusalOf o))
-    refused-rule s d = sym (in-table s) ∙ sym e ∙ refused-some o d
+    refused-rule s d = sym (in-table table s rule) ∙ sym e ∙ refused-some o d
 
     good-rule : length table ≡ tableSize → isDone o ≡ true → rule ≡ none
-    good-rule s d = sym (in-table s) ∙ sym e ∙ done-none o d
+    good-rule s d = sym (in-table table s rule) ∙ sym e ∙ done-none o d
 
     error-21 : (w : RegisteredWrite) → (length table ≡ tableSize → ⊥) → doneWith (errorOf (refusalOf o)) [] w ≡ doneWith 21 [] w
-    error-21 w n = ap (λ (r : Option ℕ). doneWith (errorOf r) [] w) (e ∙ not-in-table n)
+    error-21 w n = ap (λ (r : Option ℕ). doneWith (errorOf r) [] w) (e ∙ not-in-table table n rule)
 
 module _ (table : List ℕ) (w : RegisteredWrite) (address : ℕ) where
   module _ (n : ℕ) (o : Outcome) (e : refusalOf o ≡ inTable table (readRule address n)) where
@@ -66,7 +60,7 @@ module _ (table : List ℕ) (w : RegisteredWrite) (address : ℕ) where
         let g = good-rule table (readRule address n) o e s d in
         let i = read-inside table address n (sym e ∙ done-none o d) in
         let l : n ≡ length (take n (drop address table)) = simp (length-take, length-drop) (omega arith) in
-        rw (g) (ap (λ (b : List ℕ). record { error = 0; count = n; bytes = b; registered = w }) (b ∙ rw (in-table table (readRule address n) s, g))
+        rw (g) (ap (λ (b : List ℕ). record { error = 0; count = n; bytes = b; registered = w }) (b ∙ rw (in-table table s (readRule address n), g))
         ∙ ap (λ (k : ℕ). record { error = 0; count = k; bytes = padded 8 (take n (drop address table)); registered = w }) l)
         ∙ ap doneOf (sym (of-size table w (read table w address n) s))
 
@@ -76,15 +70,15 @@ module _ (table : List ℕ) (w : RegisteredWrite) (address : ℕ) where
     unfolding write
     write-done o e =
         by-size table w (write table w address bytes) (λ (f : Effect). doneWith (errorOf (refusalOf o)) [] w ≡ doneOf f)
-        (λ s. ap (λ (r : Option ℕ). doneWith (errorOf r) [] w) (e ∙ in-table table (writeRule table address bytes) s))
+        (λ s. ap (λ (r : Option ℕ). doneWith (errorOf r) [] w) (e ∙ in-table table s (writeRule table address bytes)))
         (error-21 table (writeRule table address bytes) o e w)
 
     pub write-table : writeOut table address bytes ≡ sized table w (write table w address bytes) .table
     unfolding write
     write-table =
         by-size table w (write table w address bytes) (λ (f : Effect). writeOut table address bytes ≡ f .table)
-        (λ s. ap (λ (r : Option ℕ). unlessRefused r table (stored table address bytes)) (in-table table (writeRule table address bytes) s))
-        (λ n. ap (λ (r : Option ℕ). unlessRefused r table (stored table address bytes)) (not-in-table table (writeRule table address bytes) n))
+        (λ s. ap (λ (r : Option ℕ). unlessRefused r table (stored table address bytes)) (in-table table s (writeRule table address bytes)))
+        (λ n. ap (λ (r : Option ℕ). unlessRefused r table (stored table address bytes)) (not-in-table table n (writeRule table address bytes)))
 
     module _ (o : Outcome) (e : refusalOf o ≡ inTable table (writeRule table address bytes)) where
       pub reg-write-refused : isDone o ≡ false → doneWith (errorOf (refusalOf o)) [] w ≡ doneOf (sized table w (regWrite table w address bytes))

@@ -6,15 +6,15 @@ use mathlib.Core.Option.{Option, none, some}
 use Prim.Native.Nat.{ℕ, _+_, _-_, _≤_, _<_}
 use native.Mathlib.Omega.{arith}
 use lib.Dec.{eqb, leb, ltb}
-use lib.ListN.{length, getD, length-take}
+use lib.ListN.{length, getD, replicate, length-take}
 use lib.Signed.{leZ}
 use lib.IntN.{ℤ, pos}
 use borrow.Author.Tests.{eq-eqb, lt-ltb, ltb-true, ltb-false, leb-true}
 use Rattle.lists.specs.Answer.{unlessRefused}
 use Rattle.lists.proofs.Bools.{and-left, and-right, or-right}
-use Rattle.registers.specs.Registers.{Register, registers, tableSize, endOf, deviceId, goalPosition, minPosition, registeredInstruction}
+use Rattle.registers.specs.Registers.{Register, registers, tableSize, endOf, deviceId, goalPosition, minPosition, presentPosition, hardwareError, registeredInstruction}
 use Rattle.lists.specs.Numbers.{bytesOf}
-use Rattle.items.specs.Items.{put, itemBytes, valueOf, valueInRange}
+use Rattle.items.specs.Items.{put, unsigned, itemBytes, valueOf, valueInRange}
 use Rattle.items.proofs.Signed.{value-byte}
 use Rattle.table_rules.specs.Rules.{touches, everyTouched, stored, writeRule}
 use Rattle.table_rules.specs.Outcomes.{inTable}
@@ -22,6 +22,7 @@ use Rattle.table_rules.proofs.Stored.{stored-before, stored-at, stored-after, s
 use Rattle.table_rules.proofs.Walks.{each}
 use Rattle.table_rules.proofs.Judged.{good-write}
 use Rattle.control_table.specs.Fresh.{freshened}
+use Rattle.control_table.specs.Answers.{freshOut, measureOut}
 use Rattle.lists.proofs.Numbers.{bytes-length}
 use Rattle.control_table.proofs.Theorems.{write-short, write-inside}
 use Rattle.resets.specs.Resets.{only, resetAtReboot, rebooted, resetRom}
@@ -65,6 +66,13 @@ module _ (table : List ℕ) (f : FitTable table) (address : ℕ) (bytes : List �
   -- behind the ID
   stored-behind : 7 < address → FitTable (stored table address bytes)
   stored-behind h = stored-fit (λ a b. absurd (omega arith))
+
+-- and so a register
+put-behind : (table : List ℕ) → FitTable table → (r : Register) (u : ℕ) → 7 < r .address → endOf r ≤ tableSize → FitTable (put table r u)
+unfolding put
+put-behind table f r u h i =
+    let l = bytes-length (r .bytes) u in
+    stored-behind table f (r .address) (bytesOf (r .bytes) u) (omega arith) h
 
 -- ---- a good write
 
@@ -141,13 +149,27 @@ reset-fit : (table : List ℕ) → FitTable table → (keeps : Register → Bool
 unfolding resetRom
 reset-fit table f keeps = registers-fit table f _
 
+-- ---- fresh and measurement calls
+
+zeros-fit : FitTable (replicate tableSize 0)
+zeros-fit = record { sized = refl; known = omega arith }
+
+module _ (table : List ℕ) (f : FitTable table) where
+  pub fresh-fit : FitTable (freshOut table)
+  unfolding registers bytesOf
+  fresh-fit = rw (eq-eqb (length table) tableSize (f .sized)) (freshened-fit (replicate tableSize 0) zeros-fit (λ r. true) registers refl)
+
+  pub measure-fit : (position : ℤ) (error : ℕ) → FitTable (measureOut table position error)
+  measure-fit position error =
+      rw (eq-eqb (length table) tableSize (f .sized))
+      (put-behind _ (put-behind table f presentPosition (unsigned position) (omega arith) (omega arith)) hardwareError error (omega arith) (omega arith))
+
 -- ---- each instruction
 
 module _ (table : List ℕ) (f : FitTable table) where
   -- the table that says whether a write is registered
   said-fit : (b : ℕ) → FitTable (put table registeredInstruction b)
-  unfolding put
-  said-fit b = let l = bytes-length 1 b in stored-behind table f 69 (bytesOf 1 b) (omega arith) (omega arith)
+  said-fit b = put-behind table f registeredInstruction b (omega arith) (omega arith)
 
   in-table : (r : Option ℕ) → r ≡ none → inTable table r ≡ none
   in-table r e = rw (eq-eqb (length table) tableSize (f .sized), e)

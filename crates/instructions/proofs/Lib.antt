@@ -3,3 +3,4 @@ pub mod Effects
 pub mod Options
 pub mod Acting
 pub mod Fit
+pub mod Errors

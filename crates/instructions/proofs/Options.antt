@@ -15,8 +15,8 @@ use Rattle.instructions.specs.Instructions.{Effect, refusing, reboot, fa
 use Rattle.instructions.specs.Steps.{sized}
 use Rattle.instructions.proofs.Sized.{of-size}
 use Rattle.resets.specs.Resets.{resetRom, keepsNone, keepsId, keepsIdAndBaud}
-use Rattle.resets.specs.Steps.{onTable}
-use Rattle.resets.proofs.Resets.{on-table}
+use Rattle.table_rules.specs.Outcomes.{onTable}
+use Rattle.table_rules.proofs.Size.{on-table}
 
 pub identity-bytes : (table : List ℕ) → length table ≡ tableSize
     → getD table 0 0 ∷ getD table 1 0 ∷ getD table 6 0 ∷ [] ≡ itemBytes modelNumber table ++ itemBytes firmwareVersion table
@@ -29,7 +29,7 @@ identity-bytes table sized =
 module _ (table : List ℕ) (w : RegisteredWrite) (s : length table ≡ tableSize) where
   -- as Reboot goes on, on the table that a reset has left
   then-reboot : (new left : List ℕ) → length left ≡ length table → left ≡ onTable table new → sized left w (reboot left w) ≡ reboot new w
-  then-reboot new left l e = of-size left w (reboot left w) (l ∙ s) ∙ ap (λ (t : List ℕ). reboot t w) (e ∙ on-table table new s)
+  then-reboot new left l e = of-size left w (reboot left w) (l ∙ s) ∙ ap (λ (t : List ℕ). reboot t w) (e ∙ on-table table s new)
 
   module _ (option : ℕ) (left : List ℕ) (l : length left ≡ length table) where
     pub option-all : option ≡ 0xFF → left ≡ onTable table (resetRom keepsNone table) → sized left w (reboot left w) ≡ factoryReset table w option

@@ -2,13 +2,14 @@
 use mathlib.Core.Path.{_≡_, refl, ap, _∙_, sym}
 use mathlib.Core.Bool.{Bool, true, false, cond}
 use mathlib.Core.List.{List, []}
+use mathlib.Core.Option.{none, some}
 use Prim.Native.Nat.{ℕ}
 use lib.Dec.{eqb}
 use lib.ListN.{length}
 use borrow.Author.Tests.{eq-eqb, ne-eqb, eqb-true, eqb-false}
 use Rattle.registers.specs.Registers.{tableSize}
 use Rattle.instructions.specs.Instructions.{Effect, refusing}
-use Rattle.instructions.specs.Steps.{doneWith, doneOf, sized}
+use Rattle.instructions.specs.Steps.{doneWith, doneOf, effectUnless, sized}
 use Rattle.instructions.specs.declared.Done.{Done}
 use Rattle.instructions.specs.declared.RegisteredWrite.{RegisteredWrite}
 
@@ -25,7 +26,7 @@ module _ (table : List ℕ) (w : RegisteredWrite) (e : Effect) where
       → P (sized table w e)
   by-size P good bad = by-test (eqb (length table) tableSize) refl
     where
-      by-test : (b : Bool) → eqb (length table) tableSize ≡ b → P (cond b e (refusing table w 21))
+      by-test : (b : Bool) → eqb (length table) tableSize ≡ b → P (effectUnless (cond b none (some 21)) table w e)
       by-test true t = good (eqb-true (length table) tableSize t)
       by-test false t = bad (eqb-false (length table) tableSize t)
 

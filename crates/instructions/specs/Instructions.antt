@@ -23,12 +23,13 @@ pub record Effect : Type 0 where
 abbrev pub leaving : List ℕ → RegisteredWrite → ℕ → List ℕ → Effect
 leaving table w error bytes = record { table = table; registered = w; error = error; bytes = bytes }
 
--- a refusal changes nothing and has no data
+-- a refusal changes nothing and has no data [D28]
 abbrev pub refusing : List ℕ → RegisteredWrite → ℕ → Effect
 refusing table w error = leaving table w error []
 
 -- ---- instructions on registers
 
+-- [D8]
 abbrev pub ping : List ℕ → RegisteredWrite → Effect
 ping table w = leaving table w 0 (itemBytes modelNumber table ++ itemBytes firmwareVersion table)
 
@@ -37,22 +38,24 @@ abbrev pub errorOf : Option ℕ → ℕ
 errorOf none = 0
 errorOf (some error) = error
 
+-- [D9]
 unfoldable pub read : List ℕ → RegisteredWrite → ℕ → ℕ → Effect
 read table w address n =
     let refusal = readRule address n in leaving table w (errorOf refusal) (unlessRefused refusal [] (take n (drop address table)))
 
+-- [D11]
 unfoldable pub write : List ℕ → RegisteredWrite → ℕ → List ℕ → Effect
 write table w address bytes =
     let refusal = writeRule table address bytes in
     leaving (unlessRefused refusal table (stored table address bytes)) w (errorOf refusal) []
 
--- the write is judged; a good one is kept for Action in the place of an older one, and the table says so
+-- the write is judged; a good one is kept for Action in the place of an older one, and the table says so [D12 D13]
 unfoldable pub regWrite : List ℕ → RegisteredWrite → ℕ → List ℕ → Effect
 regWrite table w address bytes =
     let refusal = writeRule table address bytes in
     leaving (unlessRefused refusal table (put table registeredInstruction 1)) (keptBy refusal w (registering table address bytes)) (errorOf refusal) []
 
--- the registered write is dropped, and then judged afresh
+-- the registered write is dropped, and then judged afresh [D14 D15]
 unfoldable pub action : List ℕ → RegisteredWrite → Effect
 action table w =
     cond (eqb (w .count) 0) (refusing table w 0x02)
@@ -60,10 +63,11 @@ action table w =
 
 -- ---- Reboot and Factory Reset
 
+-- [D16]
 abbrev pub reboot : List ℕ → RegisteredWrite → Effect
 reboot table w = leaving (rebooted table) dropped 0 []
 
--- then as Reboot, torque on or off
+-- then as Reboot, torque on or off [D17-D19]
 unfoldable pub factoryReset : List ℕ → RegisteredWrite → ℕ → Effect
 factoryReset table w option =
     cond (eqb option 0xFF) (reboot (resetRom keepsNone table) w)

@@ -1,11 +1,10 @@
 -- What the functions answer: an effect without its table, as the code holds it.
-use mathlib.Core.Bool.{cond}
 use mathlib.Core.List.{List}
+use mathlib.Core.Option.{Option, none, some}
 use Prim.Native.Nat.{ℕ}
-use lib.Dec.{eqb}
 use lib.ListN.{length}
 use Rattle.lists.specs.Write.{padded}
-use Rattle.registers.specs.Registers.{tableSize}
+use Rattle.table_rules.specs.Outcomes.{inTable}
 use Rattle.instructions.specs.Instructions.{Effect, refusing}
 use Rattle.instructions.specs.declared.RegisteredWrite.{RegisteredWrite}
 use Rattle.instructions.specs.declared.Done.{Done}
@@ -16,6 +15,10 @@ doneWith error bytes w = record { error = error; count = length bytes; bytes = p
 abbrev pub doneOf : Effect → Done
 doneOf e = doneWith (e .error) (e .bytes) (e .registered)
 
--- on a table of another size nothing is done, and the error is 21
+-- a fault of the caller is told in the place of the error number, and nothing is done
+abbrev pub effectUnless : Option ℕ → List ℕ → RegisteredWrite → Effect → Effect
+effectUnless none table w e = e
+effectUnless (some number) table w e = refusing table w number
+
 abbrev pub sized : List ℕ → RegisteredWrite → Effect → Effect
-sized table w e = cond (eqb (length table) tableSize) e (refusing table w 21)
+sized table w e = effectUnless (inTable table none) table w e

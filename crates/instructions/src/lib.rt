@@ -1,5 +1,5 @@
-// What each instruction does to the control table and the registered write. On a table of another size nothing is done, and the
-// error is 21.
+// What each instruction does to the control table and the registered write. A table of another size is refused: nothing is done,
+// and 21 stands in the place of the error number.
 use table_rules::Outcome;
 ghost use mathlib.Core.Path.{_≡_};
 ghost use mathlib.Core.Bool.{cond};

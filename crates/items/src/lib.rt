@@ -5,7 +5,7 @@ ghost use Rattle.registers.specs.Registers.{readWrite};
 ghost use Rattle.lists.specs.Numbers.{numberAt};
 ghost use Rattle.items.specs.Items.{signed, unsigned, inRange};
 
-// Four bytes, lowest first, as a signed number in two's complement.
+// Four bytes, lowest first, as a signed number in two's complement. [T3]
 pub fn signed_of(a: u8, b: u8, c: u8, d: u8) -> i32
     ensures { λ r. ⌜ r ≡ signed (numberAt (a ∷ b ∷ c ∷ d ∷ []) 0 4) ⌝ }
 {
@@ -17,7 +17,7 @@ pub fn signed_of(a: u8, b: u8, c: u8, d: u8) -> i32
     -1 - m
 }
 
-// The word of 32 bits that stands for a signed number.
+// The word of 32 bits that stands for a signed number. [T3]
 pub fn unsigned_of(value: i32) -> u32
     ensures { λ r. ⌜ r ≡ unsigned value ⌝ }
 {

@@ -11,28 +11,29 @@ use Rattle.instructions.specs.declared.RegisteredWrite.{RegisteredWrite}
 use Rattle.numbers.specs.declared.StepNumbers.{StepNumbers}
 use Rattle.numbers.specs.declared.DeviceNumbers.{DeviceNumbers}
 
--- a count that no 64-bit signed number holds is answered as the largest one (no buffer of a real machine is that long)
+-- a count that no 64-bit signed number holds is answered as the largest one (no buffer of a real machine is that long) [G5 N11]
 abbrev pub exported : Answer → ℤ
 exported (count n) = pos (min n (2 ^ 63 - 1))
 exported (refused number) = negℤ (pos number)
 
--- where there is nothing to count: 0, or minus the refusal number
+-- where there is nothing to count: 0, or minus the refusal number [G5 N11]
 abbrev pub exportedRefusal : Option ℕ → ℤ
 exportedRefusal none = pos 0
 exportedRefusal (some number) = negℤ (pos number)
 
 -- what a feeding or gap call answers beside its buffers: the bytes taken, and by the event the packet's byte count, the kind (1 a
--- packet, 2 a bad checksum, 0 no event, 25 the refusal) and the ID
+-- packet, 2 a bad checksum, 0 no event, 25 the refusal) and the ID [N9 N11]
 abbrev pub eventNumbers : ℕ → StepEvent → StepNumbers
 eventNumbers taken (Packet id n) = record { taken = taken; count = n; kind = 1; id = id }
 eventNumbers taken (BadChecksum id) = record { taken = taken; count = 0; kind = 2; id = id }
 eventNumbers taken Silent = record { taken = taken; count = 0; kind = 0; id = 0 }
 eventNumbers taken Refused = record { taken = taken; count = 0; kind = 25; id = 0 }
 
+-- [G5]
 abbrev pub stepNumbers : Step → StepNumbers
 stepNumbers s = eventNumbers (s .taken) (s .event)
 
--- the device's answer and the registered write that it leaves
+-- the device's answer and the registered write that it leaves [G5]
 abbrev pub deviceNumbers : Device·Answer → RegisteredWrite → DeviceNumbers
 deviceNumbers (sent n slot) w = record { count = exported (count n); slot = slot; registered = w }
 deviceNumbers (Device·refused number) w = record { count = negℤ (pos number); slot = 0; registered = w }

@@ -13,7 +13,7 @@ use Rattle.packet.specs.Packet.{bodyOf, checksumRight, WellFormed}
 use Rattle.packet.specs.declared.Verdict.{Verdict}
 use Rattle.packet.specs.declared.Verdict.the-variants.{Packet, BadChecksum, Waiting, Nothing}
 
--- the tests in their order: agreement, completeness, checksum, stuffing
+-- the tests in their order: agreement, completeness, checksum, stuffing [V3-V6]
 abbrev pub ruling : Bool → Bool → Bool → Bool → ℕ → ℕ → Ruling
 ruling false c k t n id = isNothing
 ruling true false k t n id = isWaiting
@@ -21,16 +21,17 @@ ruling true true false t n id = isBadChecksum id
 ruling true true true false n id = isNothing
 ruling true true true true n id = isPacket n
 
+-- [V3]
 unfoldable pub verdict : List ℕ → Ruling
 verdict s =
     let w = take (sizeOf s) s in
     ruling (frontAgrees s && lengthAgrees s) (complete s) (checksumRight w) (wellStuffed (bodyOf w)) (sizeOf s) (idOf s)
 
--- the rules of Protocol 2.0
+-- the rules of Protocol 2.0 [F3 P5]
 abbrev pub protocol2 : Rules
 protocol2 = record { longest = 1031; verdict = verdict; lacks = lacks; WellFormed = WellFormed }
 
--- the code's answer: a verdict, and where it waits the bytes that it lacks
+-- the code's answer: a verdict, and where it waits the bytes that it lacks [K5 V11]
 abbrev pub answerFor : Ruling → ℕ → Verdict
 answerFor (isPacket n) k = Packet n
 answerFor (isBadChecksum id) k = BadChecksum id

@@ -24,7 +24,7 @@ pub enum Verdict {
     Nothing,
 }
 
-// The body, as a part of the packet: between the length field and the checksum; empty where there is no room for both.
+// The body, as a part of the packet: between the length field and the checksum; empty where there is no room for both. [S2 S7]
 pub fn body(packet: &[u8]) -> &[u8]
     ensures { λ r. ⌜ now r ≡ bodyOf (now (packet .entry)) ⌝ }
 {
@@ -35,7 +35,7 @@ pub fn body(packet: &[u8]) -> &[u8]
     }
 }
 
-// The packet's body without its stuffing at the start of out; refused as removal is.
+// The packet's body without its stuffing at the start of out; refused as removal is. [N3 N4 N11 N12 N14 S7]
 pub fn unstuff(packet: &[u8], out: &mut [u8]) -> Unstuffed
     ensures { λ r. ⌜ unstuffedAnswer r ≡ removalAnswer (bodyOf (now (packet .entry))) (now (out .entry)) ⌝ }
     ensures { λ _. ⌜ now (out .exit) ≡ removalOut (bodyOf (now (packet .entry))) (now (out .entry)) ⌝ }
@@ -83,6 +83,7 @@ fn judge_start(s: &[u8]) -> Verdict
 
 // The verdict on the bytes of a segment from an offset on, while the segment is open; past its end there are none. The
 // checksum is computed once at most, and only where all bytes of the packet are there.
+// [C4 M1 M2 P1-P5 P7-P10 S2 S4 S5 V3-V6 V8 V9 V11]
 pub fn judge(segment: &[u8], offset: usize) -> Verdict
     ensures { λ r. ⌜ r ≡ answerFor (verdict (drop offset (now (segment .entry)))) (lacks (drop offset (now (segment .entry)))) ⌝ }
 {

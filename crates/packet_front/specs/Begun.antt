@@ -8,16 +8,16 @@ use Rattle.packet_front.specs.Front.{goodId, lengthOf}
 use Rattle.packet_front.specs.declared.Begun.{Begun}
 use Rattle.packet_front.specs.declared.Begun.the-variants.{Nothing, Waiting, Whole}
 
--- byte i passes the test, if it is there
+-- byte i passes the test, if it is there [V8]
 abbrev pub soFar : List ℕ → ℕ → (ℕ → Bool) → Bool
 soFar s i test = leb (length s) i || test (getD s i 0)
 
--- the bytes that are there agree with header and ID
+-- the bytes that are there agree with header and ID [V8]
 unfoldable pub frontAgrees : List ℕ → Bool
 frontAgrees s =
     soFar s 0 (eqb 0xFF) && (soFar s 1 (eqb 0xFF) && (soFar s 2 (eqb 0xFD) && (soFar s 3 (eqb 0x00) && soFar s 4 goodId)))
 
--- the length field, tested when its second byte is there, is 3 to 1,024
+-- the length field, tested when its second byte is there, is 3 to 1,024 [P5 V8 V9]
 unfoldable pub lengthAgrees : List ℕ → Bool
 lengthAgrees s = ltb (length s) 7 || (leb 3 (lengthOf s) && leb (lengthOf s) 1024)
 
@@ -25,20 +25,21 @@ lengthAgrees s = ltb (length s) 7 || (leb 3 (lengthOf s) && leb (lengthOf s) 102
 abbrev pub sizeOf : List ℕ → ℕ
 sizeOf s = 7 + lengthOf s
 
--- all its bytes are there
+-- all its bytes are there [V8]
 abbrev pub complete : List ℕ → Bool
 complete s = leb 7 (length s) && leb (sizeOf s) (length s)
 
--- how many bytes a waiting offset surely lacks: the shortest packet has 10, until the length field is there
+-- how many bytes a waiting offset surely lacks: the shortest packet has 10, until the length field is there [V11]
 unfoldable pub lacks : List ℕ → ℕ
 lacks s = cond (ltb (length s) 7) (10 - length s) (sizeOf s - length s)
 
--- what header, ID and length field say, as the code has it
+-- what header, ID and length field say, as the code has it [K5]
 abbrev pub begunAs : Bool → Bool → ℕ → ℕ → Begun
 begunAs false c k n = Nothing
 begunAs true false k n = Waiting k
 begunAs true true k n = Whole n
 
+-- [V12]
 abbrev pub begunBy : List ℕ → Begun
 begunBy s = begunAs (frontAgrees s && lengthAgrees s) (complete s) (lacks s) (sizeOf s)
 
@@ -49,5 +50,6 @@ settledAs Nothing = 0
 settledAs (Waiting k) = 0
 settledAs (Whole n) = n
 
+-- [V12]
 abbrev pub settledBy : List ℕ → ℕ
 settledBy s = settledAs (begunBy s)

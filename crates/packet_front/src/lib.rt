@@ -68,7 +68,7 @@ fn front_agrees(s: &[u8]) -> bool
     id_agrees(s)
 }
 
-// What header, ID and length field say of the bytes from the slice's start on.
+// What header, ID and length field say of the bytes from the slice's start on. [V8 V9 V11]
 pub fn look(s: &[u8]) -> Begun
     ensures { λ r. ⌜ r ≡ begunBy (now (s .entry)) ⌝ }
 {
@@ -94,7 +94,7 @@ pub fn look(s: &[u8]) -> Begun
 }
 
 // How many bytes checksum and stuffing are judged by at an offset: all of a packet by header, ID and length that is there; 0
-// where none begins, which as many bytes as the shortest packet has show, or where some are missing.
+// where none begins, which as many bytes as the shortest packet has show, or where some are missing. [V12]
 pub fn settled(segment: &[u8], offset: usize) -> usize
     ensures { λ r. ⌜ r ≡ settledBy (drop offset (now (segment .entry))) ⌝ }
 {

@@ -10,7 +10,7 @@ use Rattle.parameters.specs.declared.Found.{Found}
 use Rattle.parameters.specs.declared.Found.the-variants.{Nothing}
 use Rattle.parameters.specs.Entries.{Entry, search}
 
--- two bytes of the parameters, low byte first
+-- two bytes of the parameters, low byte first [D5]
 abbrev pub wordAt : List ℕ → ℕ → ℕ
 wordAt params i = getD params i 0 + getD params (i + 1) 0 * 256
 
@@ -31,6 +31,6 @@ entryOf (Plain n) = plain (1 + n)
 entryOf BulkRead = bulkRead
 entryOf BulkWrite = bulkWrite
 
--- address, length, entries: without a length there is no list
+-- address, length, entries: without a length there is no list [D22 D23]
 abbrev pub syncSearch : ℕ → ℕ → List ℕ → Found
 syncSearch size own params = cond (eqb (wordAt params 2) 0) Nothing (search (plain size) own params 4)

@@ -58,7 +58,7 @@ fn entry_size(kind: EntryKind, rest: &[u8]) -> usize
 }
 
 // The own entry of the list that begins at `from`, which may lie past the end. The list is judged to its end: an entry that is not
-// allowed or cut short, an ID above 252 or one that stood before make it no list at all.
+// allowed or cut short, an ID above 252 or one that stood before make it no list at all. [D22-D24]
 pub fn search(params: &[u8], from: usize, kind: EntryKind, own: u8) -> Found
     ensures { λ r. ⌜ r ≡ Entries·search (entryOf kind) own (now (params .entry)) from ⌝ }
 {
@@ -92,7 +92,7 @@ pub fn search(params: &[u8], from: usize, kind: EntryKind, own: u8) -> Found
     found
 }
 
-// The own entry of a Sync list, whose entries are an ID and n bytes; without a length there is no list.
+// The own entry of a Sync list, whose entries are an ID and n bytes; without a length there is no list. [D22-D24]
 pub fn sync_search(params: &[u8], n: u16, own: u8) -> Found
     ensures { λ r. ⌜ r ≡ syncSearch (1 + n) own (now (params .entry)) ⌝ }
 {

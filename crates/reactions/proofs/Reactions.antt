@@ -11,7 +11,7 @@ use borrow.Author.Tests.{eq-eqb, ne-eqb, le-leb, lt-leb}
 use Rattle.registers.specs.Registers.{tableSize}
 use Rattle.instructions.specs.Instructions.{Effect, refusing, ping, read}
 use Rattle.parameters.specs.Parameters.{wordAt, syncSearch}
-use Rattle.reactions.specs.Reactions.{Voice, silent, speaks, ownOnly, reaction, Reaction, reacting, counted, ownId, unchanged, heardPing, heardRead, heardUndefined, byEntry, syncReadBy, heardSyncRead, heardInstruction}
+use Rattle.reactions.specs.Reactions.{Voice, silent, speaks, ownOnly, reaction, Reaction, reacting, counted, ownId, heardPing, heardRead, heardUndefined, byEntry, syncReadBy, heardSyncRead, heardInstruction}
 use Rattle.reactions.specs.declared.Heard.{Heard}
 use Rattle.reactions.specs.declared.Heard.the-variants.{Packet, BadChecksum}
 use Rattle.parameters.specs.declared.Found.{Found}
@@ -24,18 +24,18 @@ use Rattle.reactions.specs.declared.Reacted.{Reacted}
 use Rattle.instructions.specs.declared.RegisteredWrite.{RegisteredWrite}
 
 module _ (voice : Voice) (table : List ℕ) (w : RegisteredWrite) (e : Effect) (right : Bool) where
-  pub wrong-count : right ≡ false → (r : Reacted) (d : Done) → r ≡ reactedBy voice d → d ≡ doneWith 0x05 [] w
+  pub wrong-count : right ≡ false → (r : Reacted) → r ≡ reactedBy voice (doneWith 0x05 [] w)
       → r ≡ reactedOf (reacting (counted right table w e) voice)
-  wrong-count h r d a b = a ∙ ap (reactedBy voice) b ∙ ap (λ (c : Bool). reactedOf (reacting (counted c table w e) voice)) (sym h)
+  wrong-count h r a = a ∙ ap (λ (c : Bool). reactedOf (reacting (counted c table w e) voice)) (sym h)
 
   pub right-count : right ≡ true → (r : Reacted) (d : Done) → r ≡ reactedBy voice d → d ≡ doneOf e
       → r ≡ reactedOf (reacting (counted right table w e) voice)
   right-count h r d a b = a ∙ ap (reactedBy voice) b ∙ ap (λ (c : Bool). reactedOf (reacting (counted c table w e) voice)) (sym h)
 
   -- and the table that is left
-  pub wrong : right ≡ false → (r : Reacted) (d : Done) → r ≡ reactedBy voice d → d ≡ doneWith 0x05 [] w
+  pub wrong : right ≡ false → (r : Reacted) → r ≡ reactedBy voice (doneWith 0x05 [] w)
       → (r ≡ reactedOf (reacting (counted right table w e) voice)) × (table ≡ counted right table w e .table)
-  wrong h r d a b = (wrong-count h r d a b, ap (λ (c : Bool). counted c table w e .table) (sym h))
+  wrong h r a = (wrong-count h r a, ap (λ (c : Bool). counted c table w e .table) (sym h))
 
   pub fitting : right ≡ true → (r : Reacted) (d : Done) (t : List ℕ) → r ≡ reactedBy voice d → d ≡ doneOf e → t ≡ e .table
       → (r ≡ reactedOf (reacting (counted right table w e) voice)) × (t ≡ counted right table w e .table)
@@ -45,7 +45,7 @@ module _ (voice : Voice) (table : List ℕ) (w : RegisteredWrite) (e : Effect) (
 
 module _ (all : Bool) (table : List ℕ) (w : RegisteredWrite) (params : List ℕ) where
   module _ (e : Effect) where
-    pub some-parameters : (length params ≡ 0 → ⊥) → (r : Reacted) (d : Done) → r ≡ reactedBy (ownOnly all 2) d → d ≡ doneWith 0x05 [] w
+    pub some-parameters : (length params ≡ 0 → ⊥) → (r : Reacted) → r ≡ reactedBy (ownOnly all 2) (doneWith 0x05 [] w)
         → (r ≡ reactedOf (reacting (counted (eqb (length params) 0) table w e) (ownOnly all 2)))
         × (table ≡ counted (eqb (length params) 0) table w e .table)
     some-parameters n = wrong (ownOnly all 2) table w e (eqb (length params) 0) (ne-eqb (length params) 0 n)
@@ -63,7 +63,7 @@ module _ (all : Bool) (table : List ℕ) (w : RegisteredWrite) (params : List �
     abbrev toAddress : Effect
     toAddress = counted (leb 2 (length params)) table w (f (wordAt params 0) (drop 2 params))
 
-    pub no-address : length params < 2 → (r : Reacted) (d : Done) → r ≡ reactedBy (ownOnly all 2) d → d ≡ doneWith 0x05 [] w
+    pub no-address : length params < 2 → (r : Reacted) → r ≡ reactedBy (ownOnly all 2) (doneWith 0x05 [] w)
         → (r ≡ reactedOf (reacting toAddress (ownOnly all 2))) × (table ≡ toAddress .table)
     no-address l = wrong (ownOnly all 2) table w _ (leb 2 (length params)) (lt-leb 2 (length params) l)
 
@@ -141,7 +141,7 @@ module _ (table : List ℕ) (w : RegisteredWrite) (q : Reaction) where
   pub reaction-of-size : length table ≡ tableSize → sizedReaction table w q ≡ q
   reaction-of-size s = rw (eq-eqb (length table) tableSize s)
 
-  no-reaction : (length table ≡ tableSize → ⊥) → sizedReaction table w q ≡ reacting (unchanged table w) silent
+  no-reaction : (length table ≡ tableSize → ⊥) → sizedReaction table w q ≡ reacting (refusing table w 21) silent
   no-reaction n = rw (ne-eqb (length table) tableSize n)
 
   -- the two promises of `reaction`, by the reaction that the code shows
@@ -153,9 +153,9 @@ module _ (table : List ℕ) (w : RegisteredWrite) (q : Reaction) where
       → (r ≡ reactedOf (sizedReaction table w q)) × (t ≡ sizedReaction table w q .effect .table)
   reacted-of-size s p e = reacted-as p (e ∙ sym (reaction-of-size s))
 
-  pub not-reacted : (length table ≡ tableSize → ⊥) → (r : Reacted) (t : List ℕ) → r ≡ reactedBy silent (doneWith 0 [] w) → t ≡ table
+  pub not-reacted : (length table ≡ tableSize → ⊥) → (r : Reacted) (t : List ℕ) → r ≡ reactedBy silent (doneWith 21 [] w) → t ≡ table
       → (r ≡ reactedOf (sizedReaction table w q)) × (t ≡ sizedReaction table w q .effect .table)
-  not-reacted n = reacted-as (reacting (unchanged table w) silent) (sym (no-reaction n))
+  not-reacted n = reacted-as (reacting (refusing table w 21) silent) (sym (no-reaction n))
 
 -- ---- the reply
 

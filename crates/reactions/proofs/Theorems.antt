@@ -1,81 +1,80 @@
 -- What a refused instruction leaves.
 use mathlib.Core.Path.{_≡_, refl}
-use mathlib.Core.Bool.{Bool, true, false}
+use mathlib.Core.Bool.{Bool, true, false, cond, not, _&&_}
 use mathlib.Core.List.{List, []}
-use mathlib.Core.Logic.{_⊎_, inl, inr}
 use mathlib.Core.Option.{Option, none, some}
 use Prim.Native.Nat.{ℕ}
+use native.Mathlib.Omega.{arith}
 use lib.Dec.{eqb}
-use borrow.Author.Tests.{eqb-false}
+use lib.ListN.{length, set}
 use Rattle.lists.specs.Answer.{unlessRefused}
-use Rattle.registers.specs.Registers.{registeredInstruction}
+use Rattle.registers.specs.Registers.{tableSize, registeredInstruction}
 use Rattle.items.specs.Items.{put}
 use Rattle.table_rules.specs.Rules.{stored, writeRule}
+use Rattle.control_table.proofs.Put.{put-byte}
 use Rattle.instructions.specs.Registered.{registering, dropped, bytesToWrite, keptBy}
 use Rattle.instructions.specs.Instructions.{Effect, leaving, errorOf, read, write, regWrite, action}
 use Rattle.instructions.proofs.Options.{each-option}
 use Rattle.reactions.specs.Reactions.{reaction}
+use Rattle.reactions.specs.Refused.{isAction, tableIfRefused, registeredIfRefused}
 use Rattle.instructions.specs.declared.RegisteredWrite.{RegisteredWrite}
 use Rattle.reactions.specs.declared.Heard.{Heard}
 use Rattle.reactions.proofs.Every.{every}
 
-module _ (table : List ℕ) (w : RegisteredWrite) where
-  -- nothing has changed
-  pub record Untouched (e : Effect) : Type 0 where
-    pub same-table : e .table ≡ table
-    pub same-registered : e .registered ≡ w
+module _ (table : List ℕ) (w : RegisteredWrite) (sized : length table ≡ tableSize) where
+  -- by whether it is an Action without parameters
+  Refused : Bool → Effect → Type 0
+  Refused acting e = ¬ (e .error ≡ 0)
+      → (e .table ≡ cond (acting && not (eqb (w .count) 0)) (set table 69 0) table)
+      × (e .registered ≡ cond (acting && not (eqb (w .count) 0)) dropped w)
 
-  -- a registered write was there and has been dropped, and the table says so
-  pub record Dropped (e : Effect) : Type 0 where
-    pub registered-before : w .count ≡ 0 → ⊥
-    pub cleared : e .table ≡ put table registeredInstruction 0
-    pub none-left : e .registered ≡ dropped
-
-  Refused : Effect → Type 0
-  Refused e = (e .error ≡ 0 → ⊥) → Untouched e ⊎ Dropped e
-
-  stays : (t : List ℕ) (v : RegisteredWrite) (error : ℕ) (bytes : List ℕ) → t ≡ table → v ≡ w → Refused (leaving t v error bytes)
+  stays : (error : ℕ) (bytes : List ℕ) → Refused false (leaving table w error bytes)
   unfolding Refused
-  stays t v error bytes a b n = inl (record { same-table = a; same-registered = b })
+  stays error bytes n = (refl, refl)
 
-  good : (e : Effect) → e .error ≡ 0 → Refused e
+  good : (acting : Bool) (e : Effect) → e .error ≡ 0 → Refused acting e
   unfolding Refused
-  good e z n = absurd (n z)
+  good acting e z n = absurd (n z)
 
-  refused-write : (address : ℕ) (bytes : List ℕ) → Refused (write table w address bytes)
+  refused-write : (address : ℕ) (bytes : List ℕ) → Refused false (write table w address bytes)
   unfolding write
   refused-write address bytes = by-rule (writeRule table address bytes)
     where
-      by-rule : (r : Option ℕ) → Refused (leaving (unlessRefused r table (stored table address bytes)) w (errorOf r) [])
-      by-rule none = good _ refl
-      by-rule (some number) = stays _ _ _ _ refl refl
+      by-rule : (r : Option ℕ) → Refused false (leaving (unlessRefused r table (stored table address bytes)) w (errorOf r) [])
+      by-rule none = good _ _ refl
+      by-rule (some number) = stays _ _
 
-  refused-reg-write : (address : ℕ) (bytes : List ℕ) → Refused (regWrite table w address bytes)
+  refused-reg-write : (address : ℕ) (bytes : List ℕ) → Refused false (regWrite table w address bytes)
   unfolding regWrite
   refused-reg-write address bytes = by-rule (writeRule table address bytes)
     where
       by-rule : (r : Option ℕ)
-          → Refused (leaving (unlessRefused r table (put table registeredInstruction 1)) (keptBy r w (registering table address bytes)) (errorOf r) [])
-      by-rule none = good _ refl
-      by-rule (some number) = stays _ _ _ _ refl refl
+          → Refused false (leaving (unlessRefused r table (put table registeredInstruction 1)) (keptBy r w (registering table address bytes)) (errorOf r) [])
+      by-rule none = good _ _ refl
+      by-rule (some number) = stays _ _
 
-  refused-action : Refused (action table w)
+  refused-action : Refused true (action table w)
   unfolding action write Refused
   refused-action = by-count (eqb (w .count) 0) refl
     where
-      by-rule : (w .count ≡ 0 → ⊥) → (r : Option ℕ)
-          → Refused (leaving (unlessRefused r (put table registeredInstruction 0) (stored (put table registeredInstruction 0) (w .address) (bytesToWrite w))) dropped (errorOf r) [])
-      by-rule n none = good _ refl
-      by-rule n (some number) = λ _. inr (record { registered-before = n; cleared = refl; none-left = refl })
+      by-rule : (r : Option ℕ) → eqb (w .count) 0 ≡ false
+          → Refused true (leaving (unlessRefused r (put table registeredInstruction 0) (stored (put table registeredInstruction 0) (w .address) (bytesToWrite w))) dropped (errorOf r) [])
+      by-rule none e = λ n. absurd (n refl)
+      by-rule (some number) e = λ n. rw e (put-byte table registeredInstruction 0 refl (omega arith) (omega arith), refl)
 
-      by-count : (b : Bool) → eqb (w .count) 0 ≡ b → Refused (action table w)
-      by-count true e = rw e (stays _ _ _ _ refl refl)
-      by-count false e = rw e (by-rule (eqb-false (w .count) 0 e) (writeRule (put table registeredInstruction 0) (w .address) (bytesToWrite w)))
+      by-count : (b : Bool) → eqb (w .count) 0 ≡ b → Refused true (action table w)
+      by-count true e = rw e (λ n. (refl, refl))
+      by-count false e = rw e (rw e at (by-rule (writeRule (put table registeredInstruction 0) (w .address) (bytesToWrite w)) e))
 
-  -- a refused instruction leaves table and registered write, except that an Action that found one has dropped it
-  pub refused : (heard : Heard) (all : Bool) (body : List ℕ) → (reaction heard all table w body .effect .error ≡ 0 → ⊥)
-      → Untouched (reaction heard all table w body .effect) ⊎ Dropped (reaction heard all table w body .effect)
-  unfolding Refused read
-  refused heard all body =
-      every Refused table w (λ error. stays _ _ _ _ refl refl) (good _ refl) (good _ refl) (λ a n. stays _ _ _ _ refl refl) refused-write refused-reg-write
-      refused-action (good _ refl) (each-option Refused table w (λ keeps. good _ refl) (stays _ _ _ _ refl refl)) heard all body
+  left : (heard : Heard) (all : Bool) (body : List ℕ) → Refused (isAction heard body) (reaction heard all table w body .effect)
+  unfolding read
+  left =
+      every Refused table w (λ error le. stays _ _) (good _ _ refl) (good _ _ refl) (λ a n. stays _ _) refused-write refused-reg-write
+      refused-action (good _ _ refl) (each-option (Refused false) table w (λ keeps. good _ _ refl) (stays _ _))
+
+  -- a refused instruction leaves table and registered write, except that an Action has dropped the one it found
+  pub refused : (heard : Heard) (all : Bool) (body : List ℕ) → ¬ (reaction heard all table w body .effect .error ≡ 0)
+      → (reaction heard all table w body .effect .table ≡ tableIfRefused table w heard body)
+      × (reaction heard all table w body .effect .registered ≡ registeredIfRefused w heard body)
+  unfolding Refused
+  refused heard all body = left heard all body

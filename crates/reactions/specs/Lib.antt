@@ -1,2 +1,3 @@
 pub mod Reactions
 pub mod Steps
+pub mod Refused

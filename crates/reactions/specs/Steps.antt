@@ -1,14 +1,14 @@
 -- What the functions answer: a reaction without its table, as the code holds it.
-use mathlib.Core.Bool.{true, false, cond}
+use mathlib.Core.Bool.{true, false}
 use mathlib.Core.List.{List}
+use mathlib.Core.Option.{Option, none, some}
 use Prim.Native.Nat.{ℕ}
-use lib.Dec.{eqb}
-use lib.ListN.{length}
-use Rattle.registers.specs.Registers.{tableSize}
+use Rattle.table_rules.specs.Outcomes.{inTable}
+use Rattle.instructions.specs.Instructions.{refusing}
 use Rattle.instructions.specs.declared.Done.{Done}
 use Rattle.instructions.specs.declared.RegisteredWrite.{RegisteredWrite}
 use Rattle.reactions.specs.declared.Reacted.{Reacted}
-use Rattle.reactions.specs.Reactions.{Voice, silent, speaks, Reaction, reacting, unchanged}
+use Rattle.reactions.specs.Reactions.{Voice, silent, speaks, Reaction, reacting}
 use Rattle.instructions.specs.Steps.{doneOf}
 
 abbrev pub reactedBy : Voice → Done → Reacted
@@ -18,6 +18,10 @@ reactedBy (speaks level slot) done = record { done = done; speaks = true; level 
 abbrev pub reactedOf : Reaction → Reacted
 reactedOf r = reactedBy (r .voice) (doneOf (r .effect))
 
--- on a table of another size nothing is done, and nothing is answered
+-- a fault of the caller is told in the place of the error number; nothing is done, and nothing is answered
+abbrev pub reactionUnless : Option ℕ → List ℕ → RegisteredWrite → Reaction → Reaction
+reactionUnless none table w r = r
+reactionUnless (some number) table w r = reacting (refusing table w number) silent
+
 abbrev pub sizedReaction : List ℕ → RegisteredWrite → Reaction → Reaction
-sizedReaction table w r = cond (eqb (length table) tableSize) r (reacting (unchanged table w) silent)
+sizedReaction table w r = reactionUnless (inTable table none) table w r

@@ -1,5 +1,5 @@
-// What the device makes of what it hears: which instruction is carried out, and how that is answered. On a table of another size
-// nothing is done, and nothing is answered.
+// What the device makes of what it hears: which instruction is carried out, and how that is answered. A table of another size is
+// refused: nothing is done, 21 stands in the place of the error number, and nothing is answered.
 use instructions::Done;
 use instructions::RegisteredWrite;
 use parameters::Found;
@@ -56,10 +56,17 @@ fn own_only(done: Done, all: bool, level: u8) -> Reacted
 }
 
 // Nothing is done, and nothing is answered.
-fn quiet(registered: RegisteredWrite) -> Reacted
-    ensures { λ r. ⌜ r ≡ reactedBy silent (doneWith 0 [] registered) ⌝ }
+fn quiet(registered: RegisteredWrite, error: u8) -> Reacted
+    ensures { λ r. ⌜ r ≡ reactedBy silent (doneWith error [] registered) ⌝ }
 {
-    unanswered(instructions::without_data(0, registered))
+    unanswered(instructions::without_data(error, registered))
+}
+
+// Nothing is done, and the error number, 0 for none, is answered to the own ID only.
+fn nothing_done(registered: RegisteredWrite, error: u8, all: bool, level: u8) -> Reacted
+    ensures { λ r. ⌜ r ≡ reactedBy (ownOnly all level) (doneWith error [] registered) ⌝ }
+{
+    own_only(instructions::without_data(error, registered), all, level)
 }
 
 // What each instruction does and how it is answered. A wrong count of parameters comes first.
@@ -69,7 +76,7 @@ fn heard_ping(table: &[u8], registered: RegisteredWrite, all: bool, params: &[u8
     ensures { λ r. ⌜ r ≡ reactedOf (heardPing all (now (table .entry)) registered (now (params .entry))) ⌝ }
 {
     if params.len() != 0 {
-        return own_only(instructions::without_data(5, registered), all, 0);
+        return nothing_done(registered, 5, all, 0);
     }
     let done = instructions::ping(table, registered);
     if all {
@@ -88,7 +95,7 @@ fn heard_read(table: &[u8], registered: RegisteredWrite, all: bool, params: &[u8
     ensures { λ r. ⌜ r ≡ reactedOf (heardRead all (now (table .entry)) registered (now (params .entry))) ⌝ }
 {
     if params.len() != 4 {
-        return own_only(instructions::without_data(5, registered), all, 1);
+        return nothing_done(registered, 5, all, 1);
     }
     let done = instructions::read(
         table,
@@ -105,7 +112,7 @@ fn heard_write(table: &mut [u8], registered: RegisteredWrite, all: bool, params:
     ensures { λ _. ⌜ now (table .exit) ≡ heardWrite all (now (table .entry)) registered (now (params .entry)) .effect .table ⌝ }
 {
     if params.len() < 2 {
-        return own_only(instructions::without_data(5, registered), all, 2);
+        return nothing_done(registered, 5, all, 2);
     }
     let done = instructions::write(
         table,
@@ -127,7 +134,7 @@ fn heard_reg_write(
     ensures { λ _. ⌜ now (table .exit) ≡ heardRegWrite all (now (table .entry)) registered (now (params .entry)) .effect .table ⌝ }
 {
     if params.len() < 2 {
-        return own_only(instructions::without_data(5, registered), all, 2);
+        return nothing_done(registered, 5, all, 2);
     }
     let done = instructions::reg_write(
         table,
@@ -144,7 +151,7 @@ fn heard_action(table: &mut [u8], registered: RegisteredWrite, all: bool, params
     ensures { λ _. ⌜ now (table .exit) ≡ heardAction all (now (table .entry)) registered (now (params .entry)) .effect .table ⌝ }
 {
     if params.len() != 0 {
-        return own_only(instructions::without_data(5, registered), all, 2);
+        return nothing_done(registered, 5, all, 2);
     }
     let done = instructions::action(table, registered);
     own_only(done, all, 2)
@@ -156,7 +163,7 @@ fn heard_reboot(table: &mut [u8], registered: RegisteredWrite, all: bool, params
     ensures { λ _. ⌜ now (table .exit) ≡ heardReboot all (now (table .entry)) registered (now (params .entry)) .effect .table ⌝ }
 {
     if params.len() != 0 {
-        return own_only(instructions::without_data(5, registered), all, 2);
+        return nothing_done(registered, 5, all, 2);
     }
     let done = instructions::reboot(table, registered);
     own_only(done, all, 2)
@@ -183,11 +190,11 @@ fn heard_factory_reset(
     ensures { λ _. ⌜ now (table .exit) ≡ heardFactoryReset all (now (table .entry)) registered (now (params .entry)) .effect .table ⌝ }
 {
     if params.len() != 1 {
-        return own_only(instructions::without_data(5, registered), all, 2);
+        return nothing_done(registered, 5, all, 2);
     }
     let option = params[0];
     if resets_every_id(all, option) {
-        return own_only(instructions::without_data(0, registered), all, 2);
+        return nothing_done(registered, 0, all, 2);
     }
     let done = instructions::factory_reset(table, registered, option);
     own_only(done, all, 2)
@@ -232,10 +239,10 @@ fn heard_sync_read(table: &[u8], registered: RegisteredWrite, all: bool, params:
     ensures { λ r. ⌜ r ≡ reactedOf (heardSyncRead all (now (table .entry)) registered (now (params .entry))) ⌝ }
 {
     if !all {
-        return own_only(instructions::without_data(2, registered), false, 1);
+        return nothing_done(registered, 2, false, 1);
     }
     let Found::At(slot, _) = parameters::sync_search(params, 0, table[7]) else {
-        return quiet(registered);
+        return quiet(registered, 0);
     };
     let address = parameters::word_at(params, 0);
     let n = parameters::word_at(params, 2);
@@ -253,11 +260,11 @@ fn heard_sync_write(
     ensures { λ _. ⌜ now (table .exit) ≡ heardSyncWrite all (now (table .entry)) registered (now (params .entry)) .effect .table ⌝ }
 {
     if !all {
-        return own_only(instructions::without_data(2, registered), false, 2);
+        return nothing_done(registered, 2, false, 2);
     }
     let n = parameters::word_at(params, 2);
     let Found::At(_, at) = parameters::sync_search(params, n, table[7]) else {
-        return quiet(registered);
+        return quiet(registered, 0);
     };
     let from = at + 1;
     let to = from + n as usize;
@@ -284,14 +291,14 @@ fn react(
         0x05 => heard_action(table, registered, all, params),
         0x06 => heard_factory_reset(table, registered, all, params),
         0x08 => heard_reboot(table, registered, all, params),
-        0x55 => quiet(registered),
+        0x55 => quiet(registered, 0),
         0x82 => heard_sync_read(&table[..], registered, all, params),
         0x83 => heard_sync_write(table, registered, all, params),
-        _ => own_only(instructions::without_data(2, registered), all, 2),
+        _ => nothing_done(registered, 2, all, 2),
     }
 }
 
-// An empty body counts as an undefined instruction; a bad checksum has no body.
+// An empty body counts as an undefined instruction; a bad checksum has no body. [D1-D27 D31-D34]
 pub fn reaction(
     table: &mut [u8],
     registered: RegisteredWrite,
@@ -303,13 +310,13 @@ pub fn reaction(
     ensures { λ _. ⌜ now (table .exit) ≡ sizedReaction (now (table .entry)) registered (Reactions·reaction heard all (now (table .entry)) registered (now (body .entry))) .effect .table ⌝ }
 {
     if table.len() != 136 {
-        return quiet(registered);
+        return quiet(registered, 21);
     }
     let Heard::Packet = heard else {
-        return own_only(instructions::without_data(3, registered), all, 2);
+        return nothing_done(registered, 3, all, 2);
     };
     if body.len() == 0 {
-        return own_only(instructions::without_data(2, registered), all, 2);
+        return nothing_done(registered, 2, all, 2);
     }
     react(table, registered, all, body[0], &body[1..])
 }

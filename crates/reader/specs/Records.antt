@@ -20,15 +20,15 @@ use Rattle.framer.specs.declared.StepEvent.the-variants.{Packet, BadChecksum, S
 use Rattle.framer.specs.Answer.{stepFor, heldFor, packetFor}
 use Rattle.reader.specs.declared.Reader.{Reader}
 
--- bytes past the count are ignored
+-- bytes past the count are ignored [F1 F15]
 abbrev pub heldIn : Reader → List ℕ
 heldIn r = take (r .count) (r .bytes)
 
--- what a call answers
+-- what a call answers [F5 F12]
 unfoldable pub saidOn : Reader → Call → Step
 saidOn r c = stepFor (r .count) (call protocol2 (heldIn r) c)
 
--- how it leaves the record: the bytes past its count are 0, and a refusal leaves it as it was
+-- how it leaves the record: the bytes past its count are 0, and a refusal leaves it as it was [F7 F8 F15]
 unfoldable pub leftBy : Reader → Call → Reader
 leftBy r c =
     record { bytes = heldFor (r .count) (r .bytes) (call protocol2 (heldIn r) c); count = saidOn r c .held }
@@ -42,14 +42,14 @@ unfoldable pub packetOn : Reader → Call → List ℕ → List ℕ
 packetOn r c old = packetFor (r .count) old (call protocol2 (heldIn r) c)
 
 -- the event that an answer gives, beside the packet buffer: the bytes of a packet, where the answer has their ID, or the ID of a
--- bad checksum
+-- bad checksum [F9 Q5]
 abbrev pub eventIn : StepEvent → List ℕ → Option Event
 eventIn (Packet id n) bytes = cond (eqb id (idOf (take n bytes))) (some (packet (take n bytes))) none
 eventIn (BadChecksum id) bytes = some (badChecksum id)
 eventIn Silent bytes = none
 eventIn Refused bytes = none
 
--- The records as a reader, of which demand 3 is promised: a fresh one is any with count 0, whatever lies past it.
+-- The records as a reader, of which demand 3 is promised: a fresh one is any with count 0, whatever lies past it. [F1 F2 Q1]
 abbrev pub records : AnyReader
 records =
     record {
@@ -61,11 +61,11 @@ records =
     }
 
 -- "at most 1,030 bytes are held, so none of these calls gives 25": from a fresh record on no call is refused, whatever came
--- before
+-- before [Q2]
 abbrev pub NeverRefused : Type 0
 NeverRefused = (r : Reader) → r .count ≡ 0 → (cs : List Call) (c : Call) → ¬ (saidOn (after records r cs) c .event ≡ Refused)
 
--- "at least 1,030 bytes have followed the damage": what `Followed` asks for, with the longest packet of Protocol 2.0
+-- "at least 1,030 bytes have followed the damage": what `Followed` asks for, with the longest packet of Protocol 2.0 [Q11]
 abbrev pub FollowedBy1030 : Type 0
 FollowedBy1030 = (s : List ℕ) → (Followed protocol2 s → 1030 ≤ length s) × (1030 ≤ length s → Followed protocol2 s)
 
@@ -77,5 +77,5 @@ pub record ReaderPromises : Type 0 where
   pub calls : CallPromises protocol2 records
   pub never-refused : NeverRefused
   pub followed-by-1030 : FollowedBy1030
-  -- noise in which no byte is FF
+  -- noise in which no byte is FF [Q14]
   pub none-without-ff : NoneWithout protocol2 0xFF

@@ -21,7 +21,7 @@ pub struct Fed {
 }
 
 // A feeding call: the fewest bytes of the chunk that decide an event are taken, or all of it. Feed the rest again until a
-// call gives no event, also where the rest is empty: events may lie in what is held.
+// call gives no event, also where the rest is empty: events may lie in what is held. [F1-F16 K3 K7 Q1-Q14]
 pub fn feed(reader: Reader, chunk: &[u8]) -> Fed
     ensures { λ r. ⌜ (r .step ≡ saidOn reader (Call·feed (now (chunk .entry))))
         × (r .packet ≡ packetOn reader (Call·feed (now (chunk .entry))) (replicate 1031 0))
@@ -41,6 +41,7 @@ pub fn feed(reader: Reader, chunk: &[u8]) -> Fed
 }
 
 // A gap call: the next event as if the segment ended with what is held. Call it until it says that nothing is left.
+// [F12-F16 Q1-Q14 V1]
 pub fn gap(reader: Reader) -> Fed
     ensures { λ r. ⌜ (r .step ≡ saidOn reader Call·gap) × (r .packet ≡ packetOn reader Call·gap (replicate 1031 0))
         × (r .reader ≡ leftBy reader Call·gap) ⌝ }

@@ -12,11 +12,11 @@ use Rattle.reading.specs.Calls.{Call, gap, FewestRule, HeldBound, Finish
 use Rattle.reading.specs.Lists.{AnyReader, model, after, took, given}
 use Rattle.reading.specs.Promise.{joined, EndsSilent, AtStart, since, Finished, AllWellFormed, NoneAcross, Demand3}
 
--- no noise: nothing reaches across
+-- no noise: nothing reaches across [Q7]
 abbrev pub WithoutNoise : Rules → Type 0
 WithoutNoise R = (beyond : List ℕ) → NoneAcross R [] beyond
 
--- noise in which the byte that packets begin with does not stand: nothing reaches across
+-- noise in which the byte that packets begin with does not stand: nothing reaches across [Q14]
 abbrev pub NoneWithout : Rules → ℕ → Type 0
 NoneWithout R start = (noise beyond : List ℕ) → ¬ List·Memᴰ start noise → NoneAcross R noise beyond
 
@@ -27,13 +27,13 @@ longerThan n (isBadChecksum id) = false
 longerThan n isWaiting = false
 longerThan n isNothing = false
 
--- at some offset in the noise the verdict is a packet that has more bytes than the noise has from there on
+-- at some offset in the noise the verdict is a packet that has more bytes than the noise has from there on [Q7]
 unfoldable pub reachesAcross : Rules → List ℕ → List ℕ → Bool
 reachesAcross R [] beyond = false
 reachesAcross R (b ∷ noise) beyond =
     longerThan (length (b ∷ noise)) (R .verdict (b ∷ (noise ++ beyond))) || reachesAcross R noise beyond
 
--- the supposition is that this test fails: nothing more and nothing less
+-- the supposition is that this test fails: nothing more and nothing less [Q7]
 abbrev pub AcrossDecided : Rules → Type 0
 AcrossDecided R =
     (noise beyond : List ℕ) → (reachesAcross R noise beyond ≡ false → NoneAcross R noise beyond)
@@ -42,7 +42,7 @@ AcrossDecided R =
 -- Demand 3 where there is no noise, with nothing supposed: on a reader at a fresh start or a finished gap, feeding calls and
 -- then gap calls, of which by the rules the bytes taken are well-formed packets side by side and the gap is finished. The
 -- reader takes these bytes, and the events given are these packets, in order and as received, and nothing else. All that is
--- asked is asked of the reader of the rules: one that takes nothing, or never finishes a gap, is not let off.
+-- asked is asked of the reader of the rules: one that takes nothing, or never finishes a gap, is not let off. [Q13]
 abbrev pub CleanLine : Rules → AnyReader → Type 0
 CleanLine R M =
     (x : M .State) → M .Fresh x → (earlier : List Call) → AtStart (model R) [] earlier → (chunks : List (List ℕ)) (g : ℕ)
@@ -59,6 +59,7 @@ pub record OnePerChunk (M : AnyReader) (x : M .State) (packets : List (List ℕ)
   pub finished : Finished M x packets 1
   pub start-again : EndsSilent M x (since packets 1) gap
 
+-- [Q13]
 abbrev pub PacketByPacket : Rules → AnyReader → Type 0
 PacketByPacket R M =
     (x : M .State) → M .Fresh x → (packets : List (List ℕ)) → AllWellFormed R packets → OnePerChunk M x packets

@@ -13,7 +13,7 @@ pub data First : Type 0 where
   -- no event, and the bytes from the waiting offset on, none if no offset waits
   silent : List ℕ → First
 
--- by the verdict on the bytes s, of which there is one at least; `later` is the first event from the next offset on
+-- by the verdict on the bytes s, of which there is one at least; `later` is the first event from the next offset on [F7 V10]
 abbrev pub firstAt : Mode → Verdict → List ℕ → First → First
 firstAt m (isPacket n) s later = event (packet (take n s)) (drop n s)
 firstAt m (isBadChecksum id) s later = event (badChecksum id) (drop 1 s)
@@ -30,39 +30,41 @@ pub record Reply : Type 0 where
 abbrev pub oneMore : Reply → Reply
 oneMore r = record { taken = suc (r .taken); answer = r .answer; held = r .held }
 
--- no byte is left to take
+-- no byte is left to take [F6-F8]
 abbrev pub fedAll : First → Reply
 fedAll (event e t) = record { taken = 0; answer = some e; held = t }
 fedAll (silent t) = record { taken = 0; answer = none; held = t }
 
--- one is, and `more` is the reply once it is taken
+-- one is, and `more` is the reply once it is taken [F5 F7]
 abbrev pub fedOn : First → Reply → Reply
 fedOn (event e t) more = record { taken = 0; answer = some e; held = t }
 fedOn (silent t) more = oneMore more
 
--- a gap call that finds no event says that nothing is left, and holds nothing
+-- a gap call that finds no event says that nothing is left, and holds nothing [F12]
 abbrev pub gapped : First → Reply
 gapped (event e t) = record { taken = 0; answer = some e; held = t }
 gapped (silent t) = record { taken = 0; answer = none; held = [] }
 
+-- [F4 V1]
 pub data Call : Type 0 where
   -- with a chunk of bytes, which may be empty (in the papers: a piece)
   feed : List ℕ → Call
   gap : Call
 
 module _ (R : Rules) where
+  -- [F8 V10]
   unfoldable pub first : Mode → List ℕ → First
   first m [] = silent []
   first m (b ∷ s) = firstAt m (R .verdict (b ∷ s)) (b ∷ s) (first m s)
 
   -- A feeding call with the chunk s on a reader that holds h: after 0, 1, 2, .. bytes of the chunk, the fewest after which
-  -- the held bytes and those have an event; or the whole chunk.
+  -- the held bytes and those have an event; or the whole chunk. [F4-F6]
   unfoldable pub fed : List ℕ → List ℕ → Reply
   unfolding first
   fed h [] = fedAll (first open′ h)
   fed h (b ∷ s) = fedOn (first open′ h) (fed (h ++ b ∷ []) s)
 
-  -- a call on a reader that holds h
+  -- a call on a reader that holds h [F12 F14]
   unfoldable pub call : List ℕ → Call → Reply
   unfolding fed first
   call h (feed s) = fed h s
@@ -82,10 +84,10 @@ pub record Fewest (R : Rules) (h s : List ℕ) (r : Reply) : Type 0 where
 abbrev pub FewestRule : Rules → Type 0
 FewestRule R = (h s : List ℕ) → Fewest R h s (fed R h s) × ((r : Reply) → Fewest R h s r → r ≡ fed R h s)
 
--- one byte less than the longest packet is held at most, after any call
+-- one byte less than the longest packet is held at most, after any call [F3]
 abbrev pub HeldBound : Rules → Type 0
 HeldBound R = (h : List ℕ) (c : Call) → length h ≤ R .longest - 1 → length (call R h c .held) ≤ R .longest - 1
 
--- a gap is finished when a gap call says that nothing is left; then nothing is held
+-- a gap is finished when a gap call says that nothing is left; then nothing is held [F13]
 abbrev pub FinishedEmpty : Rules → Type 0
 FinishedEmpty R = (h : List ℕ) → call R h gap .answer ≡ none → call R h gap .held ≡ []

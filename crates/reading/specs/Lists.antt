@@ -9,7 +9,7 @@ use Rattle.reading.specs.Reading.{Event}
 use Rattle.reading.specs.Calls.{Call, feed, gap, call}
 
 -- A reader: what it may be between calls, which of these are fresh ones, and of a call how many bytes it takes, the event
--- that it gives, if any, and how it leaves the reader.
+-- that it gives, if any, and how it leaves the reader. [F1 Q1]
 pub record AnyReader : Type 1 where
   pub State : Type 0
   pub Fresh : State → Type 0
@@ -32,9 +32,11 @@ abbrev pub chunkOf : Call → List ℕ
 chunkOf (feed s) = s
 chunkOf gap = []
 
+-- [Q3]
 abbrev pub feeds : List (List ℕ) → List Call
 feeds chunks = map feed chunks
 
+-- [Q3]
 abbrev pub gaps : ℕ → List Call
 gaps zero = []
 gaps (suc n) = gap ∷ gaps n
@@ -45,10 +47,12 @@ listed (some e) = e ∷ []
 
 -- calls on a reader that is x: how they leave it, the bytes that they took, the events that they gave
 module _ (M : AnyReader) where
+  -- [F14 Q1]
   unfoldable pub after : M .State → List Call → M .State
   after x [] = x
   after x (c ∷ cs) = after (M .next x c) cs
 
+  -- [Q4]
   unfoldable pub took : M .State → List Call → List ℕ
   took x [] = []
   took x (c ∷ cs) = take (M .taken x c) (chunkOf c) ++ took (M .next x c) cs

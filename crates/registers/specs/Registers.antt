@@ -79,6 +79,7 @@ goalPosition = register 116 4 (readWrite (pos 0) (pos 4095)) ram 0
 abbrev pub presentPosition : Register
 presentPosition = register 132 4 readOnly ram 0
 
+-- [G3 T2]
 unfoldable pub registers : List Register
 registers =
     modelNumber
@@ -98,7 +99,7 @@ registers =
     ∷ presentPosition
     ∷ []
 
--- the byte count of a control table
+-- the byte count of a control table [T1]
 abbrev pub tableSize : ℕ
 tableSize = 136
 
@@ -110,7 +111,7 @@ endOf r = r .address + r .bytes
 abbrev pub holds : Register → ℕ → Bool
 holds r a = leb (r .address) a && ltb a (endOf r)
 
--- What the bytes of a register permit: 1 reading, 2 writing while torque is off, 3 writing at any time.
+-- What the bytes of a register permit: 1 reading, 2 writing while torque is off, 3 writing at any time. [T8]
 abbrev pub grant : Access → Area → ℕ
 grant readOnly area = 1
 grant (readWrite low high) rom = 2
@@ -121,10 +122,11 @@ unfoldable pub permitsBy : List Register → ℕ → ℕ
 permitsBy [] a = 0
 permitsBy (r ∷ rs) a = cond (holds r a) (grant (r .access) (r .area)) (permitsBy rs a)
 
+-- [T8]
 abbrev pub permits : ℕ → ℕ
 permits a = permitsBy registers a
 
--- each of the n bytes from `a` on permits at least so much
+-- each of the n bytes from `a` on permits at least so much [T8 T16]
 unfoldable pub everyByte : ℕ → ℕ → ℕ → Bool
 everyByte least a zero = true
 everyByte least a (suc n) = leb least (permits a) && everyByte least (suc a) n

@@ -154,7 +154,7 @@ fn last_ram(a: usize) -> Row
     undefined()
 }
 
-// The register that has the byte at a; one that permits nothing where none has it.
+// The register that has the byte at a; one that permits nothing where none has it. [T2]
 pub fn register_at(a: usize) -> Row
     ensures { λ r. ⌜ r ≡ rowAt a ⌝ }
 {
@@ -171,7 +171,7 @@ pub fn register_at(a: usize) -> Row
 }
 
 // Each of the n bytes from `address` on permits at least so much: register by register, since the bytes of one permit the same. Where
-// nothing is asked, bytes that no register has pass too.
+// nothing is asked, bytes that no register has pass too. [T8 T16]
 pub fn every_byte(least: u8, address: usize, n: usize) -> bool
     ensures { λ r. ⌜ r ≡ everyByte least address n ⌝ }
 {

@@ -2,27 +2,30 @@
 use mathlib.Core.Path.{_≡_, refl, sym, ap, _∙_}
 use mathlib.Core.Bool.{Bool, true, false, not, _&&_}
 use mathlib.Core.List.{List, [], _∷_}
+use mathlib.Core.Option.{none, some}
 use Prim.Native.Nat.{ℕ, suc, _+_, _≤_}
 use native.Mathlib.Omega.{arith}
 use lib.Dec.{T, leb}
-use borrow.Author.Tests.{leb-true, eq-eqb, ne-eqb}
+use borrow.Author.Tests.{leb-true, eq-eqb}
 use lib.ListN.{length, take, drop, getD, set}
 use lib.Seq.{drop-cons, sets}
 use Rattle.registers.specs.Registers.{Register, registers, tableSize, endOf, deviceId, baudCode, writable}
 use Rattle.lists.specs.Numbers.{bytesOf}
 use Rattle.control_table.specs.Fresh.{freshened}
 use Rattle.table_rules.specs.Rules.{stored}
+use Rattle.table_rules.specs.Outcomes.{inTable, onTable}
+use Rattle.table_rules.proofs.Size.{in-table, on-table, not-in-table, off-table}
 use Rattle.control_table.proofs.Put.{put-sets, put-length, put-byte}
 use Rattle.table_rules.proofs.Stored.{stored-sets}
 use Rattle.resets.specs.Resets.{only, isRom, resetAtReboot, rebooted, resetRom, keepsNone, keepsId, keepsIdAndBaud}
-use Rattle.resets.specs.Steps.{onTable}
 
--- for a caller: what a reset leaves of a table, and of one of another size
-pub on-table : (table new : List ℕ) → length table ≡ tableSize → onTable table new ≡ new
-on-table table new e = rw (eq-eqb (length table) tableSize e)
+-- a table of another size: the answer and what is left
+pub refused : (table new : List ℕ) → (length table ≡ tableSize → ⊥) → (some 21 ≡ inTable table none) × (table ≡ onTable table new)
+refused table new n = (sym (not-in-table table n none), sym (off-table table n new))
 
-pub off-table : (table new : List ℕ) → (length table ≡ tableSize → ⊥) → onTable table new ≡ table
-off-table table new n = rw (ne-eqb (length table) tableSize n)
+-- and one of its size
+pub not-refused : (table : List ℕ) → length table ≡ tableSize → none ≡ inTable table none
+not-refused table s = sym (in-table table s none)
 
 -- on a list that is written out this computes to the stores themselves, those of the last register first
 abbrev stores : List Register → List ℕ → List ℕ
@@ -84,7 +87,7 @@ module _ (table : List ℕ) (sized : length table ≡ tableSize) where
       ap (λ (t : List ℕ). sets t 116 (getD table 52 0 ∷ getD table 53 0 ∷ getD table 54 0 ∷ getD table 55 0 ∷ [])) (freshened-stores rs tt)
       ∙ stored-sets (freshened rs table) 116 (getD table 52 0 ∷ getD table 53 0 ∷ getD table 54 0 ∷ getD table 55 0 ∷ []) (omega arith)
       ∙ ap (λ (b : List ℕ). stored (freshened rs table) 116 b) (sym (four 52 (omega arith)))
-      ∙ sym (on-table table _ sized)
+      ∙ sym (on-table table sized _)
 
   romBut : (Register → Bool) → List Register
   romBut keeps = only (λ r. isRom (r .area) && (writable (r .access) && not (keeps r))) registers
@@ -92,7 +95,7 @@ module _ (table : List ℕ) (sized : length table ≡ tableSize) where
   pub positions-stores : sets (sets (sets table 52 (0 ∷ 0 ∷ 0 ∷ 0 ∷ [])) 48 (255 ∷ 15 ∷ 0 ∷ 0 ∷ [])) 20 (0 ∷ 0 ∷ 0 ∷ 0 ∷ [])
       ≡ onTable table (resetRom keepsIdAndBaud table)
   unfolding registers bytesOf resetRom romBut
-  positions-stores = freshened-stores (romBut keepsIdAndBaud) tt ∙ sym (on-table table _ sized)
+  positions-stores = freshened-stores (romBut keepsIdAndBaud) tt ∙ sym (on-table table sized _)
 
   but-id-and-baud-length : length (resetRom keepsIdAndBaud table) ≡ tableSize
   unfolding registers resetRom romBut

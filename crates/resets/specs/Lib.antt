@@ -1,2 +1,1 @@
 pub mod Resets
-pub mod Steps

@@ -19,22 +19,26 @@ isRom ram = false
 abbrev pub isAt : ℕ → Register → Bool
 isAt address r = eqb (r .address) address
 
+-- [D16]
 abbrev pub resetAtReboot : Register → Bool
 resetAtReboot r = not (isRom (r .area)) && (not (isAt (presentPosition .address) r) && not (isAt (goalPosition .address) r))
 
--- RAM items fresh, except that present position stays and goal position gets the bytes of min position
+-- RAM items fresh, except that present position stays and goal position gets the bytes of min position [D16]
 unfoldable pub rebooted : List ℕ → List ℕ
 rebooted table = placed (freshened (only resetAtReboot registers) table) (goalPosition .address) (itemBytes minPosition table)
 
--- the writable ROM items but for those that the option keeps
+-- the writable ROM items but for those that the option keeps [D17]
 unfoldable pub resetRom : (Register → Bool) → List ℕ → List ℕ
 resetRom keeps table = freshened (only (λ r. isRom (r .area) && (writable (r .access) && not (keeps r))) registers) table
 
+-- [D17]
 abbrev pub keepsNone : Register → Bool
 keepsNone r = false
 
+-- [D17]
 abbrev pub keepsId : Register → Bool
 keepsId r = isAt (deviceId .address) r
 
+-- [D17]
 abbrev pub keepsIdAndBaud : Register → Bool
 keepsIdAndBaud r = isAt (deviceId .address) r || isAt (baudCode .address) r

@@ -1,14 +1,17 @@
-// Reboot and Factory Reset, on the table. A table of another size is left as it is.
+// Reboot and Factory Reset, on the table. A table of another size is refused and stays as it is.
+use table_rules::Outcome;
 ghost use mathlib.Core.Path.{_≡_};
+ghost use mathlib.Core.Option.{none};
+ghost use Rattle.table_rules.specs.Outcomes.{refusalOf, inTable, onTable};
 ghost use Rattle.resets.specs.Resets.{rebooted, resetRom, keepsIdAndBaud, keepsId, keepsNone};
-ghost use Rattle.resets.specs.Steps.{onTable};
 
 // RAM items fresh, present position as it was, min position as the goal.
-pub fn reboot(table: &mut [u8])
+pub fn reboot(table: &mut [u8]) -> Outcome
+    ensures { λ r. ⌜ refusalOf r ≡ inTable (now (table .entry)) none ⌝ }
     ensures { λ _. ⌜ now (table .exit) ≡ onTable (now (table .entry)) (rebooted (now (table .entry))) ⌝ }
 {
     if table.len() != 136 {
-        return;
+        return Outcome::NotTable;
     }
     let a = table[52];
     let b = table[53];
@@ -27,14 +30,16 @@ pub fn reboot(table: &mut [u8])
     table[117] = b;
     table[118] = c;
     table[119] = d;
+    Outcome::Done
 }
 
 // Factory Reset 02: homing offset and both limits fresh.
-pub fn reset_but_id_and_baud(table: &mut [u8])
+pub fn reset_but_id_and_baud(table: &mut [u8]) -> Outcome
+    ensures { λ r. ⌜ refusalOf r ≡ inTable (now (table .entry)) none ⌝ }
     ensures { λ _. ⌜ now (table .exit) ≡ onTable (now (table .entry)) (resetRom keepsIdAndBaud (now (table .entry))) ⌝ }
 {
     if table.len() != 136 {
-        return;
+        return Outcome::NotTable;
     }
     table[52] = 0;
     table[53] = 0;
@@ -48,26 +53,31 @@ pub fn reset_but_id_and_baud(table: &mut [u8])
     table[21] = 0;
     table[22] = 0;
     table[23] = 0;
+    Outcome::Done
 }
 
 // Factory Reset 01: the baud code too.
-pub fn reset_but_id(table: &mut [u8])
+pub fn reset_but_id(table: &mut [u8]) -> Outcome
+    ensures { λ r. ⌜ refusalOf r ≡ inTable (now (table .entry)) none ⌝ }
     ensures { λ _. ⌜ now (table .exit) ≡ onTable (now (table .entry)) (resetRom keepsId (now (table .entry))) ⌝ }
 {
     if table.len() != 136 {
-        return;
+        return Outcome::NotTable;
     }
     reset_but_id_and_baud(table);
     table[8] = 1;
+    Outcome::Done
 }
 
 // Factory Reset FF: the ID too.
-pub fn reset_all(table: &mut [u8])
+pub fn reset_all(table: &mut [u8]) -> Outcome
+    ensures { λ r. ⌜ refusalOf r ≡ inTable (now (table .entry)) none ⌝ }
     ensures { λ _. ⌜ now (table .exit) ≡ onTable (now (table .entry)) (resetRom keepsNone (now (table .entry))) ⌝ }
 {
     if table.len() != 136 {
-        return;
+        return Outcome::NotTable;
     }
     reset_but_id(table);
     table[7] = 1;
+    Outcome::Done
 }

@@ -11,8 +11,8 @@ use lib.ListN.{length, take, drop, getD, length-take, drop-of-length-le}
 use lib.Seq.{drop-cons}
 use borrow.Author.Tests.{le-leb, lt-leb}
 use Rattle.lists.specs.Answer.{count, answered}
-use Rattle.stuffing.specs.Stuffing.{mark, stuff, marksAfter}
-use Rattle.stuffing.proofs.Laws.{length-stuff}
+use Rattle.stuffing.specs.Stuffing.{stuff}
+use Rattle.stuffing.proofs.Laws.{stuff-at-most}
 use Rattle.encoder.proofs.Writing.{packet-length}
 use Rattle.encoder.specs.Encoding.{encodedAnswer, encodeRefusal, encodeAnswer}
 use Rattle.encoder.specs.declared.Encoded.{Encoded}
@@ -21,15 +21,6 @@ use Rattle.status.specs.declared.Reply.{Reply}
 use Rattle.status.specs.Status.{statusBody, statusPacket}
 use Rattle.status.specs.Steps.{writtenBy}
 use Rattle.status.specs.Sending.{writtenAnswer, statusRefusal}
-
-marks-le : (a b : ℕ) (s : List ℕ) → marksAfter a b s ≤ length s
-unfolding marksAfter
-marks-le a b [] = omega arith
-marks-le a b (c ∷ s) = by-mark (mark a b c) (marks-le b c s)
-  where
-    by-mark : (m : Bool) → marksAfter b c s ≤ length s → cond m (1 + marksAfter b c s) (marksAfter b c s) ≤ suc (length s)
-    by-mark true h = omega arith
-    by-mark false h = omega arith
 
 -- eight bytes one by one
 pub eight : (b : List ℕ) → length b ≡ 8
@@ -47,6 +38,12 @@ pub params-are : (error n : ℕ) (bytes : List ℕ) → length bytes ≡ 8
     (error ∷ getD bytes 0 0 ∷ getD bytes 1 0 ∷ getD bytes 2 0 ∷ getD bytes 3 0 ∷ getD bytes 4 0 ∷ getD bytes 5 0 ∷ getD bytes 6 0 ∷ getD bytes 7 0 ∷ [])
     ≡ error ∷ take n bytes
 params-are error n bytes full = rw (add-one) (ap (λ (l : List ℕ). error ∷ take n l) (eight bytes full))
+
+-- the stuffed body of at most 10 bytes
+pub body-stuffed : (r : Reply) → r .count ≤ 8 → length (stuff (statusBody r)) ≤ 13
+body-stuffed r short =
+    let l : length (take (r .count) (r .bytes)) ≤ 8 = simp length-take (omega arith) in
+    omega (arith, stuff-at-most (statusBody r))
 
 -- ---- the refusals, each where those before it do not apply
 module _ (r : Reply) (out : List ℕ) where
@@ -69,17 +66,11 @@ module _ (r : Reply) (out : List ℕ) where
         unfolding statusRefusal
         accepts = rw (le-leb (r .id) 252 known, le-leb (r .count) 8 short, le-leb 32 (length out) room)
 
-        body-length : length (stuff (statusBody r)) ≤ 20
-        body-length =
-            let m = marks-le 0 0 (statusBody r) in
-            let l : length (take (r .count) (r .bytes)) ≤ 8 = simp length-take (omega arith) in
-            omega (arith, length-stuff (statusBody r))
-
         -- and then the encoder refuses nothing
         pub fits : encodeRefusal (r .id) (statusBody r) out 0 ≡ none
         unfolding encodeRefusal
         fits =
-            let l = body-length in
+            let l = body-stuffed r short in
             rw (
               le-leb (r .id) 252 known,
               le-leb (length (stuff (statusBody r)) + 2) 1024 (omega arith),

@@ -18,13 +18,14 @@ writtenAnswer BadId = refused 11
 writtenAnswer TooLong = refused 12
 writtenAnswer NoRoom = refused 24
 
--- no device has the ID, more than 8 bytes of data, a buffer under 32 bytes; silence is refused as a status is
+-- no device has the ID, more than 8 bytes of data, a buffer under 32 bytes; silence is refused as a status is [N1 N2 N8]
 unfoldable pub statusRefusal : Reply → List ℕ → Option ℕ
 statusRefusal r out = firstFailing ((leb (r .id) 252, 11) ∷ (leb (r .count) 8, 12) ∷ (leb 32 (length out), 24) ∷ [])
 
+-- [D35]
 abbrev pub statusAnswer : Reply → List ℕ → Answer
 statusAnswer r out = answered (statusRefusal r out) (length (replyBytes r))
 
--- the bytes after the status stay, and so do all of them when silent
+-- the bytes after the status stay, and so do all of them when silent [D36 D37]
 abbrev pub statusOut : Reply → List ℕ → List ℕ
 statusOut r out = unlessRefused (statusRefusal r out) out (overwritten out (replyBytes r))

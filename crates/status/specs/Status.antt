@@ -12,20 +12,22 @@ abbrev pub status : ℕ → ℕ → List ℕ → ℕ → Reply
 status id error bytes slot =
     record { speaks = true; id = id; error = error; count = length bytes; bytes = padded 8 bytes; slot = slot }
 
+-- [D35]
 abbrev pub silence : Reply
 silence = record { speaks = false; id = 0; error = 0; count = 0; bytes = replicate 8 0; slot = 0 }
 
--- bit 7, the alert, is set where the hardware error is not 0
+-- bit 7, the alert, is set where the hardware error is not 0 [D29]
 abbrev pub errorByte : ℕ → ℕ → ℕ
 errorByte error hardware = cond (eqb hardware 0) error (error % 128 + 128)
 
--- instruction 55, error byte, data
+-- instruction 55, error byte, data [D28]
 abbrev pub statusBody : Reply → List ℕ
 statusBody r = 0x55 ∷ r .error ∷ take (r .count) (r .bytes)
 
+-- [D28]
 abbrev pub statusPacket : Reply → List ℕ
 statusPacket r = packetOf (r .id) (statusBody r)
 
--- silence is no bytes
+-- silence is no bytes [D35 D36]
 abbrev pub replyBytes : Reply → List ℕ
 replyBytes r = cond (r .speaks) (statusPacket r) []

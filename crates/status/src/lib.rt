@@ -32,7 +32,7 @@ pub fn silence() -> Reply
     }
 }
 
-// Bit 7, the alert, is set where the hardware error is not 0.
+// Bit 7, the alert, is set where the hardware error is not 0. [D29]
 pub fn error_byte(error: u8, hardware: u8) -> u8
     ensures { λ r. ⌜ r ≡ errorByte error hardware ⌝ }
 {
@@ -75,7 +75,7 @@ fn write_status(reply: Reply, out: &mut [u8]) -> Encoded
 }
 
 // The status packet at the start of out; silence writes nothing and has no bytes. Refused, in this order and silence too: an ID
-// above 252, more than 8 bytes of data, a buffer under 32 bytes. A refusal writes nothing.
+// above 252, more than 8 bytes of data, a buffer under 32 bytes. A refusal writes nothing. [D28 D35-D37 N1 N2 N8]
 pub fn send(reply: Reply, out: &mut [u8]) -> Written
     ensures { λ r. ⌜ writtenAnswer r ≡ statusAnswer reply (now (out .entry)) ⌝ }
     ensures { λ _. ⌜ now (out .exit) ≡ statusOut reply (now (out .entry)) ⌝ }

@@ -2,12 +2,12 @@
 use mathlib.Core.Path.{_≡_, refl, sym, ap, subst, _∙_}
 use mathlib.Core.Bool.{Bool, true, false, not, cond, _||_}
 use mathlib.Core.List.{List, [], _∷_}
-use Prim.Native.Nat.{ℕ, _+_}
+use Prim.Native.Nat.{ℕ, _+_, _*_, _≤_}
 use native.Mathlib.Omega.{arith}
 use lib.Dec.{eqb}
 use lib.ListN.{length}
 use borrow.Author.Tests.{eqb-true, not-true}
-use Rattle.lists.proofs.Bools.{and-left, and-right}
+use Rattle.lists.proofs.Bools.{and-left, and-right, both-ways}
 use Rattle.stuffing.specs.Stuffing.{mark, stuffAfter, stuff, wellAfter, wellStuffed, unstuffAfter, unstuff, marksAfter, marks}
 use Rattle.stuffing.proofs.Mark.{mark-last, no-mark, stuff-forgets}
 
@@ -93,3 +93,36 @@ length-stuff body = stuffed-length 0 0 body
 
 pub length-unstuff : (bytes : List ℕ) → wellStuffed bytes ≡ true → length bytes ≡ length (unstuff bytes) + marks (unstuff bytes)
 length-unstuff bytes w = ap length (sym (stuff-unstuff bytes w)) ∙ length-stuff (unstuff bytes)
+
+-- ---- how many bytes stuffing adds
+
+-- Three bytes make a mark, and no byte is of two marks. Before s there may stand two of the next one's bytes, one, or none.
+pub record Marks (a b : ℕ) (s : List ℕ) : Type 0 where
+  pub after-two : 3 * marksAfter a b s ≤ length s + 2
+  pub after-one : eqb a 0xFF ≡ false → 3 * marksAfter a b s ≤ length s + 1
+  pub after-none : eqb b 0xFF ≡ false → 3 * marksAfter a b s ≤ length s
+
+pub marks-within : (a b : ℕ) (s : List ℕ) → Marks a b s
+unfolding marksAfter
+marks-within a b [] = record { after-two = omega arith; after-one = λ e. omega arith; after-none = λ e. omega arith }
+marks-within a b (c ∷ s) = turn (marks-within b c s) (mark a b c) refl
+  where
+    turn : Marks b c s → (m : Bool) → mark a b c ≡ m → Marks a b (c ∷ s)
+    turn rest true e =
+        let n = rest .after-none (subst (λ (x : ℕ). eqb x 0xFF ≡ false) (sym (mark-last a b c e)) refl) in
+        record {
+          after-two = rw e (omega arith);
+          after-one = λ z. both-ways (mark a b c) e (rw z);
+          after-none = λ z. both-ways (mark a b c) e (no-mark a b c z);
+        }
+    turn rest false e =
+        let n = rest .after-two in
+        record {
+          after-two = rw e (omega arith);
+          after-one = λ z. rw e (omega arith);
+          after-none = λ z. let k = rest .after-one z in rw e (omega arith);
+        }
+
+-- so many bytes are stuffed to a third more at the most
+pub stuff-at-most : (body : List ℕ) → 3 * length (stuff body) ≤ 4 * length body
+stuff-at-most body = let n = marks-within 0 0 body .after-none refl in omega (arith, length-stuff body)

@@ -13,26 +13,27 @@ use Rattle.stuffing.specs.declared.Checked.the-variants.{Good, Bad}
 use Rattle.stuffing.specs.declared.Unstuffed.{Unstuffed}
 use Rattle.stuffing.specs.declared.Unstuffed.the-variants.{Count, BadStuffing, NoRoom}
 
--- the stuffing test, with the count of the unstuffed bytes where it passes
+-- the stuffing test, with the count of the unstuffed bytes where it passes [K5]
 abbrev pub checked : List ℕ → Checked
 checked body = cond (wellStuffed body) (Good (length (unstuff body))) Bad
 
--- the refusal numbers of removal
+-- the refusal numbers of removal [N3 S9]
 abbrev pub unstuffedAnswer : Unstuffed → Answer
 unstuffedAnswer (Count n) = count n
 unstuffedAnswer BadStuffing = refused 14
 unstuffedAnswer NoRoom = refused 13
 
--- removal into a buffer: the stuffing is tested before the room
+-- removal into a buffer: the stuffing is tested before the room [N3 N4 S9-S11]
 unfoldable pub removalRefusal : List ℕ → List ℕ → Option ℕ
 removalRefusal body out =
     firstFailing ((wellStuffed body, 14)
     ∷ (leb (length (unstuff body)) (length out), 13)
     ∷ [])
 
+-- [S8]
 abbrev pub removalAnswer : List ℕ → List ℕ → Answer
 removalAnswer body out = answered (removalRefusal body out) (length (unstuff body))
 
--- the bytes after the result stay
+-- the bytes after the result stay [S8-S10]
 abbrev pub removalOut : List ℕ → List ℕ → List ℕ
 removalOut body out = unlessRefused (removalRefusal body out) out (overwritten out (unstuff body))

@@ -42,7 +42,7 @@ pub fn ends_mark(before: u8, bytes: &[u8], i: usize) -> bool
     bytes[i - 2] == 0xFF
 }
 
-// The stuffing test: every FF FF FD is followed by FD within the body.
+// The stuffing test: every FF FF FD is followed by FD within the body. [S3-S5 S7]
 pub fn check(body: &[u8]) -> Checked
     ensures { λ r. ⌜ r ≡ checked (now (body .entry)) ⌝ }
 {
@@ -82,7 +82,7 @@ fn write_unstuffed(body: &[u8], out: &mut [u8])
 }
 
 // Removal: the body without its stuffing goes to the start of out. A body that is not well stuffed is refused first, then
-// a buffer without room; a refusal writes nothing.
+// a buffer without room; a refusal writes nothing. [N3 N4 N10-N12 N14 S6-S11]
 pub fn unstuff_into(body: &[u8], out: &mut [u8]) -> Unstuffed
     ensures { λ r. ⌜ unstuffedAnswer r ≡ removalAnswer (now (body .entry)) (now (out .entry)) ⌝ }
     ensures { λ _. ⌜ now (out .exit) ≡ removalOut (now (body .entry)) (now (out .entry)) ⌝ }

@@ -14,6 +14,7 @@ pub enum Length {
 }
 
 // The stuffed length of the body `first` followed by `rest`, where it is at most `most`. It stops as soon as it is past.
+// [E6 S1 S2]
 pub fn stuffed_len(first: u8, rest: &[u8], most: usize) -> Length
     ensures { λ r. ⌜ r ≡ lengthWithin most (length (stuff (first ∷ now (rest .entry)))) ⌝ }
 {
@@ -40,7 +41,7 @@ pub fn stuffed_len(first: u8, rest: &[u8], most: usize) -> Length
 }
 
 // The stuffed form of the body `first` followed by `rest` at the start of out, as far as out has room. The answer is how many
-// bytes that are; those after them stay.
+// bytes that are; those after them stay. [E9 N14 S1 S2]
 pub fn write_stuffed(first: u8, rest: &[u8], out: &mut [u8]) -> usize
     ensures { λ r. ⌜ r ≡ min (length (now (out .entry))) (length (stuff (first ∷ now (rest .entry)))) ⌝ }
     ensures { λ _. ⌜ now (out .exit) ≡ overwritten (now (out .entry)) (take (length (now (out .entry))) (stuff (first ∷ now (rest .entry)))) ⌝ }

@@ -1,3 +1,4 @@
 pub mod Stored
 pub mod Walks
 pub mod Judged
+pub mod Size

@@ -5,11 +5,12 @@ use mathlib.Core.Option.{Option, none, some}
 use Prim.Native.Nat.{ℕ}
 use lib.Dec.{eqb}
 use lib.ListN.{length}
+use Rattle.lists.specs.Answer.{unlessRefused}
 use Rattle.registers.specs.Registers.{tableSize}
 use Rattle.table_rules.specs.declared.Outcome.{Outcome}
 use Rattle.table_rules.specs.declared.Outcome.the-variants.{Done, DataRange, DataLength, DataLimit, NoAccess, NotTable}
 
--- the numbers of the outcomes: error numbers of a status packet, and 21, which is the caller's fault
+-- the numbers of the outcomes: error numbers of a status packet, and 21, which is the caller's fault [K5 N5 N11]
 abbrev pub refusalOf : Outcome → Option ℕ
 refusalOf Done = none
 refusalOf DataRange = some 0x04
@@ -18,6 +19,7 @@ refusalOf DataLimit = some 0x06
 refusalOf NoAccess = some 0x07
 refusalOf NotTable = some 21
 
+-- [K5]
 abbrev pub isDone : Outcome → Bool
 isDone Done = true
 isDone DataRange = false
@@ -26,6 +28,10 @@ isDone DataLimit = false
 isDone NoAccess = false
 isDone NotTable = false
 
--- 21 comes first
+-- A table of another size is refused before anything else, and stays as it is: every function on a table goes by these.
+-- [N5 N13]
 abbrev pub inTable : List ℕ → Option ℕ → Option ℕ
 inTable table next = cond (eqb (length table) tableSize) next (some 21)
+
+abbrev pub onTable : List ℕ → List ℕ → List ℕ
+onTable table new = unlessRefused (inTable table none) table new

@@ -12,39 +12,39 @@ use Rattle.lists.specs.Write.{placed}
 use Rattle.registers.specs.Registers.{Register, registers, endOf, everyByte, torqueEnable, minPosition, maxPosition, goalPosition}
 use Rattle.items.specs.Items.{valueOf, valueInRange}
 
--- the n bytes from `a` on have a byte of the register
+-- the n bytes from `a` on have a byte of the register [T9]
 abbrev pub touches : ℕ → ℕ → Register → Bool
 touches a n r = ltb (r .address) (a + n) && ltb a (endOf r)
 
--- they have all its bytes
+-- they have all its bytes [T9]
 abbrev pub covers : ℕ → ℕ → Register → Bool
 covers a n r = leb a (r .address) && leb (endOf r) (a + n)
 
--- each register that is touched passes the test
+-- each register that is touched passes the test [T6 T9]
 unfoldable pub everyTouched : ℕ → ℕ → (Register → Bool) → List Register → Bool
 everyTouched a n test [] = true
 everyTouched a n test (r ∷ rs) = (not (touches a n r) || test r) && everyTouched a n test rs
 
--- what a touched byte has to permit: while torque is not 0 no byte of ROM is written
+-- what a touched byte has to permit: while torque is not 0 no byte of ROM is written [T8]
 abbrev pub leastToWrite : List ℕ → ℕ
 leastToWrite table = cond (eqb (getD table (torqueEnable .address) 0) 0) 2 3
 
--- the limits of the position, as the new table stands: in order where either was written
+-- the limits of the position, as the new table stands: in order where either was written [T11]
 unfoldable pub limitsOrdered : ℕ → ℕ → List ℕ → Bool
 limitsOrdered a n new =
     not (touches a n minPosition || touches a n maxPosition) || leZ (valueOf minPosition new) (valueOf maxPosition new)
 
--- and a goal position that was written between them
+-- and a goal position that was written between them [T11 T14]
 unfoldable pub goalWithin : ℕ → ℕ → List ℕ → Bool
 goalWithin a n new =
     not (touches a n goalPosition)
     || (leZ (valueOf minPosition new) (valueOf goalPosition new) && leZ (valueOf goalPosition new) (valueOf maxPosition new))
 
--- the table that a write leaves if it is good
+-- the table that a write leaves if it is good [T11 T12]
 abbrev pub stored : List ℕ → ℕ → List ℕ → List ℕ
 stored table address bytes = placed table address bytes
 
--- the stages of the write rule in their order, each with the error number where its test fails
+-- the stages of the write rule in their order, each with the error number where its test fails [T6 T7]
 unfoldable pub writeRule : List ℕ → ℕ → List ℕ → Option ℕ
 writeRule table address bytes =
     let n = length bytes in
@@ -57,6 +57,6 @@ writeRule table address bytes =
     ∷ (limitsOrdered address n new && goalWithin address n new, 0x06)
     ∷ [])
 
--- a byte has to permit reading
+-- a byte has to permit reading [T15 T16]
 unfoldable pub readRule : ℕ → ℕ → Option ℕ
 readRule address n = firstFailing ((ltb 0 n, 0x05) ∷ (everyByte 1 address n, 0x07) ∷ [])

@@ -94,7 +94,7 @@ fn scan(s: &[u8], from: usize, live: bool) -> Live
     }
 }
 
-// The first event of a closed segment, or that it has none.
+// The first event of a closed segment, or that it has none. [K4]
 pub fn scan_closed(s: &[u8]) -> Scanned
     ensures { λ r. ⌜ Seen protocol2 closed (now (s .entry)) 0 r ⌝ }
 {
@@ -103,7 +103,7 @@ pub fn scan_closed(s: &[u8]) -> Scanned
 }
 
 // The chunk, where no bytes are held. Each offset is judged once, by all the bytes that follow; what is taken are those that
-// settle the offsets up to the event.
+// settle the offsets up to the event. [K4]
 pub fn advance(chunk: &[u8]) -> Window
     ensures { λ r. ⌜ (r .end ≤ length (now (chunk .entry)))
         × Ends protocol2 [] (now (chunk .entry)) (take (r .end) (now (chunk .entry))) (r .end) (r .seen) ⌝ }
@@ -160,7 +160,7 @@ fn append(held: &mut [u8], at: usize, end: usize, bytes: &[u8]) -> usize
     0
 }
 
-// The held bytes, and where they wait as many of the chunk's as they wait for, as far as there is room.
+// The held bytes, and where they wait as many of the chunk's as they wait for, as far as there is room. [K2 K4]
 pub fn fill(held: &mut [u8], count: usize, chunk: &[u8]) -> Stop
     ensures { λ r. ⌜ Filled protocol2 (take count (now (held .entry))) (now (chunk .entry)) (now (held .entry)) (now (held .exit)) r ⌝ }
 {

@@ -32,6 +32,7 @@ const STUFFED: [(&[u8], &[u8]); 3] = [
     (&[0x03, 0xFF, 0xFF], &[0x03, 0xFF, 0xFF]),
 ];
 
+/// [E3 P1 P9 X1-X7]
 #[test]
 fn packets() {
     for (id, body, packet) in PACKETS {
@@ -62,7 +63,7 @@ fn exchange(table: &mut [u8; 136], packet: &[u8]) -> Vec<u8> {
     status
 }
 
-/// Instruction and status, as they go over the line, of a fresh device that has measured 166.
+/// Instruction and status, as they go over the line, of a fresh device that has measured 166. [X2 X5-X7]
 #[test]
 fn exchanges() {
     let mut table = [0; 136];
@@ -79,7 +80,7 @@ fn exchanges() {
     assert_eq!(table, wanted);
 }
 
-/// Bodies sent to a fresh device: the error of the status, and what is then stored from address on.
+/// Bodies sent to a fresh device: the error of the status, and what is then stored from address on. [T11 X15-X18]
 #[test]
 fn writes() {
     let cases: [(&[u8], u8, usize, &[u8]); 4] = [
@@ -99,6 +100,7 @@ fn writes() {
     }
 }
 
+/// [X8-X10]
 #[test]
 fn stuffing() {
     for (body, stuffed) in STUFFED {

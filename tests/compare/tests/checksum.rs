@@ -28,6 +28,7 @@ fn parts<'a>(rng: &mut Rng, bytes: &'a [u8], count: usize) -> Vec<&'a [u8]> {
     cuts.windows(2).map(|ends| &bytes[ends[0]..ends[1]]).collect()
 }
 
+/// [C1 C5]
 #[test]
 fn random_slices_whole_and_in_parts() {
     let mut rng = Rng::new(1);
@@ -51,6 +52,7 @@ fn random_slices_whole_and_in_parts() {
     }
 }
 
+/// [C5]
 #[test]
 fn every_start_without_bytes_and_with_one() {
     let mut rng = Rng::new(2);
@@ -61,6 +63,7 @@ fn every_start_without_bytes_and_with_one() {
     }
 }
 
+/// [C2]
 #[test]
 fn every_byte_from_every_high_half() {
     for high in 0..=255u8 {
@@ -77,6 +80,7 @@ fn a_megabyte() {
     assert_eq!(crc16(0, &bytes), checksum(0, &bytes));
 }
 
+/// [C4 G2 K6 P8]
 #[test]
 fn published_packets() {
     let packets = published();
@@ -89,6 +93,7 @@ fn published_packets() {
     assert_eq!([count("000"), count("001"), count("002")], [27, 25, 33]);
 }
 
+/// [K6]
 #[test]
 fn misprints_are_wrong() {
     let packets = published();
@@ -101,7 +106,7 @@ fn misprints_are_wrong() {
 }
 
 /// The parts of one answer, joined, are the good packet printed as their rows together, and each part ends with the checksum of
-/// all bytes up to it.
+/// all bytes up to it. [K6]
 #[test]
 fn parts_join_to_a_packet() {
     let packets = published();

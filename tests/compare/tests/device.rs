@@ -47,7 +47,7 @@ fn assert_all_seen(errors: &Errors, least: usize) {
     }
 }
 
-/// Every instruction byte to every sort of ID with 0 to 20 parameters.
+/// Every instruction byte to every sort of ID with 0 to 20 parameters. [D1-D5 D8-D14 D19 D21 D26 D27 D31-D34]
 #[test]
 fn every_instruction_id_and_parameter_count() {
     let mut rng = Rng::new(50);
@@ -66,6 +66,7 @@ fn every_instruction_id_and_parameter_count() {
     }
 }
 
+/// [D1-D37 D40 M5 N12 T6 T6-T18 T13 T18]
 #[test]
 fn random_calls() {
     let mut rng = Rng::new(51);
@@ -99,7 +100,7 @@ fn random_calls() {
     assert!(silent > 20_000 && refused[3] > 5_000 && refused[1] + refused[2] + refused[4] == 0, "{silent}, {refused:?}");
 }
 
-/// Reads of every address and every length up to 10, and writes likewise, with the torque off and on.
+/// Reads of every address and every length up to 10, and writes likewise, with the torque off and on. [T2 T7-T9 T8 T9 T15-T17]
 #[test]
 fn every_address_and_length() {
     let mut rng = Rng::new(52);
@@ -123,6 +124,7 @@ fn every_address_and_length() {
 }
 
 /// A write of each four-byte item at, and one beside, both ends of its range, and of each one-byte item with every value.
+/// [T3 T10 T11]
 #[test]
 fn ends_of_the_ranges() {
     let mut rng = Rng::new(53);
@@ -157,6 +159,7 @@ fn ends_of_the_ranges() {
 }
 
 /// Tables and reply buffers of other lengths, IDs above 252, counts above 8: refused in their order, whatever was heard.
+/// [N5-N8 N10-N12 N12]
 #[test]
 fn refusals() {
     let mut rng = Rng::new(54);
@@ -196,6 +199,7 @@ fn refusals() {
 }
 
 /// Whole lives: one table from fresh on, thousands of calls of every sort, the registered write handed on.
+/// [D6 D7 D12-D20 D30 D42 M5 T12 T14]
 #[test]
 fn lives() {
     let mut rng = Rng::new(56);
@@ -241,7 +245,7 @@ fn lives() {
     assert!(synced > 1_000 && slots > 500, "{synced} Sync Writes carried out, {slots} slots above 0");
 }
 
-/// A registered write is judged again by the table as it is at Action, and is dropped also where it is refused then.
+/// A registered write is judged again by the table as it is at Action, and is dropped also where it is refused then. [D15 M4]
 #[test]
 fn overtaken_registered_writes() {
     let mut rng = Rng::new(58);
@@ -274,7 +278,7 @@ fn overtaken_registered_writes() {
     }
 }
 
-/// Every place of our own entry in a list of 253, and lists that go wrong only at their last entry.
+/// Every place of our own entry in a list of 253, and lists that go wrong only at their last entry. [D22-D25]
 #[test]
 fn long_sync_lists() {
     let mut rng = Rng::new(57);
@@ -300,7 +304,7 @@ fn long_sync_lists() {
     }
 }
 
-/// Bodies longer than any packet carries, lengths whose low byte is 0, lists with more entries than there are IDs.
+/// Bodies longer than any packet carries, lengths whose low byte is 0, lists with more entries than there are IDs. [D4]
 #[test]
 fn long_bodies() {
     let mut rng = Rng::new(59);

@@ -8,6 +8,7 @@ fn compare_encode(rng: &mut Rng, id: u8, body: &[u8], room: usize, at: usize) ->
     must_agree(compare::compare_encode(&PROVED, rng, what))
 }
 
+/// [E1-E4 E7 N4 N12 P1]
 #[test]
 fn random_packets() {
     let mut rng = Rng::new(20);
@@ -25,7 +26,7 @@ fn random_packets() {
     }
 }
 
-/// Lengths on both sides of 1,024, with and without added bytes, and with an added byte as the one too many.
+/// Lengths on both sides of 1,024, with and without added bytes, and with an added byte as the one too many. [E6 N2 P5]
 #[test]
 fn around_the_longest() {
     let mut rng = Rng::new(21);
@@ -42,7 +43,7 @@ fn around_the_longest() {
     assert!(longest > 100, "only {longest} of the longest packets");
 }
 
-/// Every ID and every instruction byte; stuffing begins at the instruction.
+/// Every ID and every instruction byte; stuffing begins at the instruction. [E5 E9 P2]
 #[test]
 fn every_id_and_instruction() {
     let mut rng = Rng::new(22);
@@ -54,7 +55,7 @@ fn every_id_and_instruction() {
     }
 }
 
-/// Refusals are tested in the order 11, 12, 13.
+/// Refusals are tested in the order 11, 12, 13. [E6 E8 N1 N2 N10]
 #[test]
 fn order_of_refusals() {
     let mut rng = Rng::new(23);
@@ -68,7 +69,7 @@ fn order_of_refusals() {
     assert_eq!(compare_encode(&mut rng, 0, &vec![0xFF; 60_000], 2_000, 0), -12);
 }
 
-/// What the encoder writes is well-formed, and its body comes back.
+/// What the encoder writes is well-formed, and its body comes back. [E2 P6 S7]
 #[test]
 fn what_is_written_reads_back() {
     let mut rng = Rng::new(24);
@@ -91,7 +92,7 @@ fn what_is_written_reads_back() {
     }
 }
 
-/// A well-formed packet, however it came about, is what the encoder writes of its body.
+/// A well-formed packet, however it came about, is what the encoder writes of its body. [E2]
 #[test]
 fn well_formed_packets_are_ours() {
     let mut rng = Rng::new(25);

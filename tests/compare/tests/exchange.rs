@@ -42,6 +42,7 @@ fn received(rng: &mut Rng, table: &[u8]) -> Vec<u8> {
     bytes
 }
 
+/// [D38-D40]
 #[test]
 fn packets_of_every_kind() {
     let mut rng = Rng::new(70);
@@ -79,6 +80,7 @@ fn packets_of_every_kind() {
 }
 
 /// Each refusal applies or not, in every combination: the first in the order 14, 13, 21 to 24 is given, and nothing changes.
+/// [D39 N10 N12]
 #[test]
 fn order_of_refusals() {
     let mut rng = Rng::new(71);
@@ -105,7 +107,7 @@ fn order_of_refusals() {
     }
 }
 
-/// The body buffer has room for just the body, or one byte less; its other bytes stay.
+/// The body buffer has room for just the body, or one byte less; its other bytes stay. [D39]
 #[test]
 fn room_for_the_body() {
     let mut rng = Rng::new(72);
@@ -120,7 +122,7 @@ fn room_for_the_body() {
     }
 }
 
-/// Fewer bytes than a packet has, with the device's ID in their place: silence.
+/// Fewer bytes than a packet has, with the device's ID in their place: silence. [D38]
 #[test]
 fn short_packets() {
     let mut rng = Rng::new(73);
@@ -142,7 +144,7 @@ fn short_packets() {
 }
 
 /// A packet that the device carries out, and the same with any one byte changed or left out, or one more behind it: silence or a
-/// refusal of its body, and a table as it was.
+/// refusal of its body, and a table as it was. [D38]
 #[test]
 fn only_a_well_formed_packet_is_heard() {
     let mut rng = Rng::new(74);

@@ -43,6 +43,7 @@ fn wanted(input: &[u8]) -> String {
     text
 }
 
+/// [L3 X19]
 #[test]
 fn a_packet_after_noise() {
     let input = [&[0xFF, 0xFF, 0xFD][..], &packet_of(1, &[1])].concat();
@@ -59,6 +60,7 @@ fn the_sample_capture() {
     assert_eq!(wanted(&input), lines);
 }
 
+/// [L4]
 #[test]
 fn a_bad_checksum() {
     let mut input = packet_of(7, &[1]);
@@ -66,12 +68,14 @@ fn a_bad_checksum() {
     assert_eq!(printed(&input), "crc 7\nend 10\n");
 }
 
+/// [L6]
 #[test]
 fn no_input() {
     assert_eq!(printed(&[]), "end 0\n");
 }
 
 /// One byte less, as many, and more than are read. The packet at the end is whole only where all its bytes are among these.
+/// [L1 L5]
 #[test]
 fn as_much_as_is_read() {
     let packet = packet_of(1, &[1]);
@@ -83,6 +87,7 @@ fn as_much_as_is_read() {
     }
 }
 
+/// [L2-L4 S7]
 #[test]
 fn segments() {
     let mut rng = Rng::new(31);
@@ -92,7 +97,7 @@ fn segments() {
     }
 }
 
-/// More than the program reads, of packets whole and damaged.
+/// More than the program reads, of packets whole and damaged. [L2]
 #[test]
 fn long_segments() {
     let mut rng = Rng::new(32);

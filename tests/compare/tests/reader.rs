@@ -51,6 +51,7 @@ fn short_segment(rng: &mut Rng, length: usize) -> Vec<u8> {
     segment
 }
 
+/// [F5 F12 F13 Q6 V1 V2]
 #[test]
 fn every_way_of_cutting() {
     let mut rng = Rng::new(40);
@@ -67,6 +68,7 @@ fn every_way_of_cutting() {
     assert!(events > 8 && reader.calls > 200_000, "{events} events, {} calls", reader.calls);
 }
 
+/// [F8 M3 Q6 V2 V6]
 #[test]
 fn every_two_and_three_chunks() {
     let mut rng = Rng::new(41);
@@ -92,7 +94,7 @@ fn every_two_and_three_chunks() {
     assert!(events > 30, "{events} events");
 }
 
-/// Segments with packets up to the longest: every two chunks.
+/// Segments with packets up to the longest: every two chunks. [Q6]
 #[test]
 fn every_two_chunks_of_long_segments() {
     let mut rng = Rng::new(42);
@@ -177,6 +179,7 @@ fn odd_calls(rng: &mut Rng, reader: &mut ReaderPair, longest: usize, kinds: &mut
     }
 }
 
+/// [F4-F7 F10 F12 F14 F15 Q1 Q2 Q4]
 #[test]
 fn odd_lists_of_calls() {
     let mut rng = Rng::new(43);
@@ -193,7 +196,7 @@ fn odd_lists_of_calls() {
     assert!(nothing_taken > 2_000 && after_open_gap > 1_000, "{kinds:?}");
 }
 
-/// Any bytes and any count are a record; above 1,030 it is refused.
+/// Any bytes and any count are a record; above 1,030 it is refused. [F2 F15 F16 N9 N12]
 #[test]
 fn borrowed_records() {
     let mut rng = Rng::new(44);
@@ -211,7 +214,7 @@ fn borrowed_records() {
     assert!(none > 5_000 && packets > 5_000 && bad_checksums > 5_000 && refused > 1_000, "{kinds:?}");
 }
 
-/// The worst noise in chunks of several sizes; again and again the reader is full.
+/// The worst noise in chunks of several sizes; again and again the reader is full. [F7 M3 V4]
 #[test]
 fn headers_side_by_side() {
     let mut rng = Rng::new(45);
@@ -224,7 +227,7 @@ fn headers_side_by_side() {
     }
 }
 
-/// The longest packet byte by byte, good and bad, with every count up to 1,030 held on the way.
+/// The longest packet byte by byte, good and bad, with every count up to 1,030 held on the way. [F3 F9 V8]
 #[test]
 fn longest_packet_byte_by_byte() {
     let mut rng = Rng::new(46);
@@ -245,6 +248,7 @@ fn longest_packet_byte_by_byte() {
     }
 }
 
+/// [F9 K6 V3]
 #[test]
 fn published_packets() {
     let mut rng = Rng::new(47);
@@ -333,7 +337,7 @@ impl Line {
 }
 
 /// The promise over lists of calls, of our reader: noise, then packets, then anything, fed in any chunks after any earlier calls
-/// that end in a finished gap.
+/// that end in a finished gap. [F11 Q1 Q5 Q7-Q14 Q8-Q11 V7 V10]
 #[test]
 fn packets_after_noise_all_come_out() {
     let mut rng = Rng::new(48);

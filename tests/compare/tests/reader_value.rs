@@ -110,7 +110,7 @@ fn fresh_records() {
     assert!(none > 10_000 && packets > 2_000 && bad_checksums > 1_000 && refused == 0, "{kinds:?}");
 }
 
-/// Any bytes and any count are a record.
+/// Any bytes and any count are a record. [F2 F15 F16]
 #[test]
 fn odd_records() {
     let mut rng = Rng::new(91);
@@ -124,7 +124,7 @@ fn odd_records() {
     assert!(none > 2_000 && packets > 2_000 && bad_checksums > 2_000 && refused > 500, "{kinds:?}");
 }
 
-/// The longest packet, whose last byte no record has room for; and the worst noise.
+/// The longest packet, whose last byte no record has room for; and the worst noise. [F3]
 #[test]
 fn full_records() {
     let mut rng = Rng::new(92);

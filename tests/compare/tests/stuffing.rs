@@ -19,6 +19,7 @@ fn compare_well_stuffed(body: &[u8]) {
     assert_eq!(exports::test::well_stuffed(body), u8::from(well_stuffed(body)), "{body:02x?}");
 }
 
+/// [N12 S1 S8]
 #[test]
 fn random_bodies() {
     let mut rng = Rng::new(10);
@@ -38,7 +39,7 @@ fn random_bodies() {
     }
 }
 
-/// Every body of up to 7 bytes over the three that matter, with each room around the right one.
+/// Every body of up to 7 bytes over the three that matter, with each room around the right one. [N3 N4 N10 S1 S3 S9-S11]
 #[test]
 fn every_short_body() {
     let mut rng = Rng::new(11);
@@ -58,7 +59,7 @@ fn every_short_body() {
     }
 }
 
-/// Stuffed forms around the longest that a packet carries, into every room around the unstuffed count.
+/// Stuffed forms around the longest that a packet carries, into every room around the unstuffed count. [S10]
 #[test]
 fn longest_bodies() {
     let mut rng = Rng::new(12);
@@ -75,7 +76,7 @@ fn longest_bodies() {
     }
 }
 
-/// Removal undoes stuffing, and stuffing undoes removal where a body is well stuffed.
+/// Removal undoes stuffing, and stuffing undoes removal where a body is well stuffed. [S6]
 #[test]
 fn both_ways() {
     let mut rng = Rng::new(13);

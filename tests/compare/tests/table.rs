@@ -3,7 +3,7 @@
 use compare::DevicePair;
 use reference::{Registered, Rng, TABLE_BYTES};
 
-/// Tables of every length up to 300, whatever they hold; many of the right one.
+/// Tables of every length up to 300, whatever they hold; many of the right one. [N5 N12 N13 T1 T4 T5]
 #[test]
 fn fresh_and_measurement() {
     let mut rng = Rng::new(55);

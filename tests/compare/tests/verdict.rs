@@ -28,7 +28,7 @@ fn length(rng: &mut Rng) -> usize {
     }
 }
 
-/// Each length from nothing to all of it, with what follows.
+/// Each length from nothing to all of it, with what follows. [M1 P10 V3 V8 V11]
 #[test]
 fn every_truncation() {
     let mut rng = Rng::new(30);
@@ -45,7 +45,7 @@ fn every_truncation() {
     assert!(kinds.iter().enumerate().all(|(kind, &count)| kind == 2 || count > 500), "{kinds:?}");
 }
 
-/// One byte changed, at every place; the packet stands after other bytes.
+/// One byte changed, at every place; the packet stands after other bytes. [P1 V4]
 #[test]
 fn one_byte_changed() {
     let mut rng = Rng::new(31);
@@ -66,7 +66,7 @@ fn one_byte_changed() {
     assert!([0, 2, 3].iter().all(|&kind: &usize| kinds[kind] > 500), "{kinds:?}");
 }
 
-/// Noise, beginnings, packets good and bad behind each other: the verdict at every offset and past the end.
+/// Noise, beginnings, packets good and bad behind each other: the verdict at every offset and past the end. [P10 V6 V11]
 #[test]
 fn every_offset_of_noisy_segments() {
     let mut rng = Rng::new(32);
@@ -97,7 +97,7 @@ fn every_offset_of_noisy_segments() {
     assert!(kinds.iter().all(|&count| count > 500), "{kinds:?}");
 }
 
-/// Lengths 0 to 1,100, all bytes there and the checksum right: 3 to 1,024 are packets.
+/// Lengths 0 to 1,100, all bytes there and the checksum right: 3 to 1,024 are packets. [P4 P5 V9 X11 X12]
 #[test]
 fn bounds_of_the_length() {
     for stuffed in 0..=1_100 {
@@ -115,6 +115,7 @@ fn bounds_of_the_length() {
     }
 }
 
+/// [P2 P3 V8 X13 X14]
 #[test]
 fn every_id() {
     for id in 0..=255 {
@@ -127,7 +128,7 @@ fn every_id() {
 }
 
 /// The search for FF FF FD never looks into the checksum: a body that ends FF FF before a checksum with FD as its low byte is
-/// well stuffed, and one that ends FF FF FD is not, whatever follows.
+/// well stuffed, and one that ends FF FF FD is not, whatever follows. [M2 S2 S4 S5 V5]
 #[test]
 fn stuffing_at_the_end_of_the_body() {
     let mut rng = Rng::new(33);
@@ -154,7 +155,7 @@ fn stuffing_at_the_end_of_the_body() {
     assert!(before_fd > 50 && cut > 50, "{before_fd} and {cut} packets with FD as checksum low byte");
 }
 
-/// A wrong checksum is said before wrong stuffing.
+/// A wrong checksum is said before wrong stuffing. [V4 V5]
 #[test]
 fn wrong_checksum_and_wrong_stuffing() {
     let mut packet = framed(9, &[3, 0xFF, 0xFF, 0xFD, 0]);
@@ -164,6 +165,7 @@ fn wrong_checksum_and_wrong_stuffing() {
     compare_at(&packet, 0);
 }
 
+/// [K6 P9 V3]
 #[test]
 fn published_packets() {
     for packet in published() {

@@ -49,6 +49,7 @@ const ANSWERS: [(&str, &[i64]); 12] = [
     ("error", &[0, 2, 3, 4, 5, 6, 7]),
 ];
 
+/// [D41]
 #[test]
 fn no_difference_in_a_short_search() {
     let (summary, report) = search_cases(&PROVED, 1, 10_000);

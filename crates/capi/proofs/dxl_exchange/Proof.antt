@@ -1,4 +1,5 @@
 use mathlib.Core.Path.{ap₂, _∙_}
+use Rattle.exchange.proofs.Promises.{exchange-promises}
 use Rattle.cases.proofs.Cases.{cases-hold}
 use Rattle.numbers.specs.Exported.{deviceNumbers}
 use borrow.Author.Needs.{needs}
@@ -23,7 +24,7 @@ same-length-3 c = search needs
 returns : tie.Need-returns
 returns c =
     let e = c .before .before .before .before .before .before .before .answer .ensures in
-    (c .answered .ensures ∙ ap₂ deviceNumbers (e .0) (e .1 .0), ((e .1 .1 .0, e .1 .1 .1 .0, e .1 .1 .1 .1), cases-hold))
+    (c .answered .ensures ∙ ap₂ deviceNumbers (e .0) (e .1 .0), ((e .1 .1 .0, e .1 .1 .1 .0, e .1 .1 .1 .1), (exchange-promises, cases-hold)))
 
 pub dxl-exchange-spec : {M : Type 1} → statement M
 dxl-exchange-spec =

@@ -1,11 +1,8 @@
-use mathlib.Core.Path.{_≡_, ap, _∙_}
+use mathlib.Core.Path.{_≡_}
 use mathlib.Core.List.{[], _∷_}
-use mathlib.Core.Option.{Option}
-use Prim.Native.Nat.{ℕ}
 use native.Mathlib.Omega.{arith}
 use types.Run.{miss}
-use Rattle.status.specs.Status.{silence}
-use Rattle.device.specs.Answers.{answeredBy, stateRefusal, roomRefusal, callRefusal}
+use Rattle.device.specs.Answers.{stateRefusal, roomRefusal, callRefusal}
 use Rattle.device.proofs.Calls.{then-room, refuses-room, accepts-room, fault-told, no-fault, state-refused}
 use borrow.Author.Needs.{needs}
 use Rattle.device.proofs.call_refusal.Statement.{statement}

@@ -32,7 +32,7 @@ returns-2 c =
     let i = p .before .before in
     let k = i .before in
     let a = k .before .before .args in
-    let e = option-all (a .table .now) (a .registered) (k .if1 .left) (a .option) _ (p .reset-all .kept .0) (i .if2 .taken) (p .reset-all .ensures) in
+    let e = option-all (a .table .now) (a .registered) (k .if1 .left) (a .option) _ (p .reset-all .kept .0) (i .if2 .taken) (p .reset-all .ensures .1) in
     done (a .table .now) (a .registered) (factoryReset (a .table .now) (a .registered) (a .option)) _ _ (k .if1 .left) (r .reboot .ensures .0 ∙ ap doneOf e)
     (r .reboot .ensures .1 ∙ ap (λ (f : Effect). f .table) e)
 
@@ -52,7 +52,7 @@ returns-3 c =
     let i = p .before .before in
     let k = i .before .before in
     let a = k .before .before .args in
-    let e = option-id (a .table .now) (a .registered) (k .if1 .left) (a .option) _ (p .reset-but-id .kept .0) (i .if3 .taken) (p .reset-but-id .ensures) in
+    let e = option-id (a .table .now) (a .registered) (k .if1 .left) (a .option) _ (p .reset-but-id .kept .0) (i .if3 .taken) (p .reset-but-id .ensures .1) in
     done (a .table .now) (a .registered) (factoryReset (a .table .now) (a .registered) (a .option)) _ _ (k .if1 .left) (r .reboot2 .ensures .0 ∙ ap doneOf e)
     (r .reboot2 .ensures .1 ∙ ap (λ (f : Effect). f .table) e)
 
@@ -72,7 +72,7 @@ returns-4 c =
     let i = p .before .before in
     let k = i .before .before .before in
     let a = k .before .before .args in
-    let e = option-baud (a .table .now) (a .registered) (k .if1 .left) (a .option) _ (p .reset-but-id-and-baud .kept .0) (i .if4 .taken) (p .reset-but-id-and-baud .ensures) in
+    let e = option-baud (a .table .now) (a .registered) (k .if1 .left) (a .option) _ (p .reset-but-id-and-baud .kept .0) (i .if4 .taken) (p .reset-but-id-and-baud .ensures .1) in
     done (a .table .now) (a .registered) (factoryReset (a .table .now) (a .registered) (a .option)) _ _ (k .if1 .left) (r .reboot3 .ensures .0 ∙ ap doneOf e)
     (r .reboot3 .ensures .1 ∙ ap (λ (f : Effect). f .table) e)
 

@@ -1,6 +1,6 @@
 use mathlib.Core.Path.{refl, ap, _∙_}
 use mathlib.Core.List.{[]}
-use Rattle.resets.proofs.Resets.{on-table}
+use Rattle.table_rules.proofs.Size.{on-table}
 use Rattle.instructions.specs.declared.RegisteredWrite.{RegisteredWrite}
 use Rattle.instructions.specs.Instructions.{reboot}
 use Rattle.instructions.specs.Steps.{doneWith}
@@ -37,7 +37,7 @@ returns-2 c =
     let a = k .before .before .args in
     done (a .table .now) (a .registered) (reboot (a .table .now) (a .registered)) _ _ (k .if1 .left)
     (c .without-data2 .ensures ∙ ap (λ (w : RegisteredWrite). doneWith 0 [] w) (c .before .dropped .ensures))
-    (r .reboot .ensures ∙ on-table (a .table .now) _ (k .if1 .left))
+    (r .reboot .ensures .1 ∙ on-table (a .table .now) (k .if1 .left) _)
 
 pub reboot-spec : {M : Type 1} → statement M
 reboot-spec =

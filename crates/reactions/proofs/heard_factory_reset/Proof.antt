@@ -15,11 +15,8 @@ use borrow.Author.Needs.{needs}
 use Rattle.reactions.proofs.heard_factory_reset.Statement.{statement}
 use Rattle.reactions.proofs.heard_factory_reset.Tie as tie
 
-without-data-requires : tie.Need-without-data-requires
-without-data-requires c κs = search needs
-
-own-only-requires : tie.Need-own-only-requires
-own-only-requires c κs = search needs
+nothing-done-requires : tie.Need-nothing-done-requires
+nothing-done-requires c κs = search needs
 
 -- the effect where the count is right
 abbrev chosen : Bool → List ℕ → RegisteredWrite → List ℕ → Effect
@@ -30,10 +27,10 @@ effect all table w params = chosen (all && eqb (getD params 0 0) 0xFF) table w p
 
 returns : tie.Need-returns
 returns c =
-    let k = c .before .before in
+    let k = c .before in
     let a = k .before .before .before .args in
     wrong (ownOnly (a .all) 2) (a .table .now) (a .registered) (effect (a .all) (a .table .now) (a .registered) (a .params .now))
-    (eqb (length (a .params .now)) 1) (ne-eqb _ _ (k .if1 .taken)) _ _ (c .own-only .ensures) (c .before .without-data .ensures)
+    (eqb (length (a .params .now)) 1) (ne-eqb _ _ (k .if1 .taken)) _ (c .nothing-done .ensures)
 
 shared-slice-read-option : tie.Need-shared-slice-read-option
 shared-slice-read-option c = search needs
@@ -41,26 +38,23 @@ shared-slice-read-option c = search needs
 resets-every-id-requires : tie.Need-resets-every-id-requires
 resets-every-id-requires c κs = search needs
 
-without-data-requires-2 : tie.Need-without-data-requires-2
-without-data-requires-2 c κs = search needs
-
-own-only-requires-2 : tie.Need-own-only-requires-2
-own-only-requires-2 c κs = search needs
+nothing-done-requires-2 : tie.Need-nothing-done-requires-2
+nothing-done-requires-2 c κs = search needs
 
 returns-2 : tie.Need-returns-2
 returns-2 c =
-    let i = c .before .before .before in
+    let i = c .before .before in
     let k = i .before .before in
     let a = k .before .before .before .args in
-    let every = sym (i .resets-every-id .ensures) ∙ c .before .before .if2 .taken in
+    let every = sym (i .resets-every-id .ensures) ∙ c .before .if2 .taken in
     fitting (ownOnly (a .all) 2) (a .table .now) (a .registered) (effect (a .all) (a .table .now) (a .registered) (a .params .now))
-    (eqb (length (a .params .now)) 1) (eq-eqb _ _ (k .if1 .left)) _ _ _ (c .own-only2 .ensures) (c .before .without-data2 .ensures ∙ ap (λ (b : Bool). doneOf (chosen b (a .table .now) (a .registered) (a .params .now))) (sym every)) (ap (λ (b : Bool). chosen b (a .table .now) (a .registered) (a .params .now) .table) (sym every))
+    (eqb (length (a .params .now)) 1) (eq-eqb _ _ (k .if1 .left)) _ _ _ (c .nothing-done2 .ensures) (ap (λ (b : Bool). doneOf (chosen b (a .table .now) (a .registered) (a .params .now))) (sym every)) (ap (λ (b : Bool). chosen b (a .table .now) (a .registered) (a .params .now) .table) (sym every))
 
 factory-reset-requires : tie.Need-factory-reset-requires
 factory-reset-requires c κs = search needs
 
-own-only-requires-3 : tie.Need-own-only-requires-3
-own-only-requires-3 c κs = search needs
+own-only-requires : tie.Need-own-only-requires
+own-only-requires c κs = search needs
 
 same-length : tie.Need-same-length
 same-length c = search needs
@@ -75,22 +69,20 @@ returns-3 c =
     let p = of-size (a .table .now) (a .registered) (factoryReset (a .table .now) (a .registered) (getD (a .params .now) 0 0)) (s .pre) in
     let every = sym (i .resets-every-id .ensures) ∙ r .before .before .if2 .left in
     fitting (ownOnly (a .all) 2) (a .table .now) (a .registered) (effect (a .all) (a .table .now) (a .registered) (a .params .now))
-    (eqb (length (a .params .now)) 1) (eq-eqb _ _ (k .if1 .left)) _ _ _ (c .own-only3 .ensures) (r .factory-reset .ensures .0 ∙ ap doneOf p ∙ ap (λ (b : Bool). doneOf (chosen b (a .table .now) (a .registered) (a .params .now))) (sym every))
+    (eqb (length (a .params .now)) 1) (eq-eqb _ _ (k .if1 .left)) _ _ _ (c .own-only .ensures) (r .factory-reset .ensures .0 ∙ ap doneOf p ∙ ap (λ (b : Bool). doneOf (chosen b (a .table .now) (a .registered) (a .params .now))) (sym every))
     (r .factory-reset .ensures .1 ∙ ap (λ (x : Effect). x .table) p ∙ ap (λ (b : Bool). chosen b (a .table .now) (a .registered) (a .params .now) .table) (sym every))
 
 pub heard-factory-reset-spec : {M : Type 1} → statement M
 heard-factory-reset-spec =
     tie.close
     (tie.spec
-    without-data-requires
-    own-only-requires
+    nothing-done-requires
     returns
     shared-slice-read-option
     resets-every-id-requires
-    without-data-requires-2
-    own-only-requires-2
+    nothing-done-requires-2
     returns-2
     factory-reset-requires
-    own-only-requires-3
+    own-only-requires
     same-length
     returns-3)

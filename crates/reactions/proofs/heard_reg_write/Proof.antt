@@ -4,18 +4,15 @@ use borrow.Author.Needs.{needs}
 use Rattle.reactions.proofs.heard_reg_write.Statement.{statement}
 use Rattle.reactions.proofs.heard_reg_write.Tie as tie
 
-without-data-requires : tie.Need-without-data-requires
-without-data-requires c κs = search needs
-
-own-only-requires : tie.Need-own-only-requires
-own-only-requires c κs = search needs
+nothing-done-requires : tie.Need-nothing-done-requires
+nothing-done-requires c κs = search needs
 
 returns : tie.Need-returns
 returns c =
-    let k = c .before .before in
+    let k = c .before in
     let a = k .before .before .before .args in
-    no-address (a .all) (a .table .now) (a .registered) (a .params .now) (regWrite (a .table .now) (a .registered)) (k .if1 .taken) _ _
-    (c .own-only .ensures) (c .before .without-data .ensures)
+    no-address (a .all) (a .table .now) (a .registered) (a .params .now) (regWrite (a .table .now) (a .registered)) (k .if1 .taken) _
+    (c .nothing-done .ensures)
 
 word-at-requires : tie.Need-word-at-requires
 word-at-requires c κs = search needs
@@ -32,8 +29,8 @@ part-reg-write-end c = search needs
 reg-write-requires : tie.Need-reg-write-requires
 reg-write-requires c κs = search needs
 
-own-only-requires-2 : tie.Need-own-only-requires-2
-own-only-requires-2 c κs = search needs
+own-only-requires : tie.Need-own-only-requires
+own-only-requires c κs = search needs
 
 same-length : tie.Need-same-length
 same-length c = search needs
@@ -46,20 +43,19 @@ returns-2 c =
     let b = k .before .before .before in
     let a = b .args in
     with-address (a .all) (a .table .now) (a .registered) (a .params .now) (regWrite (a .table .now) (a .registered)) (b .pre) (k .if1 .left) _
-    (w .word-at .ensures) _ _ _ (c .own-only2 .ensures) (r .reg-write .ensures .0) (r .reg-write .ensures .1)
+    (w .word-at .ensures) _ _ _ (c .own-only .ensures) (r .reg-write .ensures .0) (r .reg-write .ensures .1)
 
 pub heard-reg-write-spec : {M : Type 1} → statement M
 heard-reg-write-spec =
     tie.close
     (tie.spec
-    without-data-requires
-    own-only-requires
+    nothing-done-requires
     returns
     word-at-requires
     sub-reg-write
     part-reg-write-start
     part-reg-write-end
     reg-write-requires
-    own-only-requires-2
+    own-only-requires
     same-length
     returns-2)

@@ -1,22 +1,17 @@
-use mathlib.Core.Path.{sym, ap, _∙_}
+use mathlib.Core.Path.{sym, _∙_}
 use borrow.Author.Tests.{not-true, not-false}
-use Rattle.reactions.specs.Reactions.{speaks}
-use Rattle.reactions.specs.Steps.{reactedBy}
 use borrow.Author.Needs.{needs}
 use Rattle.reactions.proofs.heard_sync_read.Statement.{statement}
 use Rattle.reactions.proofs.heard_sync_read.Tie as tie
 
-without-data-requires : tie.Need-without-data-requires
-without-data-requires c κs = search needs
-
-own-only-requires : tie.Need-own-only-requires
-own-only-requires c κs = search needs
+nothing-done-requires : tie.Need-nothing-done-requires
+nothing-done-requires c κs = search needs
 
 returns : tie.Need-returns
 returns c =
-    let k = c .before .before in
+    let k = c .before in
     let a = k .before .before .before .args in
-    rw (not-true (a .all) (k .if1 .taken)) (c .own-only .ensures ∙ ap (reactedBy (speaks 1 0)) (c .before .without-data .ensures))
+    rw (not-true (a .all) (k .if1 .taken)) (c .nothing-done .ensures)
 
 shared-slice-read-sync-search : tie.Need-shared-slice-read-sync-search
 shared-slice-read-sync-search c = search needs
@@ -65,8 +60,7 @@ pub heard-sync-read-spec : {M : Type 1} → statement M
 heard-sync-read-spec =
     tie.close
     (tie.spec
-    without-data-requires
-    own-only-requires
+    nothing-done-requires
     returns
     shared-slice-read-sync-search
     sync-search-requires

@@ -1,28 +1,23 @@
-use mathlib.Core.Path.{_≡_, sym, ap, _∙_}
+use mathlib.Core.Path.{_≡_, sym, _∙_}
 use Prim.Native.Nat.{_+_, _-_, _≤_}
 use native.Mathlib.Omega.{arith}
 use lib.ListN.{length, getD}
 use borrow.Author.Tests.{not-true, not-false}
 use Rattle.parameters.specs.Parameters.{wordAt, syncSearch}
 use Rattle.parameters.proofs.Searching.{sync-whole}
-use Rattle.reactions.specs.Reactions.{speaks}
-use Rattle.reactions.specs.Steps.{reactedBy}
 use borrow.Author.Needs.{needs}
 use Rattle.reactions.proofs.heard_sync_write.Statement.{statement}
 use Rattle.reactions.proofs.heard_sync_write.Tie as tie
 
-without-data-requires : tie.Need-without-data-requires
-without-data-requires c κs = search needs
-
-own-only-requires : tie.Need-own-only-requires
-own-only-requires c κs = search needs
+nothing-done-requires : tie.Need-nothing-done-requires
+nothing-done-requires c κs = search needs
 
 returns : tie.Need-returns
 returns c =
-    let k = c .before .before in
+    let k = c .before in
     let a = k .before .before .before .args in
     let own = not-true (a .all) (k .if1 .taken) in
-    (rw own (c .own-only .ensures ∙ ap (reactedBy (speaks 2 0)) (c .before .without-data .ensures)), rw own)
+    (rw own (c .nothing-done .ensures), rw own)
 
 word-at-requires : tie.Need-word-at-requires
 word-at-requires c κs = search needs
@@ -120,8 +115,7 @@ pub heard-sync-write-spec : {M : Type 1} → statement M
 heard-sync-write-spec =
     tie.close
     (tie.spec
-    without-data-requires
-    own-only-requires
+    nothing-done-requires
     returns
     word-at-requires
     slice-read-sync-search

@@ -1,6 +1,6 @@
 use mathlib.Core.Path.{refl, ap, _∙_}
-use Rattle.reactions.specs.Reactions.{Reaction, heardInstruction, ownOnly}
-use Rattle.reactions.specs.Steps.{reactedBy, reactedOf}
+use Rattle.reactions.specs.Reactions.{Reaction, heardInstruction}
+use Rattle.reactions.specs.Steps.{reactedOf}
 use Rattle.reactions.proofs.Reactions.{by-number, ping-keeps, read-keeps, sync-read-keeps, undefined-instruction}
 use borrow.Author.Needs.{needs}
 use Rattle.reactions.proofs.react.Statement.{statement}
@@ -36,11 +36,8 @@ heard-sync-read-requires c κs = search needs
 heard-sync-write-requires : tie.Need-heard-sync-write-requires
 heard-sync-write-requires c κs = search needs
 
-without-data-requires : tie.Need-without-data-requires
-without-data-requires c κs = search needs
-
-own-only-requires : tie.Need-own-only-requires
-own-only-requires c κs = search needs
+nothing-done-requires : tie.Need-nothing-done-requires
+nothing-done-requires c κs = search needs
 
 same-length : tie.Need-same-length
 same-length c = search needs
@@ -147,13 +144,13 @@ returns-10 c =
 
 returns-11 : tie.Need-returns-11
 returns-11 c =
-    let k = c .before .before in
+    let k = c .before in
     let a = k .before .before .before .args in
     let n = k .match .rest in
     let e = undefined-instruction (a .instruction) (a .all) (a .table .now) (a .registered) (a .params .now)
     (n .0 .0 .0 .0 .0 .0 .0 .0 .0 .1) (n .0 .0 .0 .0 .0 .0 .0 .0 .1) (n .0 .0 .0 .0 .0 .0 .0 .1) (n .0 .0 .0 .0 .0 .0 .1) (n .0 .0 .0 .0 .0 .1)
     (n .0 .0 .0 .0 .1) (n .0 .0 .0 .1) (n .0 .0 .1) (n .0 .1) (n .1) in
-    (c .own-only .ensures ∙ ap (reactedBy (ownOnly (a .all) 2)) (c .before .without-data .ensures) ∙ ap reactedOf e, ap (λ (q : Reaction). q .effect .table) e)
+    (c .nothing-done .ensures ∙ ap reactedOf e, ap (λ (q : Reaction). q .effect .table) e)
 
 pub react-spec : {M : Type 1} → statement M
 react-spec =
@@ -169,8 +166,7 @@ react-spec =
     quiet-requires
     heard-sync-read-requires
     heard-sync-write-requires
-    without-data-requires
-    own-only-requires
+    nothing-done-requires
     same-length
     returns
     same-length-2

@@ -1,10 +1,9 @@
-use mathlib.Core.Path.{refl, ap, _∙_}
+use mathlib.Core.Path.{refl}
 use Prim.Native.Nat.{_-_}
 use native.Mathlib.Omega.{arith}
 use lib.ListN.{length, drop, length-drop}
 use lib.Seq.{take-all}
-use Rattle.reactions.specs.Reactions.{ownOnly, reaction}
-use Rattle.reactions.specs.Steps.{reactedBy}
+use Rattle.reactions.specs.Reactions.{reaction}
 use Rattle.reactions.proofs.Reactions.{bad-checksum, empty-body, some-body, reacted-of-size, not-reacted}
 use borrow.Author.Needs.{needs}
 use Rattle.reactions.proofs.reaction.Statement.{statement}
@@ -26,38 +25,30 @@ enum-told c = search needs
 enum-told-2 : tie.Need-enum-told-2
 enum-told-2 c = search needs
 
-without-data-requires : tie.Need-without-data-requires
-without-data-requires c κs = search needs
-
-own-only-requires : tie.Need-own-only-requires
-own-only-requires c κs = search needs
+nothing-done-requires : tie.Need-nothing-done-requires
+nothing-done-requires c κs = search needs
 
 returns-2 : tie.Need-returns-2
 returns-2 c =
-    let t = c .before .before in
+    let t = c .before in
     let k = t .before .before in
     let a = k .before .before .before .args in
     let q = reaction (a .heard) (a .all) (a .table .now) (a .registered) (a .body .now) in
     let e = bad-checksum (a .all) (a .table .now) (a .registered) (a .heard) (a .body .now) (t .enum-told2 .given .1) in
-    reacted-of-size (a .table .now) (a .registered) q (k .if1 .left) _ e _ _
-    (c .own-only .ensures ∙ ap (reactedBy (ownOnly (a .all) 2)) (c .before .without-data .ensures)) refl
+    reacted-of-size (a .table .now) (a .registered) q (k .if1 .left) _ e _ _ (c .nothing-done .ensures) refl
 
-without-data-requires-2 : tie.Need-without-data-requires-2
-without-data-requires-2 c κs = search needs
-
-own-only-requires-2 : tie.Need-own-only-requires-2
-own-only-requires-2 c κs = search needs
+nothing-done-requires-2 : tie.Need-nothing-done-requires-2
+nothing-done-requires-2 c κs = search needs
 
 returns-3 : tie.Need-returns-3
 returns-3 c =
-    let i = c .before .before in
+    let i = c .before in
     let t = i .before in
     let k = t .before .before in
     let a = k .before .before .before .args in
     let q = reaction (a .heard) (a .all) (a .table .now) (a .registered) (a .body .now) in
     let e = empty-body (a .all) (a .table .now) (a .registered) (a .heard) (a .body .now) (t .enum-told .given .1) (i .if2 .taken) in
-    reacted-of-size (a .table .now) (a .registered) q (k .if1 .left) _ e _ _
-    (c .own-only2 .ensures ∙ ap (reactedBy (ownOnly (a .all) 2)) (c .before .without-data2 .ensures)) refl
+    reacted-of-size (a .table .now) (a .registered) q (k .if1 .left) _ e _ _ (c .nothing-done2 .ensures) refl
 
 shared-slice-read-react : tie.Need-shared-slice-read-react
 shared-slice-read-react c = search needs
@@ -99,11 +90,9 @@ reaction-spec =
     returns
     enum-told
     enum-told-2
-    without-data-requires
-    own-only-requires
+    nothing-done-requires
     returns-2
-    without-data-requires-2
-    own-only-requires-2
+    nothing-done-requires-2
     returns-3
     shared-slice-read-react
     sub-react

@@ -1,13 +1,12 @@
-use mathlib.Core.Path.{sym}
 use native.Mathlib.Omega.{arith}
 use lib.ListN.{length-set}
-use Rattle.resets.proofs.Resets.{off-table, reboot-stores}
+use Rattle.resets.proofs.Resets.{refused, not-refused, reboot-stores}
 use borrow.Author.Needs.{needs}
 use Rattle.resets.proofs.reboot.Statement.{statement}
 use Rattle.resets.proofs.reboot.Tie as tie
 
 returns : tie.Need-returns
-returns c = sym (off-table _ _ (c .if1 .taken))
+returns c = refused _ _ (c .if1 .taken)
 
 slice-read-a : tie.Need-slice-read-a
 slice-read-a c = search needs
@@ -66,7 +65,8 @@ same-length c = simp length-set
 returns-2 : tie.Need-returns-2
 returns-2 c =
     let k = c .before .before .before .before in
-    reboot-stores (k .before .args .table .now) (k .if1 .left)
+    let table = k .before .args .table .now in
+    (not-refused table (k .if1 .left), reboot-stores table (k .if1 .left))
 
 pub reboot-spec : {M : Type 1} → statement M
 reboot-spec =

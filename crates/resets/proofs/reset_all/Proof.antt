@@ -1,14 +1,14 @@
-use mathlib.Core.Path.{sym, ap, _∙_}
+use mathlib.Core.Path.{ap, _∙_}
 use mathlib.Core.List.{List}
 use Prim.Native.Nat.{ℕ}
 use lib.ListN.{set}
-use Rattle.resets.proofs.Resets.{off-table, id-stores}
+use Rattle.resets.proofs.Resets.{refused, not-refused, id-stores}
 use borrow.Author.Needs.{needs}
 use Rattle.resets.proofs.reset_all.Statement.{statement}
 use Rattle.resets.proofs.reset_all.Tie as tie
 
 returns : tie.Need-returns
-returns c = sym (off-table _ _ (c .if1 .taken))
+returns c = refused _ _ (c .if1 .taken)
 
 reset-but-id-requires : tie.Need-reset-but-id-requires
 reset-but-id-requires c κs = search needs
@@ -23,7 +23,8 @@ returns-2 : tie.Need-returns-2
 returns-2 c =
     let r = c .before .before in
     let k = r .before .before in
-    ap (λ (t : List ℕ). set t 7 1) (r .reset-but-id .ensures) ∙ id-stores (k .before .before .args .table .now) (k .if1 .left)
+    let table = k .before .before .args .table .now in
+    (not-refused table (k .if1 .left), ap (λ (t : List ℕ). set t 7 1) (r .reset-but-id .ensures .1) ∙ id-stores table (k .if1 .left))
 
 pub reset-all-spec : {M : Type 1} → statement M
 reset-all-spec =

@@ -1,13 +1,12 @@
-use mathlib.Core.Path.{sym}
 use native.Mathlib.Omega.{arith}
 use lib.ListN.{length-set}
-use Rattle.resets.proofs.Resets.{off-table, positions-stores}
+use Rattle.resets.proofs.Resets.{refused, not-refused, positions-stores}
 use borrow.Author.Needs.{needs}
 use Rattle.resets.proofs.reset_but_id_and_baud.Statement.{statement}
 use Rattle.resets.proofs.reset_but_id_and_baud.Tie as tie
 
 returns : tie.Need-returns
-returns c = sym (off-table _ _ (c .if1 .taken))
+returns c = refused _ _ (c .if1 .taken)
 
 slice-write-table : tie.Need-slice-write-table
 slice-write-table c = search needs
@@ -49,7 +48,9 @@ same-length : tie.Need-same-length
 same-length c = search needs
 
 returns-2 : tie.Need-returns-2
-returns-2 c = positions-stores (c .before .args .table .now) (c .if1 .left)
+returns-2 c =
+    let table = c .before .args .table .now in
+    (not-refused table (c .if1 .left), positions-stores table (c .if1 .left))
 
 pub reset-but-id-and-baud-spec : {M : Type 1} → statement M
 reset-but-id-and-baud-spec =

@@ -1,0 +1,99 @@
+-- The call on a packet as received, as the exchanges show it: what is lent to it, what it answers, and what it leaves.
+use mathlib.Core.List.{List, [], _∷_, _++_}
+use Prim.Native.Nat.{ℕ, _-_}
+use lib.IntN.{pos}
+use lib.ListN.{length, replicate}
+use Rattle.registers.specs.Registers.{maxPosition, minPosition, registeredInstruction}
+use Rattle.items.specs.Items.{put}
+use Rattle.control_table.specs.Fresh.{freshTable, measured}
+use Rattle.device.specs.Answers.{Answer}
+use Rattle.exchange.specs.Exchange.{exchangeAnswer, exchangeTable, exchangeRegistered, exchangeBody, exchangeOut}
+use Rattle.instructions.specs.declared.RegisteredWrite.{RegisteredWrite}
+
+-- control table, registered write, body buffer and reply buffer
+pub record Lent : Type 0 where
+  pub table : List ℕ
+  pub registered : RegisteredWrite
+  pub body : List ℕ
+  pub reply : List ℕ
+
+abbrev pub answerTo : List ℕ → Lent → Answer
+answerTo packet l = exchangeAnswer (l .table) (l .registered) packet (l .body) (l .reply)
+
+abbrev pub leftBy : List ℕ → Lent → Lent
+leftBy packet l =
+    record {
+      table = exchangeTable (l .table) (l .registered) packet (l .body) (l .reply);
+      registered = exchangeRegistered (l .table) (l .registered) packet (l .body) (l .reply);
+      body = exchangeBody (l .table) (l .registered) packet (l .body) (l .reply);
+      reply = exchangeOut (l .table) (l .registered) packet (l .body) (l .reply);
+    }
+
+-- a body buffer of n bytes and a reply buffer of 32, all AA to begin with
+abbrev pub lent : List ℕ → RegisteredWrite → ℕ → Lent
+lent table w n = record { table = table; registered = w; body = replicate n 0xAA; reply = replicate 32 0xAA }
+
+-- the same after a call: the unstuffed body and the status at their starts, and AA behind them
+abbrev pub left : List ℕ → RegisteredWrite → ℕ → List ℕ → List ℕ → Lent
+left table w n body status =
+    record {
+      table = table;
+      registered = w;
+      body = body ++ replicate (n - length body) 0xAA;
+      reply = status ++ replicate (32 - length status) 0xAA;
+    }
+
+-- ---- tables and registered writes
+
+-- a fresh table with 166 measured
+abbrev pub at166 : List ℕ
+at166 = measured freshTable (pos 166) 0
+
+-- one that says that a write is registered, and such a write: goal position 4096, which is out of range
+abbrev pub registeredTable : List ℕ
+registeredTable = put freshTable registeredInstruction 1
+
+abbrev pub goalTooLarge : RegisteredWrite
+goalTooLarge =
+    record { address = 116; count = 4; bytes = 0x00 ∷ 0x10 ∷ 0x00 ∷ 0x00 ∷ 0x00 ∷ 0x00 ∷ 0x00 ∷ 0x00 ∷ [] }
+
+-- one with FF FF FD 00 in both limits of the position
+abbrev pub markedLimits : List ℕ
+markedLimits = put (put freshTable maxPosition 0x00FDFFFF) minPosition 0x00FDFFFF
+
+-- ---- packets that are printed nowhere
+
+-- Ping to 1 with a wrong checksum, and with a parameter; the status with error 05
+abbrev pub pingWrongSum : List ℕ
+pingWrongSum = 0xFF ∷ 0xFF ∷ 0xFD ∷ 0x00 ∷ 0x01 ∷ 0x03 ∷ 0x00 ∷ 0x01 ∷ 0x19 ∷ 0x4F ∷ []
+
+abbrev pub pingWithParameter : List ℕ
+pingWithParameter = 0xFF ∷ 0xFF ∷ 0xFD ∷ 0x00 ∷ 0x01 ∷ 0x04 ∷ 0x00 ∷ 0x01 ∷ 0x00 ∷ 0xA7 ∷ 0xF4 ∷ []
+
+abbrev pub lengthStatus : List ℕ
+lengthStatus = 0xFF ∷ 0xFF ∷ 0xFD ∷ 0x00 ∷ 0x01 ∷ 0x04 ∷ 0x00 ∷ 0x55 ∷ 0x05 ∷ 0xBF ∷ 0x0C ∷ []
+
+-- Action to 1 and to all; the status with error 04
+abbrev pub actionTo1 : List ℕ
+actionTo1 = 0xFF ∷ 0xFF ∷ 0xFD ∷ 0x00 ∷ 0x01 ∷ 0x03 ∷ 0x00 ∷ 0x05 ∷ 0x02 ∷ 0xCE ∷ []
+
+abbrev pub actionToAll : List ℕ
+actionToAll = 0xFF ∷ 0xFF ∷ 0xFD ∷ 0x00 ∷ 0xFE ∷ 0x03 ∷ 0x00 ∷ 0x05 ∷ 0x2A ∷ 0xC2 ∷ []
+
+abbrev pub rangeStatus : List ℕ
+rangeStatus = 0xFF ∷ 0xFF ∷ 0xFD ∷ 0x00 ∷ 0x01 ∷ 0x04 ∷ 0x00 ∷ 0x55 ∷ 0x04 ∷ 0xBA ∷ 0x8C ∷ []
+
+-- Sync Read of four bytes at 132 from 3, 2 and 1
+abbrev pub syncReadPosition : List ℕ
+syncReadPosition =
+    0xFF ∷ 0xFF ∷ 0xFD ∷ 0x00 ∷ 0xFE ∷ 0x0A ∷ 0x00 ∷ 0x82 ∷ 0x84 ∷ 0x00 ∷ 0x04 ∷ 0x00 ∷ 0x03 ∷ 0x02 ∷ 0x01 ∷ 0x0E ∷ 0x6C ∷ []
+
+-- Read of eight bytes at 48, and the longest status
+abbrev pub readLimits : List ℕ
+readLimits = 0xFF ∷ 0xFF ∷ 0xFD ∷ 0x00 ∷ 0x01 ∷ 0x07 ∷ 0x00 ∷ 0x02 ∷ 0x30 ∷ 0x00 ∷ 0x08 ∷ 0x00 ∷ 0x2B ∷ 0xAD ∷ []
+
+abbrev pub longestStatus : List ℕ
+longestStatus =
+    0xFF ∷ 0xFF ∷ 0xFD ∷ 0x00 ∷ 0x01 ∷ 0x0E ∷ 0x00
+    ∷ 0x55 ∷ 0x00 ∷ 0xFF ∷ 0xFF ∷ 0xFD ∷ 0xFD ∷ 0x00 ∷ 0xFF ∷ 0xFF ∷ 0xFD ∷ 0xFD ∷ 0x00
+    ∷ 0xA8 ∷ 0x78 ∷ []

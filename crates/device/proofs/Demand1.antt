@@ -1,0 +1,92 @@
+-- What a refusal leaves.
+use mathlib.Core.Path.{_≡_, refl, sym, ap, _∙_}
+use mathlib.Core.Bool.{Bool, true, false, cond}
+use mathlib.Core.List.{List, []}
+use mathlib.Core.Option.{Option, none, some}
+use Prim.Native.Nat.{ℕ, _<_}
+use native.Mathlib.Omega.{arith}
+use lib.Dec.{leb}
+use lib.ListN.{length, getD}
+use Rattle.lists.specs.Write.{overwritten}
+use Rattle.stuffing.specs.Stuffing.{stuffAfter}
+use Rattle.encoder.specs.Writing.{withChecksum, packetOf}
+use Rattle.status.specs.Status.{silence, errorByte, status, replyBytes}
+use Rattle.instructions.specs.Instructions.{Effect}
+use Rattle.reactions.specs.Reactions.{Voice, silent, speaks, Reaction, ownId}
+use Rattle.reactions.specs.Refused.{tableIfRefused, registeredIfRefused}
+use Rattle.reactions.proofs.Theorems.{refused as reaction-refused}
+use Rattle.device.specs.Device.{hardwareErrorIn, replyBy, heeded, carryOut}
+use Rattle.device.specs.Answers.{Answer, sent, refused, answeredBy, callRefusal, callAnswer}
+use Rattle.device.specs.Demand1.{LeftAlone, LeftByRefusal, Demand1}
+use Rattle.device.proofs.Calls.{Accepted, accepted}
+use Rattle.device.proofs.Replies.{to-whomever}
+use Rattle.status.specs.declared.Reply.{Reply}
+use Rattle.instructions.specs.declared.RegisteredWrite.{RegisteredWrite}
+use Rattle.reactions.specs.declared.Heard.{Heard}
+
+-- ---- by the answer: refused by a number, or not
+
+pub sent-by : (r : Option ℕ) (reply : Reply) (n slot : ℕ) → answeredBy r reply ≡ sent n slot
+    → (r ≡ none) × (length (replyBytes reply) ≡ n)
+sent-by none reply n slot e = (refl, cc)
+sent-by (some number) reply n slot e = let z : _≡_ {A = ℕ} 0 1 = cc in absurd (omega arith)
+
+pub refused-by : (r : Option ℕ) (reply : Reply) (number : ℕ) → answeredBy r reply ≡ refused number → r ≡ some number
+refused-by none reply number e = let z : _≡_ {A = ℕ} 0 1 = cc in absurd (omega arith)
+refused-by (some k) reply number e = cc
+
+-- ---- the error byte of a status, whose first two body bytes need no stuffing
+
+error-at : (id error : ℕ) (bytes : List ℕ) (slot : ℕ) (out : List ℕ) → getD (overwritten out (replyBytes (status id error bytes slot))) 8 0 ≡ error
+unfolding packetOf withChecksum stuffAfter
+error-at id error bytes slot out = refl
+
+carries : (voice : Voice) (table : List ℕ) (e : Effect) (out : List ℕ) → 0 < length (replyBytes (replyBy voice table e))
+    → getD (overwritten out (replyBytes (replyBy voice table e))) 8 0 ≡ errorByte (e .error) (hardwareErrorIn (e .table))
+carries silent table e out h = absurd (omega arith)
+carries (speaks least slot) table e out h = by-level (leb least (getD table 68 0)) h
+  where
+    by-level : (b : Bool) → 0 < length (replyBytes (cond b (status (ownId table) (errorByte (e .error) (hardwareErrorIn (e .table))) (e .bytes) slot) silence))
+        → getD (overwritten out (replyBytes (cond b (status (ownId table) (errorByte (e .error) (hardwareErrorIn (e .table))) (e .bytes) slot) silence))) 8 0
+        ≡ errorByte (e .error) (hardwareErrorIn (e .table))
+    by-level true l = error-at (ownId table) _ (e .bytes) slot out
+    by-level false l = absurd (omega arith)
+
+module _ (table : List ℕ) (w : RegisteredWrite) (heard : Heard) (id : ℕ) (body out : List ℕ) where
+  refused-call : (number : ℕ) → callAnswer table w heard id body out ≡ refused number → LeftAlone table w heard id body out
+  refused-call number e =
+      let r = refused-by (callRefusal table w out) _ number e in
+      record { same-table = rw r; same-registered = rw r; same-reply = rw r }
+
+  module _ (n slot : ℕ) (e : callAnswer table w heard id body out ≡ sent n slot) where
+    passes : callRefusal table w out ≡ none
+    passes = sent-by (callRefusal table w out) _ n slot e .0
+
+    left : ¬ (heeded table w heard id body .effect .error ≡ 0)
+        → (heeded table w heard id body .effect .table ≡ tableIfRefused table w heard body)
+        × (heeded table w heard id body .effect .registered ≡ registeredIfRefused w heard body)
+    left =
+        to-whomever table w heard id body
+        (λ (r : Reaction). ¬ (r .effect .error ≡ 0)
+        → (r .effect .table ≡ tableIfRefused table w heard body) × (r .effect .registered ≡ registeredIfRefused w heard body))
+        (λ all. reaction-refused table w (accepted table w out passes .sized) heard all body) (λ z. absurd (z refl))
+
+    refused-instruction : ¬ (heeded table w heard id body .effect .error ≡ 0) → LeftByRefusal table w heard id body out
+    refused-instruction z = let l = left z in record { left-table = rw passes (l .0); left-registered = rw passes (l .1) }
+
+    in-status : 0 < n
+        → getD (overwritten out (replyBytes (carryOut table w heard id body .reply))) 8 0
+        ≡ errorByte (heeded table w heard id body .effect .error) (hardwareErrorIn (heeded table w heard id body .effect .table))
+    in-status h =
+        carries (heeded table w heard id body .voice) table (heeded table w heard id body .effect) out
+        (omega (arith, sent-by (callRefusal table w out) _ n slot e .1))
+
+pub demand-1 : Demand1
+demand-1 =
+    record {
+      refused-call = refused-call;
+      refused-instruction = refused-instruction;
+      in-status = λ table w heard id body out n slot e h.
+          let p = passes table w heard id body out n slot e in
+          rw p (in-status table w heard id body out n slot e h);
+    }

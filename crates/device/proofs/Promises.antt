@@ -1,0 +1,7 @@
+-- The promises over all calls, each proved in a file of its own.
+use Rattle.device.specs.Promises.{DevicePromises}
+use Rattle.device.proofs.Demand1.{demand-1}
+use Rattle.device.proofs.Written.{status-written}
+
+pub device-promises : DevicePromises
+device-promises = record { demand-1 = demand-1; status-written = status-written }

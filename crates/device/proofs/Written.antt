@@ -1,0 +1,49 @@
+-- The status that is written.
+use mathlib.Core.Path.{_≡_, refl, sym, ap, ap₂, subst, _∙_}
+use mathlib.Core.Bool.{Bool, true, false, cond}
+use mathlib.Core.List.{List, []}
+use Prim.Native.Nat.{ℕ, _<_}
+use native.Mathlib.Omega.{arith}
+use lib.ListN.{length, take}
+use borrow.Author.Tests.{ne-eqb}
+use Rattle.lists.specs.Write.{overwritten}
+use Rattle.lists.proofs.Write.{overwritten-take}
+use Rattle.status.specs.Status.{statusPacket, replyBytes}
+use Rattle.status.proofs.Packets.{status-id, status-formed, status-length}
+use Rattle.reactions.specs.Reactions.{ownId}
+use Rattle.device.specs.Device.{carryOut}
+use Rattle.device.specs.Answers.{callRefusal, callOut}
+use Rattle.device.specs.Written.{IsStatus, StatusWritten}
+use Rattle.device.proofs.Bounds.{Sendable, sendable}
+use Rattle.device.proofs.Calls.{accepted}
+use Rattle.device.proofs.Demand1.{sent-by}
+use Rattle.status.specs.declared.Reply.{Reply}
+
+-- silence has no bytes
+speaking : (r : Reply) → 0 < length (replyBytes r) → (r .speaks ≡ true) × (replyBytes r ≡ statusPacket r)
+speaking r h = by-voice (r .speaks) refl h
+  where
+    by-voice : (b : Bool) → r .speaks ≡ b → 0 < length (cond b (statusPacket r) []) → (r .speaks ≡ true) × (replyBytes r ≡ statusPacket r)
+    by-voice true e l = (e, rw e)
+    by-voice false e l = absurd (omega arith)
+
+is-status : (own : ℕ) (r : Reply) → Sendable own r → 0 < length (replyBytes r) → IsStatus own (length (replyBytes r)) (replyBytes r)
+is-status own r g h =
+    let s = speaking r h in
+    subst (λ (bytes : List ℕ). IsStatus own (length bytes) bytes) (sym (s .1))
+    (record {
+      formed = status-formed r (g .short) (g .known);
+      own-id = status-id r ∙ g .own-id (s .0);
+      short = omega (arith, status-length r (g .short) (ne-eqb (r .error) 0xFF (λ e. absurd (omega (arith, g .numbered)))));
+    })
+
+pub status-written : StatusWritten
+status-written table w heard id body out n slot e h =
+    let s = sent-by (callRefusal table w out) _ n slot e in
+    let a = accepted table w out (s .0) in
+    let reply = carryOut table w heard id body .reply in
+    let g = sendable table w (a .sized) (a .known) heard id body in
+    let first : take n (callOut table w heard id body out) ≡ replyBytes reply =
+    rw (s .0) (ap (λ (k : ℕ). take k (overwritten out (replyBytes reply))) (sym (s .1)) ∙ overwritten-take out (replyBytes reply)) in
+    subst (λ (bytes : List ℕ). IsStatus (ownId table) n bytes) (sym first)
+    (subst (λ (k : ℕ). IsStatus (ownId table) k (replyBytes reply)) (s .1) (is-status (ownId table) reply g (omega (arith, s .1))))

@@ -1,0 +1,7 @@
+-- What the device call keeps to, over all calls.
+use Rattle.device.specs.Demand1.{Demand1}
+use Rattle.device.specs.Written.{StatusWritten}
+
+pub record DevicePromises : Type 0 where
+  pub demand-1 : Demand1
+  pub status-written : StatusWritten

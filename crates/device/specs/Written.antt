@@ -1,0 +1,23 @@
+-- The status that is written: a well-formed packet with the device's ID, of 21 bytes at the most.
+use mathlib.Core.Path.{_≡_}
+use mathlib.Core.List.{List}
+use Prim.Native.Nat.{ℕ, _≤_, _<_}
+use lib.ListN.{take}
+use Rattle.packet_front.specs.Front.{idOf}
+use Rattle.packet.specs.Packet.{WellFormed}
+use Rattle.reactions.specs.Reactions.{ownId}
+use Rattle.device.specs.Answers.{sent, callAnswer, callOut}
+use Rattle.instructions.specs.declared.RegisteredWrite.{RegisteredWrite}
+use Rattle.reactions.specs.declared.Heard.{Heard}
+
+-- the n bytes are a status of the device whose ID, before the instruction, is `own` [D41]
+pub record IsStatus (own n : ℕ) (bytes : List ℕ) : Type 0 where
+  pub formed : WellFormed bytes
+  pub own-id : idOf bytes ≡ own
+  pub short : n ≤ 21
+
+-- after an answer of n bytes, if that is not silence, the first n of the reply buffer [D41]
+abbrev pub StatusWritten : Type 0
+StatusWritten =
+    (table : List ℕ) (w : RegisteredWrite) (heard : Heard) (id : ℕ) (body out : List ℕ) (n slot : ℕ)
+    → callAnswer table w heard id body out ≡ sent n slot → 0 < n → IsStatus (ownId table) n (take n (callOut table w heard id body out))

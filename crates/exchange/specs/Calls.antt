@@ -1,0 +1,46 @@
+-- Our calls on a control table and a registered write, one after the other.
+use mathlib.Core.List.{List, [], _∷_}
+use mathlib.Core.Option.{Option}
+use Prim.Native.Nat.{ℕ}
+use lib.IntN.{ℤ}
+use Rattle.control_table.specs.Answers.{freshOut, measureOut}
+use Rattle.device.specs.Answers.{stateRefusal, callTable, callRegistered}
+use Rattle.instructions.specs.declared.RegisteredWrite.{RegisteredWrite}
+use Rattle.reactions.specs.declared.Heard.{Heard}
+use Rattle.exchange.specs.Exchange.{exchangeTable, exchangeRegistered}
+
+pub record State : Type 0 where
+  pub table : List ℕ
+  pub registered : RegisteredWrite
+
+-- a call, with all that it is given beside them
+pub data Call : Type 0 where
+  fresh : Call
+  -- position and hardware error
+  measurement : ℤ → ℕ → Call
+  -- what was heard, its ID and its body; the reply buffer
+  device : Heard → ℕ → List ℕ → List ℕ → Call
+  -- a packet as received; the body buffer and the reply buffer
+  exchange : List ℕ → List ℕ → List ℕ → Call
+  -- no call of ours: from here on the caller lends another registered write
+  lend : RegisteredWrite → Call
+
+abbrev pub stateOf : List ℕ → RegisteredWrite → State
+stateOf table w = record { table = table; registered = w }
+
+abbrev pub after : State → Call → State
+after s fresh = stateOf (freshOut (s .table)) (s .registered)
+after s (measurement position error) = stateOf (measureOut (s .table) position error) (s .registered)
+after s (device heard id body out) =
+    stateOf (callTable (s .table) (s .registered) heard id body out) (callRegistered (s .table) (s .registered) heard id body out)
+after s (exchange packet body out) =
+    stateOf (exchangeTable (s .table) (s .registered) packet body out) (exchangeRegistered (s .table) (s .registered) packet body out)
+after s (lend w) = stateOf (s .table) w
+
+abbrev pub afterAll : State → List Call → State
+afterAll s [] = s
+afterAll s (call ∷ calls) = afterAll (after s call) calls
+
+-- 21 to 23, by the state
+abbrev pub refusalIn : State → Option ℕ
+refusalIn s = stateRefusal (s .table) (s .registered)

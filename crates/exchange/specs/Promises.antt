@@ -1,0 +1,11 @@
+-- What the call on a packet as received keeps to, over all calls.
+use Rattle.exchange.specs.OnlyPackets.{OnlyPackets}
+use Rattle.exchange.specs.Demand1.{Demand1}
+use Rattle.exchange.specs.Written.{StatusWritten}
+use Rattle.exchange.specs.Stays.{StaysAccepted}
+
+pub record ExchangePromises : Type 0 where
+  pub only-packets : OnlyPackets
+  pub demand-1 : Demand1
+  pub status-written : StatusWritten
+  pub stays-accepted : StaysAccepted

@@ -1,0 +1,300 @@
+#!/usr/bin/env python3
+"""Writes docs/PROMISES.md from the comments in the tree, and looks for what is missing.
+
+  promises.py            write the page
+  promises.py --check    fail where the page is not what would be written, or where something below is missing
+
+A comment names the rules of docs/RULES.md that its definition, function, must-fail edit or test is for, in brackets at the end of
+a line: [P2], [S9 S10], [E1-E9]. Definitions are those of crates/*/specs, functions those of crates/*/src, edits those of
+crates/*/must-fail, where the words stand before the first `file:` line; tests are Rust functions with #[test], C functions and
+Python functions or methods under tests/, and the stored run of a program.
+
+What each group of rules asks for stands in the first table of RULES, in its last column: a definition, a promise (a public
+function with an `ensures`), something that can fail (an edit or a test).
+"""
+import re
+import sys
+from collections import defaultdict
+from pathlib import Path
+
+from statements import Statements, read
+
+PAGE = Path("docs/PROMISES.md")
+RULES = Path("docs/RULES.md")
+TAG = re.compile(r"\[((?:[A-Z]\d+(?:-[A-Z]\d+)?)(?:[ ,]+[A-Z]\d+(?:-[A-Z]\d+)?)*)\]\s*(?:\*/)?\s*(?:\"\"\")?$")
+
+
+# ---- the rules
+
+def rules():
+    """Rule -> its words, in the order of the page; group -> what it asks for."""
+    text = read(RULES)
+    found = {}
+    for line in text.split("\n"):
+        item = re.match(r"- \*\*([A-Z]\d+)\*\* (.*)", line)
+        row = re.match(r"\| \*\*([A-Z]\d+)\*\* \| (.*) \|$", line)
+        if item:
+            found[item.group(1)] = item.group(2)
+        elif row:
+            found[row.group(1)] = " ".join(cell.strip() for cell in row.group(2).split("|"))
+    asked = {}
+    for groups, needs in re.findall(r"^\| ([A-Z](?:, [A-Z])*) \| [^|]* \| ([^|]*) \|$", text, flags=re.M):
+        for group in groups.split(", "):
+            asked[group] = {need.strip() for need in needs.split(",")} - {"–"}
+    titles = dict(re.findall(r"^## ([A-Z])\. (.*)$", text, flags=re.M))
+    return found, asked, titles
+
+
+def expanded(words, known):
+    """The rules of a tag; a range goes by number within one group."""
+    for word in re.split(r"[ ,]+", words):
+        first, _, last = word.partition("-")
+        if not last:
+            yield word
+            continue
+        letter, start, end = first[0], int(first[1:]), int(last[1:])
+        if last[0] != letter or end < start:
+            raise ValueError(f"[{words}] is no range of rules")
+        yield from (f"{letter}{number}" for number in range(start, end + 1))
+
+
+def tags(comment, known):
+    """The rules that the lines of a comment name."""
+    named = []
+    for line in comment:
+        found = TAG.search(line.rstrip())
+        if found:
+            named += [rule for rule in expanded(found.group(1), known) if rule not in named]
+    return named
+
+
+# ---- the places
+
+def above(lines, number, comment, between=r"^$(?!)"):
+    """The lines of the comment that ends right above a line; lines that match `between` may stand between them."""
+    found = []
+    for line in reversed(lines[:number]):
+        if re.match(comment, line):
+            found.append(line)
+        elif found or not re.match(between, line):
+            break
+    return list(reversed(found))
+
+
+def definitions():
+    """(crate, file, name, comment) of each definition, and of each field or case of one that has a comment with rules."""
+    for path in sorted(Path("crates").glob("*/specs/*.antt")):
+        lines = read(path).split("\n")
+        owner = None
+        for number, line in enumerate(lines):
+            named = re.match(r"^\s*(?:abbrev |unfoldable )?pub (?:record |data )?([^\s:({]+)(?= [:({]| :|$)", line)
+            part = re.match(r"^\s+(?:pub )?(\S+) :", line)
+            if named and not line.startswith("pub mod") and not (owner and line.startswith("  pub ") and " : " in line):
+                owner = named.group(1) if re.match(r"^\s*pub (record|data) ", line) else None
+                yield path.parts[1], path, named.group(1), above(lines, number, r"^\s*--")
+            elif owner and part:
+                yield path.parts[1], path, f"{owner}.{part.group(1)}", above(lines, number, r"^\s+--")
+            elif line and not line.startswith((" ", "--")):
+                owner = None
+
+
+def functions():
+    """(crate, name, public, head with contract, comment) of each function of the crates."""
+    for path in sorted(Path("crates").glob("*/src/**/*.rt")):
+        text = read(path)
+        lines = text.split("\n")
+        for head in re.finditer(r'^(pub )?(?:extern "C" )?fn (\w+).*?^\{', text, flags=re.M | re.S):
+            number = text[:head.start()].count("\n")
+            comment = above(lines, number, r"^//", r"^#\[")
+            yield path.parts[1], head.group(2), bool(head.group(1)), head.group(), comment, path
+
+
+def edits():
+    for path in sorted(Path("crates").glob("*/must-fail/*.edit")):
+        words = []
+        for line in read(path).split("\n"):
+            if line.startswith(("file:", "old:", "new:")):
+                break
+            words.append(line)
+        yield f"{path.parts[1]}/{path.stem}", words
+
+
+def tests():
+    """(what, file, name, comment) of each test."""
+    for path in sorted(Path("tests").glob("*/tests/**/*.rs")) + sorted(Path("tests").glob("*/src/**/*.rs")):
+        lines = read(path).split("\n")
+        for number, line in enumerate(lines):
+            named = re.match(r"\s*fn (\w+)", line)
+            if named and number and "#[test]" in lines[number - 1]:
+                yield path, named.group(1), above(lines, number - 1, r"^\s*//")
+    for path in sorted(Path("tests").glob("c/*.c")):
+        lines = read(path).split("\n")
+        for number, line in enumerate(lines):
+            named = re.match(r"(?:static )?[\w ]+ \**(\w+)\(.*\)$", line)
+            if named and number + 1 < len(lines) and lines[number + 1] == "{":
+                yield path, named.group(1), above(lines, number, r"^\s*(/\*| \*)")
+    for path in sorted(Path("tests").glob("*.py")):
+        lines = read(path).split("\n")
+        words = re.match(r'"""(.*?)"""', read(path), flags=re.S)
+        yield path, "", (words.group(1).split("\n") if words else [])
+        for number, line in enumerate(lines):
+            named = re.match(r"\s*def (\w+)", line)
+            if named:
+                inside = re.match(r'\s*"""(.*)"""', lines[number + 1]) if number + 1 < len(lines) else None
+                yield path, named.group(1), above(lines, number, r"^\s*#") + ([inside.group(1)] if inside else [])
+    for path in sorted(Path("crates").glob("*/src/main.rt")):
+        comment = [line for line in read(path).split("\n") if line.startswith("//")]
+        if (path.parent.parent / "stdout").exists():
+            yield path.parent.parent / "stdout", "", comment
+
+
+# ---- the page
+
+class Tree:
+    def __init__(self):
+        self.rules, self.asked, self.titles = rules()
+        self.statements = Statements()
+        self.faults = []
+        self.by_rule = {kind: defaultdict(list) for kind in ("definition", "promise", "edit", "test")}
+        self.functions = list(functions())
+        self.edits = list(edits())
+        for crate, path, name, comment in definitions():
+            self.place("definition", tags_of(self, comment, f"{path}: {name}"), (f"{crate}/{path.stem}", name))
+        for crate, name, public, head, comment, path in self.functions:
+            named = tags_of(self, comment, f"{crate}::{name}")
+            if named and not (public and "ensures {" in head) and "main" not in path.stem:
+                self.faults.append(f"{crate}::{name} names rules and is no public function with an ensures")
+            if "main" not in path.stem:
+                self.place("promise", named, f"{crate}::{name}")
+        for edit, comment in self.edits:
+            named = tags_of(self, comment, f"edit {edit}")
+            if not "".join(comment).strip():
+                self.faults.append(f"the edit {edit} does not say what is wrong")
+            if not named:
+                self.faults.append(f"the edit {edit} names no rule")
+            if len(named) > 2:
+                self.faults.append(f"the edit {edit} names more than two rules")
+            self.place("edit", named, edit)
+        for path, name, comment in tests():
+            file = path.name if path.parts[0] == "tests" else str(path)
+            self.place("test", tags_of(self, comment, f"{path} {name}"), (file, name))
+
+    def place(self, kind, named, place):
+        for rule in named:
+            self.by_rule[kind][rule].append(place)
+
+    def missing(self):
+        for rule in self.rules:
+            asked = self.asked.get(rule[0], set())
+            if "definition" in asked and not self.by_rule["definition"][rule]:
+                yield f"{rule} has no definition"
+            if "promise" in asked and not self.by_rule["promise"][rule]:
+                yield f"{rule} is promised by no function"
+            if "edit or test" in asked and not (self.by_rule["edit"][rule] or self.by_rule["test"][rule]):
+                yield f"{rule} has nothing that can fail"
+            if "test" in asked and not self.by_rule["test"][rule]:
+                yield f"{rule} has no test"
+
+    def weak_contracts(self):
+        for crate, name, public, head, _, path in self.functions:
+            if not public:
+                continue
+            if "requires {" in head:
+                yield f"{crate}::{name} is public and requires something"
+            if "ensures {" not in head:
+                yield f"{crate}::{name} is public and has no ensures"
+            for lent in re.findall(r"(\w+): &(?:'\w+ )?mut ", head):
+                if f"({lent} .exit)" not in head and f"(«{lent}» .exit)" not in head:
+                    yield f"{crate}::{name} does not say what it leaves of {lent}"
+
+    def promised(self):
+        """Function -> the definitions that its contract leads to."""
+        return {f"{crate}::{name}": self.statements.led_to(read(path), head) for crate, name, _, head, _, path in self.functions}
+
+    def unpromised(self):
+        led_to = set().union(*self.promised().values())
+        for place in sorted(self.statements.statements.keys() - led_to):
+            yield f"no function promises {place[2]} of {self.statements.statements[place]}"
+
+    def page(self):
+        out = [HEAD.strip(), ""]
+        for letter, title in self.titles.items():
+            own = [rule for rule in self.rules if rule[0] == letter]
+            if not own:
+                continue
+            out += [f"## {letter}. {title}", "", "| Rule | Definition | Promise | Edit | Test |", "|---|---|---|---|---|"]
+            for rule in own:
+                cells = [joined(self.by_rule[kind][rule]) for kind in ("definition", "promise", "edit", "test")]
+                out.append(f"| {rule} | " + " | ".join(cells) + " |")
+            out.append("")
+        out += [THEOREMS.strip(), "", "| Theorem | Stands in | Promised by |", "|---|---|---|"]
+        promised = self.promised()
+        for place in sorted(self.statements.theorems):
+            crate, file, name = place
+            exports = [who.partition("::")[2] for who, places in promised.items() if place in places and who.startswith("capi")]
+            out.append(f"| `{name}` | `{crate}/{file}` | {', '.join(f'`{export}`' for export in exports) or '–'} |")
+        return "\n".join(out).rstrip() + "\n"
+
+
+def tags_of(tree, comment, where):
+    try:
+        named = tags(comment, tree.rules)
+    except ValueError as wrong:
+        tree.faults.append(f"{where}: {wrong}")
+        return []
+    for rule in named:
+        if rule not in tree.rules:
+            tree.faults.append(f"{where} names {rule}, which is no rule")
+    return [rule for rule in named if rule in tree.rules]
+
+
+def joined(places):
+    """Names of one file stand together: (file, name), or a place by itself."""
+    by_file = {}
+    for place in places:
+        file, name = place if isinstance(place, tuple) else (place, "")
+        names = by_file.setdefault(file, [])
+        if name and name not in names:
+            names.append(name)
+    return "; ".join(", ".join([f"`{file}`" + (": " if names else "") + ", ".join(f"`{name}`" for name in names)])
+                     for file, names in by_file.items()) or "–"
+
+
+HEAD = """
+# Promises
+
+From each rule of [RULES.md](RULES.md) to its definition, the functions that promise it, and what would fail if it did not hold. `tools/promises.py` writes this page from the comments in the tree.
+
+| Written | Means |
+|---|---|
+| Definition `packet_front/Front`: `goodId` | the name `goodId` in `crates/packet_front/specs/Front.antt` |
+| Promise `packet::judge` | the contract of `judge` in `crates/packet/src/lib.rt`. Its proof is `crates/packet/proofs/judge/Proof.antt`, where the checker does not find one by itself |
+| Edit `packet_front/id_253` | `crates/packet_front/must-fail/id_253.edit`: a change that the checker has to refuse |
+| Test `verdict.rs`: `every_id` | that function in a file of this name under `tests/` |
+"""
+
+THEOREMS = """
+## Theorems
+
+Statements in `specs/` that are not about one call's arguments, and the exports that promise them. The gate fails where any statement in `specs/` is promised by no function.
+"""
+
+
+def main():
+    tree = Tree()
+    faults = tree.faults + list(tree.missing()) + list(tree.weak_contracts()) + list(tree.unpromised())
+    page = tree.page()
+    if "--check" in sys.argv[1:]:
+        if not PAGE.exists() or read(PAGE) != page:
+            faults.append("docs/PROMISES.md is not what tools/promises.py writes: run make promises")
+    else:
+        PAGE.write_text(page, encoding="utf-8")
+    for fault in faults:
+        print(f"promises: {fault}", file=sys.stderr)
+    if not faults:
+        print(f"promises: {len(tree.rules)} rules, {len(tree.edits)} must-fail edits, each rule with what it asks for")
+    return 1 if faults else 0
+
+
+if __name__ == "__main__":
+    sys.exit(main())

@@ -1,0 +1,90 @@
+"""The definitions in specs/ and what leads to them from the contracts in src/."""
+import re
+from pathlib import Path
+
+BEGINS = re.compile(r"(?:(?:abbrev|unfoldable|pub) )*(?P<sort>record |data )?(?P<name>[^\s(]+)")
+USES = re.compile(r"^(?:ghost )?use Rattle·(\w+)(?:·specs)?\.specs\.(\w+)\.\{(.*)\};?$", flags=re.M)
+# the parameters of a theorem that is not about one call's arguments: packet rules, a reader, a number
+GENERAL = re.compile(r"[^:]* (?:\((?:R : Rules|M : AnyReader)\) )*: (?:(?:Rules|AnyReader|ℕ) → )*Type [01](?: where)?$")
+
+
+def read(path):
+    return path.read_text(encoding="utf-8")
+
+
+def definitions(source):
+    """Name, sort, type and whole text of each definition in a file of specs/, also in a `module _ .. where`."""
+    scopes, found, in_type = [0], [], False
+    for line in source.splitlines():
+        words, indent = line.strip(), len(line) - len(line.lstrip())
+        if not words or words.startswith(("--", "use ", "pub mod ", "mod ")):
+            continue
+        while indent < scopes[-1]:
+            scopes.pop()
+        if words.startswith("module "):
+            scopes.append(indent + 2)
+            continue
+        if indent == scopes[-1]:
+            # a definition begins with its type; its clauses stand below it, and begin with its name alone
+            in_type = bool(re.match(r"(abbrev|unfoldable|pub|record|data) |\S+ : ", words))
+            if in_type:
+                head = BEGINS.match(words)
+                found.append({"name": head["name"], "sort": head["sort"], "type": "", "text": ""})
+        found[-1]["text"] += " " + words
+        if in_type:
+            found[-1]["type"] += " " + words
+            in_type = not words.endswith(" where")
+    return found
+
+
+def brought_in(source):
+    """What each name that a file brings in from some specs/ stands for: the crate, the file and the name there."""
+    names = {}
+    for crate, file, items in USES.findall(source):
+        for item in items.split(", "):
+            name, _, other = item.partition(" as ")
+            names[other or name] = (crate, file, name)
+    return names
+
+
+def named_in(text, scope):
+    return [scope[word] for word in re.findall(r"[^\s(){},;.]+", text) if word in scope]
+
+
+class Statements:
+    """Places are (crate, file, name)."""
+
+    def __init__(self):
+        self.named, self.statements = {}, {}
+        general, claims = set(), set()
+        for path in sorted(Path("crates").glob("*/specs/*.antt")):
+            source = read(path)
+            own = definitions(source)
+            place = {d["name"]: (path.parts[1], path.stem, d["name"]) for d in own}
+            scope = brought_in(source) | place
+            for d in own:
+                self.named[place[d["name"]]] = named_in(d["text"], scope)
+                if d["sort"] != "data " and re.search(r" Type [01]( where)?$", d["type"]):
+                    self.statements[place[d["name"]]] = path
+                    if GENERAL.match(d["type"].strip()):
+                        general.add(place[d["name"]])
+                    if re.search(r"[≡≤<¬]", d["text"]):
+                        claims.add(place[d["name"]])
+        # a record of plain data claims nothing, and neither does one that holds only such
+        more = claims
+        while more:
+            more = {place for place in self.statements.keys() - claims if claims & set(self.named[place])}
+            claims |= more
+        self.theorems = general & claims
+
+    def led_to(self, source, contract):
+        """All definitions that a contract leads to; `source` is the file that it stands in."""
+        ahead, seen = [], set()
+        for clause in re.findall(r"\bensures \{(.*?)⌝ \}", contract, flags=re.S):
+            ahead += named_in(clause, brought_in(source))
+        while ahead:
+            place = ahead.pop()
+            if place not in seen:
+                seen.add(place)
+                ahead += self.named.get(place, [])
+        return seen

@@ -169,6 +169,15 @@ module _ (e : Entry) (own : ℕ) (params : List ℕ) (from : ℕ) where
       by-steps zero s = sym (rw (le-leb (length params) at h)) ∙ s
       by-steps (suc steps) s = sym (rw (le-leb (length params) at h)) ∙ s
 
+  -- a list that begins at the end or past it has no entry
+  pub past-end : length params ≤ from → search e own params from ≡ Nothing
+  unfolding searchFrom
+  past-end h = by-steps (length params)
+    where
+      by-steps : (steps : ℕ) → searchFrom e own params steps from [] Nothing ≡ Nothing
+      by-steps zero = rw (le-leb (length params) from h)
+      by-steps (suc steps) = rw (le-leb (length params) from h)
+
   -- ---- an entry that was found is allowed and whole
 
   pub record Whole (at : ℕ) : Type 0 where

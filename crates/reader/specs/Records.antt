@@ -65,9 +65,13 @@ records =
 abbrev pub NeverRefused : Type 0
 NeverRefused = (r : Reader) → r .count ≡ 0 → (cs : List Call) (c : Call) → ¬ (saidOn (after records r cs) c .event ≡ Refused)
 
+-- "at least 1,030 bytes"
+abbrev pub AtLeast1030 : List ℕ → Type 0
+AtLeast1030 s = 1030 ≤ length s
+
 -- "at least 1,030 bytes have followed the damage": what `Followed` asks for, with the longest packet of Protocol 2.0 [Q11]
 abbrev pub FollowedBy1030 : Type 0
-FollowedBy1030 = (s : List ℕ) → (Followed protocol2 s → 1030 ≤ length s) × (1030 ≤ length s → Followed protocol2 s)
+FollowedBy1030 = (s : List ℕ) → (Followed protocol2 s → AtLeast1030 s) × (AtLeast1030 s → Followed protocol2 s)
 
 -- what is promised of every list of calls on the records
 pub record ReaderPromises : Type 0 where

@@ -51,18 +51,17 @@ CleanLine R M =
     → (took M (after M x earlier) (since chunks g) ≡ joined packets)
     × (given M (after M x earlier) (since chunks g) ≡ map packet packets)
 
--- Such calls, for any packets: each packet is one chunk, and one gap call follows. It finishes the gap, and the reader is at a
--- start again.
-pub record OnePerChunk (M : AnyReader) (x : M .State) (packets : List (List ℕ)) : Type 0 where
-  pub all-taken : took M x (since packets 1) ≡ joined packets
-  pub all-given : given M x (since packets 1) ≡ map packet packets
-  pub finished : Finished M x packets 1
-  pub start-again : EndsSilent M x (since packets 1) gap
+-- feeding calls and then g gap calls take and give these packets, finish the gap, and leave the reader at a start again
+pub record AllRead (M : AnyReader) (x : M .State) (chunks : List (List ℕ)) (g : ℕ) (packets : List (List ℕ)) : Type 0 where
+  pub all-taken : took M x (since chunks g) ≡ joined packets
+  pub all-given : given M x (since chunks g) ≡ map packet packets
+  pub finished : Finished M x chunks g
+  pub start-again : EndsSilent M x (since chunks g) gap
 
--- [Q13]
+-- such calls are there for any packets: each packet is one chunk, and one gap call follows [Q13]
 abbrev pub PacketByPacket : Rules → AnyReader → Type 0
 PacketByPacket R M =
-    (x : M .State) → M .Fresh x → (packets : List (List ℕ)) → AllWellFormed R packets → OnePerChunk M x packets
+    (x : M .State) → M .Fresh x → (packets : List (List ℕ)) → AllWellFormed R packets → AllRead M x packets 1 packets
 
 -- what is promised of every list of calls on a reader M that goes by the rules R
 pub record CallPromises (R : Rules) (M : AnyReader) : Type 0 where

@@ -1,5 +1,4 @@
 use mathlib.Core.Path.{sym, ap}
-use Rattle.framer.specs.declared.StepEvent.{StepEvent}
 use Rattle.numbers.specs.Exported.{eventNumbers}
 use borrow.Author.Needs.{needs}
 use Rattle.numbers.proofs.step.Statement.{statement}

@@ -25,7 +25,7 @@ ghost use Rattle.cases.specs.Cases.{CasesHold};
 ghost use Rattle.numbers.specs.Exported.{exported, exportedRefusal, stepNumbers, deviceNumbers};
 ghost use Rattle.capi.specs.Heard.{heardBy, idBy};
 
-// The checksum of the bytes, going on from an earlier one; 0 starts a packet's. [C1-C7 C5 G5]
+// The checksum of the bytes, going on from an earlier one; 0 starts a packet's. [C1-C7 G5]
 #[no_mangle]
 pub extern "C" fn dxl_crc16(start: u16, bytes: &[u8]) -> u16
     ensures { λ crc. ⌜ crc ≡ crcFrom start (now (bytes .entry)) ⌝ }
@@ -33,7 +33,7 @@ pub extern "C" fn dxl_crc16(start: u16, bytes: &[u8]) -> u16
     crc16::update(start, bytes)
 }
 
-// The encoder: the packet's byte count, or minus a refusal number. [E1-E9 E2-E5 E7 E8 G5 N1 N2 N4]
+// The encoder: the packet's byte count, or minus a refusal number. [E1-E9 G5 N1 N2 N4]
 #[no_mangle]
 pub extern "C" fn dxl_encode(
     id: u8,
@@ -79,7 +79,7 @@ pub extern "C" fn dxl_measure(table: &mut [u8], position: i32, hardware_error: u
 }
 
 // A feeding call on a reader's record by its parts, the held bytes and their count. Demand 3 is promised of these calls.
-// [F1 F1-F16 G5 K3 K7 N9 Q1-Q14 V1-V12]
+// [F1-F16 G5 K3 K7 N9 Q1-Q14 V1-V12]
 #[no_mangle]
 pub extern "C" fn dxl_feed(
     held: &mut [u8; 1030],
@@ -98,7 +98,7 @@ pub extern "C" fn dxl_feed(
     numbers::step(step)
 }
 
-// A gap call, likewise. [F1 F1-F16 G5 N9 Q1-Q14 V1 V1-V12]
+// A gap call, likewise. [F1-F16 G5 N9 Q1-Q14 V1-V12]
 #[no_mangle]
 pub extern "C" fn dxl_gap(
     held: &mut [u8; 1030],

@@ -15,7 +15,7 @@ pub struct Reading {
     pub bytes: [u8; 8],
 }
 
-// The write: judged first, then stored whole. A refused one leaves every byte. [M5 N5 N12 T3 T6-T14 T6-T13]
+// The write: judged first, then stored whole. A refused one leaves every byte. [M5 N5 N12 T3 T6-T14]
 pub fn write(table: &mut [u8], address: u16, bytes: &[u8]) -> Outcome
     ensures { λ r. ⌜ refusalOf r ≡ inTable (now (table .entry)) (writeRule (now (table .entry)) address (now (bytes .entry))) ⌝ }
     ensures { λ _. ⌜ now (table .exit) ≡ writeOut (now (table .entry)) address (now (bytes .entry)) ⌝ }

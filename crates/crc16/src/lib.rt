@@ -6,7 +6,7 @@ ghost use mathlib.Core.Path.{_≡_};
 ghost use Rattle.crc.specs.Crc.{crcFrom};
 
 // The register after the bytes, from start. The table is bound once, before the loop: a constant array is built anew
-// wherever it is named. [C1-C3 C1-C7 C5 C6]
+// wherever it is named. [C1-C7]
 pub fn update(start: u16, bytes: &[u8]) -> u16
     ensures { λ crc. ⌜ crc ≡ crcFrom start (now (bytes .entry)) ⌝ }
 {

@@ -66,7 +66,7 @@ fn every_instruction_id_and_parameter_count() {
     }
 }
 
-/// [D1-D37 D40 M5 N12 T6 T6-T18 T13 T18]
+/// [D1-D37 D40 M5 N12 T6-T18]
 #[test]
 fn random_calls() {
     let mut rng = Rng::new(51);
@@ -100,7 +100,7 @@ fn random_calls() {
     assert!(silent > 20_000 && refused[3] > 5_000 && refused[1] + refused[2] + refused[4] == 0, "{silent}, {refused:?}");
 }
 
-/// Reads of every address and every length up to 10, and writes likewise, with the torque off and on. [T2 T7-T9 T8 T9 T15-T17]
+/// Reads of every address and every length up to 10, and writes likewise, with the torque off and on. [T2 T7-T9 T15-T17]
 #[test]
 fn every_address_and_length() {
     let mut rng = Rng::new(52);
@@ -159,7 +159,7 @@ fn ends_of_the_ranges() {
 }
 
 /// Tables and reply buffers of other lengths, IDs above 252, counts above 8: refused in their order, whatever was heard.
-/// [N5-N8 N10-N12 N12]
+/// [N5-N8 N10-N12]
 #[test]
 fn refusals() {
     let mut rng = Rng::new(54);

@@ -337,7 +337,7 @@ impl Line {
 }
 
 /// The promise over lists of calls, of our reader: noise, then packets, then anything, fed in any chunks after any earlier calls
-/// that end in a finished gap. [F11 Q1 Q5 Q7-Q14 Q8-Q11 V7 V10]
+/// that end in a finished gap. [F11 Q1 Q5 Q7-Q14 V7 V10]
 #[test]
 fn packets_after_noise_all_come_out() {
     let mut rng = Rng::new(48);

@@ -5,7 +5,7 @@ SHELL := /bin/sh
 .DELETE_ON_ERROR:
 # rt works in one target/ folder, so two of its runs must never overlap.
 .NOTPARALLEL:
-.PHONY: help run checksum demo lib test fuzz replay bench memory mutants promises fmt clean kit format promises_test vectors_test c_test header_test demo_test rust_test
+.PHONY: help run checksum demo lib install test fuzz replay bench memory mutants promises fmt clean kit format promises_test constants_test vectors_test c_test header_test demo_test programs_test install_test docs_test make_test rust_test
 .PHONY: fuzz_program replay_file
 
 # Each crate listed here becomes an archive for C: capi is libmednukals.a, capi_NAME is libmednukals_NAME.a.
@@ -18,81 +18,126 @@ LIBS := $(foreach crate,$(EXPORT_CRATES),$(call archive,$(crate)))
 SOURCES := crates.txt $(shell find crates -path '*/must-fail' -prune -o -print)
 
 CC := gcc
+CXX := g++
 WARNINGS := -std=c99 -Wall -Wextra -Wpedantic -Werror
-CAPTURE ?= examples/capture.bin
+CXX_WARNINGS := -std=c++11 -Wall -Wextra -Wpedantic -Werror
 
+comma := ,
 # $(call need,TOOL): one clear line where a tool is missing.
 need = command -v $(1) >/dev/null 2>&1 || { echo "mednukals: $(1) is needed and is not on the PATH" >&2; exit 1; }
 # COMMAND || $(call failed,WHAT)
 failed = { echo "mednukals: FAILED: $(1)" >&2; exit 1; }
+# $(call step,NAME,LABEL) COMMAND: one line with its time, and the command's output in build/log/NAME.log
+step = sh tools/step.sh $(1) '$(2)'
 
-help:
-	@echo 'make run    print the packets and bad checksums in a capture, by the proved program (CAPTURE=FILE; CAPTURE=- reads standard input)'
-	@echo 'make checksum  print the checksum and byte count of a file, likewise (CAPTURE=FILE or -)'
-	@echo 'make demo   run a device in C on a pseudo-terminal, talk to it and show the exchanges'
-	@echo 'make lib    prove the exports and build the archives that C links: $(LIBS)'
-	@echo 'make test   the gate: formatting, every proof from nothing and every must-fail edit, C and Rust tests'
-	@echo 'make fuzz   compare all exports with the second implementation for 10 minutes (SECONDS=N, SEED=S)'
-	@echo 'make replay FILE=FILE  run a case again in which make fuzz has found a difference'
-	@echo 'make bench  measure the exports beside plain C, as ratios (RUNS=N repeats it and gives the medians)'
-	@echo 'make memory  print the size of records and answers, the stack depth of each export and the size of the archive'
-	@echo 'make mutants CRATE=NAME  change the source of a crate in one place at a time and sort what the checker says (DEFINITIONS=1: its definitions)'
-	@echo 'make promises  write docs/PROMISES.md from the comments in the tree, and say what a rule lacks'
-	@echo 'make fmt    format every Rattle file'
-	@echo 'make clean  remove build/ and target/'
+# One line for each target, and one for each of its variables; tests/make_test.py holds it to the targets.
+define HELP
+use it
+  make run                 print the packets and bad checksums in a capture, by the proved program line
+      CAPTURE=FILE         a capture of your own; - is standard input
+  make checksum            print the checksum and byte count of a file, likewise
+      CAPTURE=FILE         a file of your own; - is standard input
+  make demo                run a device in C on a pseudo-terminal, talk to it and show the exchanges
+  make lib                 prove the exports and build the archives that C links, under build/lib
+  make install             put header, archive and a pkg-config file below /usr/local
+      PREFIX=DIR           below that folder
+      DESTDIR=DIR          staged below that one, for a package
 
-# $(call on_capture,PROGRAM,WHAT): the program over a file, or over standard input where CAPTURE is -
-define on_capture
-	@if [ '$(CAPTURE)' = - ]; then \
-	    echo '$(2) standard input:'; $(1); \
-	elif [ -r '$(CAPTURE)' ]; then \
-	    echo '$(2) $(CAPTURE):'; $(1) <'$(CAPTURE)'; \
-	else \
-	    echo 'mednukals: $(CAPTURE) is no file that can be read' >&2; exit 1; \
-	fi
+prove and test it
+  make test                the gate: every proof from nothing, every must-fail edit, and all that follows down to rust_test
+  make kit                 the tools that are needed, and the kit's version
+  make format              the layout of the Rattle files
+  make promises_test       docs/PROMISES.md and docs/BELIEVE.md beside the tree
+  make constants_test      the names for numbers in the header beside the definitions
+  make vectors_test        the input of the program vectors beside the published packets
+  make make_test           these commands themselves
+  make c_test              the archive from C: published packets, the loop that the header shows, a board with a UART
+  make header_test         the header beside the archive, and as C99 and C++11
+  make install_test        make install, and the version
+  make docs_test           links, commands and code in the documents
+  make programs_test       the programs line and checksum where something is wrong
+  make demo_test           the example board and its master
+  make rust_test           every export beside the second implementation
+  make fuzz                the same on random cases, for ten minutes
+      SECONDS=N            for so long
+      SEED=S               the cases of an earlier run
+  make replay FILE=FILE    run a case again in which make fuzz has found a difference
+  make mutants CRATE=NAME  change a crate's source in one place at a time and sort what the checker says
+      DEFINITIONS=1        change its definitions instead
+      SINCE=REV            only in lines that are new since that commit
+      MOST=N SEED=S        only N of the changes, drawn by that seed
+
+measure it
+  make bench               the exports beside plain C, as ratios
+      RUNS=N               so many times, with the medians
+  make memory              records, answers, stack depths and the archive's size
+
+keep it tidy
+  make promises            write docs/PROMISES.md from the comments in the tree, and say what a rule lacks
+  make fmt                 format every Rattle file
+  make clean               remove build/ and target/
+
+A step prints one line, with its time in seconds; what it says besides is in build/log.
 endef
 
-run: build/bin/line
-	$(call on_capture,build/bin/line,events in)
+help:
+	$(info $(HELP))
+	@:
 
-checksum: CAPTURE = examples/ping.bin
+# The name goes to the shell through the environment, and unexpanded: quotes, dollars and spaces in it are its own.
+run checksum: export MEDNUKALS_CAPTURE := $(value CAPTURE)
+unexport CAPTURE
+
+run: build/bin/line
+	@sh tools/run_program.sh $< 'end [0-9]+' 'events in' "$${MEDNUKALS_CAPTURE:-examples/capture.bin}"
+
 checksum: build/bin/checksum
-	$(call on_capture,build/bin/checksum,checksum and byte count of)
+	@sh tools/run_program.sh $< '[0-9a-f]{4} [0-9]+' 'checksum and byte count of' "$${MEDNUKALS_CAPTURE:-examples/ping.bin}"
 
 $(PROGRAMS:%=build/bin/%): build/bin/%: $(SOURCES)
 	@$(call need,rt)
-	@rt check $* || $(call failed,proving and building the program $*)
+	@$(call step,program-$*,proving and building the program $*) rt check $*
 	@mkdir -p $(@D) && cp target/bin/$* $@
 
 lib: $(LIBS)
+	@echo 'archives: $(LIBS)'
+
+# As CAPTURE above, these names are their own.
+install: export MEDNUKALS_PREFIX := $(if $(value PREFIX),$(value PREFIX),/usr/local)
+install: export MEDNUKALS_DESTDIR := $(value DESTDIR)
+unexport PREFIX DESTDIR
+install: build/lib/libmednukals.a
+	@sh tools/install.sh include/mednukals.h $< "$$MEDNUKALS_PREFIX" "$$MEDNUKALS_DESTDIR"
 
 define archive_rule
 $(call archive,$(1)): $(SOURCES)
 	@$$(call need,rt)
-	@rt staticlib $(1) || $$(call failed,proving and building the archive of $(1))
+	@$$(call step,archive-$(1),proving the exports and building $$@) rt staticlib $(1)
 	@mkdir -p $$(@D) && cp target/staticlib/lib$(1).a $$@
 endef
 $(foreach crate,$(EXPORT_CRATES),$(eval $(call archive_rule,$(crate))))
 
 # rt ci comes last: it removes target/, and its count is the last line. The tests that link the archives run beside it.
-test: kit format promises_test vectors_test
-	@python3 tests/gate.py rt ci || $(call failed,rt ci and the tests beside it)
+test: kit format promises_test constants_test vectors_test make_test
+	@python3 tests/gate.py rt ci
 
 # Another kit may prove the same crates, so a difference is only said.
 kit:
 	@$(call need,rt)
 	@$(call need,$(CC))
+	@$(call need,$(CXX))
 	@$(call need,cargo)
 	@$(call need,python3)
 	@echo "kit: $$(rt version)"
 	@[ "$$(rt version)" = "$$(cat KIT)" ] || echo "WARNING: the project is written for the kit $$(cat KIT)" >&2
 
 format:
-	@rt fmt --check || $(call failed,the layout of a Rattle file; make fmt puts it right)
+	@$(call step,format,layout of the Rattle files (make fmt puts it right)) rt fmt --check
 
-c_test: build/c/published build/c/exchange
-	@build/c/published tests/vectors/packets.txt || $(call failed,the C test)
-	@build/c/exchange || $(call failed,the C test of the loop in the header)
+c_test: build/c/published build/c/exchange build/c/uart_test
+	@$(call step,published,published packets through the archive) build/c/published tests/vectors/packets.txt
+	@$(call step,exchange,the loop that the header shows) build/c/exchange
+	@$(call step,uart_test,example board on a simulated UART) build/c/uart_test
 
 build/c/published build/c/exchange: build/c/%: tests/c/%.c include/mednukals.h build/lib/libmednukals.a
 	@$(call need,$(CC))
@@ -106,36 +151,79 @@ build/c/board: $(BOARD_SOURCES) examples/pty_line.h include/mednukals.h build/li
 	@$(CC) $(WARNINGS) -O2 -Iinclude -o $@ $(BOARD_SOURCES) build/lib/libmednukals.a || $(call failed,compiling the example board)
 
 # The board again, with a library that refuses what the test asks it to.
-comma := ,
 REFUSING := encode unstuff reader_feed reader_gap fresh measure device
 build/c/refusing_board: tests/c/refusing.c build/c/board
 	@$(CC) $(WARNINGS) -O2 -Iinclude -o $@ $(REFUSING:%=-Wl$(comma)--wrap=dxl_%) $(BOARD_SOURCES) $< build/lib/libmednukals.a \
 	    || $(call failed,compiling the refusing board)
+
+build/c/uart_test: tests/c/uart_test.c tests/c/refusing.c examples/uart_board.c examples/uart_board.h include/mednukals.h \
+    build/lib/libmednukals.a
+	@$(call need,$(CC))
+	@mkdir -p $(@D)
+	@$(CC) $(WARNINGS) -O2 -Iinclude -Iexamples -o $@ $(REFUSING:%=-Wl$(comma)--wrap=dxl_%) $(filter %.c %.a,$^) \
+	    || $(call failed,compiling the example board with a UART)
 
 demo: build/c/board
 	@sh examples/demo.sh build/c/board || $(call failed,the demo)
 
 demo_test: build/c/board build/c/refusing_board
 	@$(call need,python3)
-	@python3 tests/demo_test.py build/c/board build/c/refusing_board || $(call failed,the test of board and master)
+	@$(call step,demo_test,example board and its master) python3 tests/demo_test.py build/c/board build/c/refusing_board
 
-header_test: $(LIBS)
+programs_test: $(PROGRAMS:%=build/bin/%)
 	@$(call need,python3)
-	@python3 tests/check_header.py include/mednukals.h build/lib/libmednukals.a || $(call failed,the header beside the archive)
+	@$(call step,programs_test,programs line and checksum where something is wrong) \
+	    python3 tests/programs_test.py build/bin/line build/bin/checksum
+
+header_test: $(LIBS) build/c/header_c99 build/c/header_cxx11 build/c/empty
+	@$(call need,python3)
+	@$(call step,header,header as C99 and as C++11) sh -c 'build/c/header_c99 && build/c/header_cxx11 && build/c/empty'
+	@$(call step,check_header,header beside the archive) python3 tests/check_header.py include/mednukals.h build/lib/libmednukals.a
+
+build/c/header_c99: tests/c/header.c include/mednukals.h build/lib/libmednukals.a
+	@$(call need,$(CC))
+	@mkdir -p $(@D)
+	@$(CC) $(WARNINGS) -Iinclude -o $@ $< build/lib/libmednukals.a || $(call failed,the header as C99)
+
+build/c/header_cxx11: tests/c/header.c include/mednukals.h build/lib/libmednukals.a
+	@$(call need,$(CXX))
+	@mkdir -p $(@D)
+	@$(CXX) $(CXX_WARNINGS) -Iinclude -o $@ -x c++ $< -x none build/lib/libmednukals.a || $(call failed,the header as C++11)
+
+build/c/empty: tests/c/empty.cpp include/mednukals.h build/lib/libmednukals.a
+	@$(call need,$(CXX))
+	@mkdir -p $(@D)
+	@$(CXX) $(CXX_WARNINGS) -Iinclude -o $@ $< build/lib/libmednukals.a || $(call failed,compiling the C++ test)
+
+docs_test: build/lib/libmednukals.a
+	@$(call need,python3)
+	@$(call step,docs_test,documents: links$(comma) commands and code) python3 tests/docs_test.py $(CC) $<
+
+install_test: build/lib/libmednukals.a
+	@$(call need,python3)
+	@$(call step,install_test,make install$(comma) a program with what is there$(comma) the version) python3 tests/install_test.py $(CC) $<
 
 promises_test:
 	@$(call need,python3)
-	@python3 tools/promises.py --check || $(call failed,docs/PROMISES.md beside the tree; make promises writes it anew)
-	@python3 tests/check_believe.py || $(call failed,docs/BELIEVE.md beside the tree)
+	@$(call step,promises,docs/PROMISES.md beside the tree) python3 tools/promises.py --check
+	@$(call step,check_believe,docs/BELIEVE.md beside the tree) python3 tests/check_believe.py
+
+constants_test:
+	@$(call need,python3)
+	@$(call step,check_constants,names for numbers in the header beside the definitions) python3 tests/check_constants.py include/mednukals.h
+
+make_test:
+	@$(call need,python3)
+	@$(call step,make_test,the commands: make help and quiet steps; gate.py) python3 tests/make_test.py
 
 # The rest is in tests/vectors, and rt ci holds the proved program to its stored run.
 vectors_test:
 	@$(call need,python3)
-	@python3 tests/check_vectors.py || $(call failed,the input of the program vectors beside the published packets)
+	@$(call step,check_vectors,input of the program vectors beside the published packets) python3 tests/check_vectors.py
 
 rust_test: $(LIBS) build/bin/line
 	@$(call need,cargo)
-	@cd tests && cargo test --release --offline --quiet || $(call failed,the comparison tests)
+	@$(call step,rust_test,comparison with the second implementation) sh -c 'cd tests && exec cargo test --release --offline --quiet'
 
 # Ends at the first difference, with a file under build/fuzz that replays it. The same seed gives the same cases.
 SECONDS ?= 600
@@ -154,7 +242,8 @@ replay_file:
 
 fuzz_program: $(LIBS)
 	@$(call need,cargo)
-	@cd tests && cargo build --release --offline --quiet --bin fuzz || $(call failed,building the search for differences)
+	@$(call step,fuzz_program,building the search for differences) \
+	    sh -c 'cd tests && exec cargo build --release --offline --quiet --bin fuzz'
 
 RUNS ?= 1
 BENCH_SOURCES := tests/bench/bench.c tests/bench/baseline.c tests/bench/baseline_reader.c tests/bench/baseline_device.c

@@ -19,18 +19,14 @@
 /* Exit codes. */
 enum { ENDED = 0, FAILED = 1, BAD_OPTION = 2, REFUSED = 3 };
 
-/* The registers that are read here. */
-enum { ID = 7, TORQUE_ENABLE = 64, GOAL_POSITION = 116 };
-
-enum { PING = 0x01 };
-
 /* The arm moves by at most ARM_STEP in ARM_TICK microseconds. */
 enum { ARM_TICK = 10000, ARM_STEP = 32 };
 
 /* The options; times are in microseconds. In a slot fit the longest status, 21 bytes at 57,600 baud, and a gap. */
 static int64_t gap = 1500, slot_time = 6000;
 static int64_t seconds; /* 0: no end */
-static int tracing, self_test_only;
+static int64_t own_id = 1;
+static int tracing, self_test_only, help;
 
 /* What is lent to the library, as its header says. */
 static struct dxl_reader reader; /* all 0: a fresh one */
@@ -218,12 +214,12 @@ static int32_t signed_at(size_t address)
 /* Stands in for motor and sensor: towards the goal while torque is on, and the table learns where the arm is. */
 static void move_arm(void)
 {
-    int64_t way = (int64_t)signed_at(GOAL_POSITION) - position;
+    int64_t way = (int64_t)signed_at(DXL_REG_GOAL_POSITION) - position;
     if (way > ARM_STEP)
         way = ARM_STEP;
     if (way < -ARM_STEP)
         way = -ARM_STEP;
-    if (table[TORQUE_ENABLE] != 0)
+    if (table[DXL_REG_TORQUE_ENABLE] != 0)
         position += (int32_t)way;
     accepted("dxl_measure", dxl_measure(table, sizeof table, position, 0));
 }
@@ -285,7 +281,7 @@ static void expect_checksum(const uint8_t *bytes, size_t n)
 static void self_test(void)
 {
     uint8_t ping[16];
-    size_t n = accepted("dxl_encode", dxl_encode(table[ID], PING, body, 0, ping, sizeof ping, 0));
+    size_t n = accepted("dxl_encode", dxl_encode(table[DXL_REG_ID], DXL_INST_PING, body, 0, ping, sizeof ping, 0));
     expect_checksum(ping, n);
     struct dxl_step step = dxl_reader_feed(&reader, ping, n, packet);
     if (!is_event("dxl_reader_feed", step) || step.count != n || memcmp(packet, ping, n) != 0)
@@ -328,33 +324,39 @@ static void open_line(void)
 /* ---- options ---- */
 
 static const char HELP[] =
-    "board [--gap MICROSECONDS] [--slot MICROSECONDS] [--seconds N] [--trace]\n"
-    "board --self-test\n"
+    "board [--id ID] [--gap MICROSECONDS] [--slot MICROSECONDS] [--seconds N] [--trace]\n"
+    "board --self-test [--id ID]\n"
+    "board -h, board --help\n"
     "\n"
-    "A DYNAMIXEL Protocol 2.0 device with ID 1 on a pseudo-terminal, and an arm that is simulated.\n"
+    "A DYNAMIXEL Protocol 2.0 device on a pseudo-terminal, and an arm that is simulated.\n"
     "It prints the pseudo-terminal's name, as 'line: PATH', and runs until SIGINT or SIGTERM.\n"
     "\n"
+    "--id         the device's ID, 0 to 252 (1)\n"
     "--gap        a longer silence than this ends a segment (1500)\n"
     "--slot       how long a reply slot lasts (6000)\n"
     "--seconds    end after so many seconds\n"
     "--trace      print each packet, bad checksum, gap and status on standard error\n"
     "--self-test  encode, read and answer a Ping, print both packets and end\n"
+    "A number may also follow '=': --id=7 is --id 7.\n"
     "\n"
     "Exit codes: 0 ended as asked, 1 the system or the self-test failed, 2 a bad option, 3 the library refused a call\n";
 
 static const struct {
     const char *name;
     int64_t *value, least, most;
-} NUMBERS[] = {{"--gap", &gap, 1, 10000000}, {"--slot", &slot_time, 0, 10000000}, {"--seconds", &seconds, 1, 86400}};
+} NUMBERS[] = {{"--id", &own_id, 0, 252},
+               {"--gap", &gap, 1, 10000000},
+               {"--slot", &slot_time, 0, 10000000},
+               {"--seconds", &seconds, 1, 86400}};
 
 static const struct {
     const char *name;
     int *value;
-} SWITCHES[] = {{"--trace", &tracing}, {"--self-test", &self_test_only}};
+} SWITCHES[] = {{"--trace", &tracing}, {"--self-test", &self_test_only}, {"-h", &help}, {"--help", &help}};
 
 static void bad_option(const char *option, const char *what)
 {
-    fprintf(stderr, "board: %s: %s (--help lists the options)\n", option, what);
+    fprintf(stderr, "board: '%s': %s (--help lists the options)\n", option, what);
     exit(BAD_OPTION);
 }
 
@@ -370,10 +372,20 @@ static int64_t number(const char *option, const char *text, int64_t least, int64
     return n;
 }
 
-static int take_switch(const char *option)
+/* Whether a word is this option, alone or with '=' and a value behind it. */
+static int is_option(const char *word, const char *name)
+{
+    size_t n = strlen(name);
+    return strncmp(word, name, n) == 0 && (word[n] == '\0' || word[n] == '=');
+}
+
+/* How many words an option takes: 0 where it is none of these. */
+static int take_switch(char **words)
 {
     for (size_t i = 0; i < sizeof SWITCHES / sizeof SWITCHES[0]; i++) {
-        if (strcmp(option, SWITCHES[i].name) == 0) {
+        if (is_option(words[0], SWITCHES[i].name)) {
+            if (strchr(words[0], '=') != NULL)
+                bad_option(words[0], "takes no value");
             *SWITCHES[i].value = 1;
             return 1;
         }
@@ -381,12 +393,14 @@ static int take_switch(const char *option)
     return 0;
 }
 
-static int take_number(const char *option, const char *text)
+static int take_number(char **words)
 {
     for (size_t i = 0; i < sizeof NUMBERS / sizeof NUMBERS[0]; i++) {
-        if (strcmp(option, NUMBERS[i].name) == 0) {
-            *NUMBERS[i].value = number(option, text, NUMBERS[i].least, NUMBERS[i].most);
-            return 1;
+        if (is_option(words[0], NUMBERS[i].name)) {
+            const char *equals = strchr(words[0], '=');
+            const char *text = equals != NULL ? equals + 1 : words[1];
+            *NUMBERS[i].value = number(words[0], text, NUMBERS[i].least, NUMBERS[i].most);
+            return equals != NULL ? 1 : 2;
         }
     }
     return 0;
@@ -395,16 +409,16 @@ static int take_number(const char *option, const char *text)
 static void take_options(char **words)
 {
     while (*words != NULL) {
-        if (strcmp(*words, "--help") == 0) {
-            fputs(HELP, stdout);
-            exit(ENDED);
-        }
-        if (take_switch(words[0]))
-            words += 1;
-        else if (take_number(words[0], words[1]))
-            words += 2;
-        else
+        int taken = take_switch(words);
+        if (taken == 0)
+            taken = take_number(words);
+        if (taken == 0)
             bad_option(*words, "no such option");
+        words += taken;
+    }
+    if (help) {
+        fputs(HELP, stdout);
+        exit(ENDED);
     }
 }
 
@@ -414,6 +428,7 @@ int main(int argc, char **argv)
     if (argc > 0)
         take_options(argv + 1);
     accepted("dxl_fresh", dxl_fresh(table, sizeof table));
+    table[DXL_REG_ID] = (uint8_t)own_id; /* as firmware brings back what it keeps of ROM */
     self_test();
     if (self_test_only)
         return ENDED;

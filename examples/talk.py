@@ -285,7 +285,10 @@ def talk_to(line, device, gap, slot):
 def number_within(kind, least, most):
     """A type for argparse."""
     def read(text):
-        number = kind(text)
+        try:
+            number = kind(text)
+        except ValueError:
+            raise argparse.ArgumentTypeError(f"{text!r} is no number") from None
         if not least <= number <= most:
             raise argparse.ArgumentTypeError(f"{text} is not within {least} and {most}")
         return number
@@ -293,7 +296,8 @@ def number_within(kind, least, most):
 
 
 def options():
-    parser = argparse.ArgumentParser(description=__doc__, formatter_class=argparse.RawDescriptionHelpFormatter)
+    parser = argparse.ArgumentParser(prog="talk", description=__doc__, formatter_class=argparse.RawDescriptionHelpFormatter,
+                                     allow_abbrev=False)
     micros = number_within(int, 0, 99999999)
     parser.add_argument("line", metavar="LINE", help="the pseudo-terminal that the board prints")
     parser.add_argument("--id", type=number_within(int, 0, 252), default=1, metavar="ID", help="the board's ID (1)")

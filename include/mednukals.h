@@ -1,8 +1,10 @@
 /*
  * Mednukals: the bus side of a DYNAMIXEL Protocol 2.0 device.
  *
- * Link with libmednukals.a. What is said of each function here is proved for every input, as long as the caller keeps to the
- * following, which C cannot check:
+ * Link with libmednukals.a. docs/INTEGRATING.md is about the firmware around these calls.
+ *
+ * What is said of each function here is proved for every input, as long as the caller keeps to the following, which C cannot
+ * check:
  *
  * - A pointer and the length after it name memory that is the caller's for the whole call. The pointer is valid and not null,
  *   also where the length is 0 (then nothing is read or written through it).
@@ -22,6 +24,12 @@
 
 #include <stddef.h>
 #include <stdint.h>
+
+/* CHANGELOG.md says what each version has. */
+#define DXL_VERSION_MAJOR 0
+#define DXL_VERSION_MINOR 1
+#define DXL_VERSION_PATCH 0
+#define DXL_VERSION "0.1.0"
 
 #ifdef __cplusplus
 extern "C" {
@@ -67,6 +75,85 @@ enum {
 
 /* The ID that addresses all devices. */
 enum { DXL_BROADCAST_ID = 254 };
+
+/*
+ * The registers of the control table: address, byte count and fresh value of each. A number stands lowest byte first, and one of
+ * four bytes is signed. ROM can be written only while torque enable is 0.
+ */
+enum {
+    DXL_REG_MODEL_NUMBER = 0,            /* ROM, read only */
+    DXL_REG_FIRMWARE_VERSION = 6,        /* ROM, read only */
+    DXL_REG_ID = 7,                      /* ROM, 0 to 252 */
+    DXL_REG_BAUD_CODE = 8,               /* ROM, 0 to 7 */
+    DXL_REG_HOMING_OFFSET = 20,          /* ROM, -1044479 to 1044479 */
+    DXL_REG_MAX_POSITION = 48,           /* ROM, 0 to 4095 */
+    DXL_REG_MIN_POSITION = 52,           /* ROM, 0 to 4095 */
+    DXL_REG_TORQUE_ENABLE = 64,          /* RAM, 0 to 1 */
+    DXL_REG_LAMP = 65,                   /* RAM, 0 to 1 */
+    DXL_REG_STATUS_RETURN_LEVEL = 68,    /* RAM, 0 to 2 */
+    DXL_REG_REGISTERED_INSTRUCTION = 69, /* RAM, read only */
+    DXL_REG_HARDWARE_ERROR = 70,         /* RAM, read only */
+    DXL_REG_GOAL_VELOCITY = 104,         /* RAM, -330 to 330 */
+    DXL_REG_GOAL_POSITION = 116,         /* RAM, 0 to 4095 */
+    DXL_REG_PRESENT_POSITION = 132,      /* RAM, read only */
+
+    DXL_SIZE_MODEL_NUMBER = 2,
+    DXL_SIZE_FIRMWARE_VERSION = 1,
+    DXL_SIZE_ID = 1,
+    DXL_SIZE_BAUD_CODE = 1,
+    DXL_SIZE_HOMING_OFFSET = 4,
+    DXL_SIZE_MAX_POSITION = 4,
+    DXL_SIZE_MIN_POSITION = 4,
+    DXL_SIZE_TORQUE_ENABLE = 1,
+    DXL_SIZE_LAMP = 1,
+    DXL_SIZE_STATUS_RETURN_LEVEL = 1,
+    DXL_SIZE_REGISTERED_INSTRUCTION = 1,
+    DXL_SIZE_HARDWARE_ERROR = 1,
+    DXL_SIZE_GOAL_VELOCITY = 4,
+    DXL_SIZE_GOAL_POSITION = 4,
+    DXL_SIZE_PRESENT_POSITION = 4,
+
+    DXL_FRESH_MODEL_NUMBER = 1030,
+    DXL_FRESH_FIRMWARE_VERSION = 38,
+    DXL_FRESH_ID = 1,
+    DXL_FRESH_BAUD_CODE = 1,
+    DXL_FRESH_HOMING_OFFSET = 0,
+    DXL_FRESH_MAX_POSITION = 4095,
+    DXL_FRESH_MIN_POSITION = 0,
+    DXL_FRESH_TORQUE_ENABLE = 0,
+    DXL_FRESH_LAMP = 0,
+    DXL_FRESH_STATUS_RETURN_LEVEL = 2,
+    DXL_FRESH_REGISTERED_INSTRUCTION = 0,
+    DXL_FRESH_HARDWARE_ERROR = 0,
+    DXL_FRESH_GOAL_VELOCITY = 0,
+    DXL_FRESH_GOAL_POSITION = 0,
+    DXL_FRESH_PRESENT_POSITION = 0
+};
+
+/* Instructions, the first byte of a body. Every other byte is an undefined instruction. */
+enum {
+    DXL_INST_PING = 0x01,
+    DXL_INST_READ = 0x02,
+    DXL_INST_WRITE = 0x03,
+    DXL_INST_REG_WRITE = 0x04,
+    DXL_INST_ACTION = 0x05,
+    DXL_INST_FACTORY_RESET = 0x06,
+    DXL_INST_REBOOT = 0x08,
+    DXL_INST_STATUS = 0x55, /* a status packet, which no device answers */
+    DXL_INST_SYNC_READ = 0x82,
+    DXL_INST_SYNC_WRITE = 0x83
+};
+
+/* The error byte of a status packet: 0 or one of these numbers, and the alert besides while hardware error is not 0. */
+enum {
+    DXL_ERROR_INSTRUCTION = 0x02, /* an undefined instruction, or Action where no write is registered */
+    DXL_ERROR_CHECKSUM = 0x03,    /* a packet to the own ID with a wrong checksum */
+    DXL_ERROR_DATA_RANGE = 0x04,  /* a value outside its register's range */
+    DXL_ERROR_DATA_LENGTH = 0x05, /* a wrong count of parameters, no data, or a register written in part */
+    DXL_ERROR_DATA_LIMIT = 0x06,  /* min above max, or a goal position outside them */
+    DXL_ERROR_ACCESS = 0x07,      /* an undefined byte, a read-only one, or ROM while torque is on */
+    DXL_ERROR_ALERT = 0x80
+};
 
 /*
  * Writes one packet into out, from offset at on: FF FF FD 00, the ID, the length (low byte first), the body and the checksum (low

@@ -190,9 +190,33 @@ class TalkTest(unittest.TestCase):
             code, _, errors = run(*TALK, path)
             self.assertEqual(code, 1)
             self.assertIn(f"talk: {path} cannot be opened as a line", errors)
-        self.assertEqual(run(*TALK)[0], 2)
-        self.assertEqual(run(*TALK, "--id", "253", "/dev/null")[0], 2)
-        self.assertEqual(run(*TALK, "--help")[0], 0)
+
+    def test_master_options(self):
+        bad = {"LINE": [], "unrecognized arguments: --nonsense": ["--nonsense", "/dev/null"],
+               "argument --id: 253 is not within 0 and 252": ["--id", "253", "/dev/null"],
+               "argument --id: 'one' is no number": ["--id=one", "/dev/null"],
+               "argument --id: '' is no number": ["--id=", "/dev/null"],
+               "argument --gap: expected one argument": ["/dev/null", "--gap"],
+               "unrecognized arguments: --time=1": ["--time=1", "/dev/null"],
+               "unrecognized arguments: more": ["/dev/null", "more"],
+               "argument -h/--help: ignored explicit argument '1'": ["--help=1"]}
+        for message, words in bad.items():
+            with self.subTest(words):
+                code, output, errors = run(*TALK, *words)
+                self.assertEqual((code, output), (2, ""))
+                self.assertRegex(errors, r"\ntalk: error: .*" + re.escape(message))
+        for word in ["-h", "--help"]:
+            code, output, errors = run(*TALK, word)
+            self.assertEqual((code, errors), (0, ""))
+            self.assertIn("--id", output)
+
+    def test_another_id(self):
+        with Board("--id=7", "--gap=1000", "--slot=1000") as board:
+            board.leave()
+            code, output, errors = run(*TALK, "--id=7", "--gap=1000", "--slot=1000", board.path)
+            self.assertEqual((code, errors), (0, ""))
+            self.assertIn("> FF FF FD 00 07 03 00 01 19 36", output)
+            self.assertIn("device 7 answers in its slot", output)
 
 
 class BoardTest(unittest.TestCase):
@@ -304,20 +328,26 @@ class BoardTest(unittest.TestCase):
 
     def test_options(self):
         bad = [["--gap"], ["--gap", "0"], ["--gap", "-5"], ["--gap", "1.5"], ["--gap", "10000001"], ["--slot", "x"],
-               ["--slot", ""], ["--seconds", "0"], ["--seconds", "123456789"], ["--trace", "--gap"], ["--nonsense"], ["-h"],
-               ["extra"]]
+               ["--slot", ""], ["--seconds", "0"], ["--seconds", "123456789"], ["--trace", "--gap"], ["--nonsense"], ["-x"],
+               ["extra"], ["--gap=0"], ["--gap="], ["--gap=5=5"], ["--gap=x"], ["--gapp=5"], ["--ga=5"], ["--id", "253"],
+               ["--id=-1"], ["--id"], ["--id="], ["--trace=1"], ["--help=1"], ["-h=1"], ["--help", "--nonsense"], [""], ["-"],
+               ["--"]]
         for words in bad:
             with self.subTest(words):
                 code, output, errors = run(BOARD, *words)
                 self.assertEqual((code, output), (2, ""))
-                self.assertRegex(errors, r"^board: \S+: .* \(--help lists the options\)\n$")
-        code, output, errors = run(BOARD, "--help")
-        self.assertEqual((code, errors), (0, ""))
-        self.assertIn("--gap", output)
+                self.assertRegex(errors, r"^board: '\S*': .* \(--help lists the options\)\n$")
+        for words in [["--help"], ["-h"], ["--gap=5", "-h"], ["-h", "--trace"]]:
+            code, output, errors = run(BOARD, *words)
+            self.assertEqual((code, errors), (0, ""))
+            self.assertIn("--gap", output)
 
     def test_self_test(self):
         self.assertEqual(run(BOARD, "--self-test"), (0, "Ping: FF FF FD 00 01 03 00 01 19 4E\n"
                                                         "status: FF FF FD 00 01 07 00 55 00 06 04 26 65 5D\n", ""))
+        for words in [["--id=0"], ["--id", "0"]]:
+            self.assertEqual(run(BOARD, "--self-test", *words), (0, "Ping: FF FF FD 00 00 03 00 01 1A DA\n"
+                                                                    "status: FF FF FD 00 00 07 00 55 00 06 04 26 63 4D\n", ""))
 
     def test_end_after_seconds(self):
         code, output, errors = run(BOARD, "--seconds", "1")

@@ -2,29 +2,42 @@
 
 `rt ci` proves every crate from nothing and then tries the must-fail edits, which takes longer than all else. As soon as the crates
 are proved, the archives that the tests link are made from them, and the tests run while the edits are tried. So nothing is proved
-twice. What `rt ci` prints is handed on, but for its last line, the count: that is printed when the tests have passed too.
+twice.
+
+Of what `rt ci` prints, a line for each crate is shown, one for each crate's edits, and what a failure says; build/log/rt-ci.log has
+all of it. Its last line, the count, comes last here too, when the tests have passed.
 
 The archives are made in a folder outside the repository, from a copy: the command's own target/ is only read.
 """
 import os
+import re
 import shutil
 import signal
 import subprocess
 import sys
 import tempfile
 import threading
+import time
 from pathlib import Path
 
-EDITS_BEGIN = "rt: must-fail "
+LOG = Path("build/log/rt-ci.log")
 KEPT = ["rlib", "obj", "bin", "log", "stamp"]  # of target/: what rt goes by to see that a crate is proved
 ARCHIVES = {"capi": "libmednukals.a", "capi_test": "libmednukals_test.a"}
-TESTS = ["c_test", "header_test", "demo_test", "rust_test"]
+PROGRAMS = ["line", "checksum"]
+TESTS = ["c_test", "header_test", "install_test", "docs_test", "programs_test", "demo_test",
+         "rust_test"]
 # what the tests link is there: make must not call rt beside the command
-MADE = [word for archive in ARCHIVES.values() for word in ("-o", f"build/lib/{archive}")] + ["-o", "build/bin/line"]
+MADE = [f"build/lib/{archive}" for archive in ARCHIVES.values()] + [f"build/bin/{program}" for program in PROGRAMS]
+MOST_LINES, MOST_CHARACTERS = 40, 500  # of what a failed proof says
+
+
+def say(label, seconds):
+    """A step and its time, as tools/step.sh prints them."""
+    print(f"{label:<64}{seconds:>6} s", flush=True)
 
 
 def archives(room):
-    """Archives and the line program under build/, from what is proved."""
+    """Archives and programs under build/, from what is proved."""
     shutil.copytree("crates", room / "crates")
     shutil.copy("crates.txt", room)
     for part in KEPT:
@@ -32,11 +45,14 @@ def archives(room):
     Path("build/lib").mkdir(parents=True, exist_ok=True)
     Path("build/bin").mkdir(parents=True, exist_ok=True)
     for crate, archive in ARCHIVES.items():
-        made = subprocess.run(["rt", "staticlib", crate], cwd=room, capture_output=True, text=True)
+        began = time.monotonic()
+        made = subprocess.run(["rt", "staticlib", crate], cwd=room, capture_output=True, text=True, check=False)
         if made.returncode != 0:
             return f"the archive of {crate}: {made.stdout[-2000:]}{made.stderr[-2000:]}"
         shutil.copy(room / "target" / "staticlib" / f"lib{crate}.a", Path("build/lib") / archive)
-    shutil.copy(room / "target" / "bin" / "line", "build/bin/line")
+        say(f"build/lib/{archive}", round(time.monotonic() - began))
+    for program in PROGRAMS:
+        shutil.copy(room / "target" / "bin" / program, Path("build/bin") / program)
     return ""
 
 
@@ -45,18 +61,24 @@ class Tests(threading.Thread):
 
     def __init__(self, command):
         super().__init__()
-        self.command, self.fault, self.said = command, "they did not run", ""
+        self.command, self.fault = command, "they did not run"
 
     def run(self):
         with tempfile.TemporaryDirectory(prefix="mednukals-") as room:
             self.fault = archives(Path(room))
         if not self.fault:
-            made = subprocess.run(["make", "--no-print-directory", *MADE, *TESTS], stdout=subprocess.PIPE, stderr=subprocess.STDOUT,
-                                  text=True)
-            self.said = made.stdout
-            self.fault = "a test" if made.returncode != 0 else ""
+            self.fault = self.targets()
         if self.fault:
             end(self.command)
+
+    def targets(self):
+        """The tests by make, whose lines are handed on as they come."""
+        old = [f"--old-file={file}" for file in MADE]
+        make = subprocess.Popen(["make", "--no-print-directory", *old, *TESTS], stdout=subprocess.PIPE, stderr=subprocess.STDOUT,
+                                text=True)
+        for line in make.stdout:
+            print(line, end="", flush=True)
+        return "a test" if make.wait() != 0 else ""
 
 
 def end(command):
@@ -65,18 +87,65 @@ def end(command):
         os.killpg(command.pid, signal.SIGTERM)
 
 
+class Progress:
+    """Shows what the command does, line by line."""
+
+    def __init__(self):
+        self.said = []  # of the crate that is being proved
+        self.of, self.count, self.began = "", 0, time.monotonic()  # the edits of one crate, and since when
+
+    def show(self, line):
+        proved = re.fullmatch(r"rt: (\w+) proved \((\d+) s\)\n", line)
+        refused = re.fullmatch(r"rt: must-fail (\w+)/\w+: refused, .*\n", line)
+        ran = re.fullmatch(r"rt: (\w+) ran.*, and wrote what its file 'stdout' has \((\d+) s\)\n", line)
+        if refused:
+            self.refused(refused.group(1))
+        elif proved:
+            self.said.clear()
+            self.began = time.monotonic()
+            say(f"proved from nothing: {proved.group(1)}", proved.group(2))
+        elif ran:
+            self.edits_end()
+            say(f"stored run: {ran.group(1)}", ran.group(2))
+        elif line.startswith("rt: "):
+            self.edits_end()
+            for said in [*self.said, line]:
+                print(said[:MOST_CHARACTERS].rstrip("\n"), flush=True)
+            self.said.clear()
+        else:
+            self.said = [*self.said, line][-MOST_LINES:]
+
+    def refused(self, crate):
+        if crate != self.of:
+            self.edits_end()
+            self.of = crate
+        self.count += 1
+
+    def edits_end(self):
+        """The edits of one crate have been tried."""
+        if self.of:
+            say(f"edits refused, as they must be: {self.of}, {self.count}", round(time.monotonic() - self.began))
+        self.of, self.count, self.began = "", 0, time.monotonic()
+
+
 def hand_on(command, tests):
-    """What the command prints, but for its last line; the tests begin where the edits do."""
-    held = ""
-    for line in command.stdout:
-        print(held, end="", flush=True)
-        held = line
-        if line.startswith(EDITS_BEGIN) and tests.ident is None:
-            tests.start()
+    """Shows what the command prints, but for its last line; the tests begin where the edits do."""
+    held, progress = "", Progress()
+    LOG.parent.mkdir(parents=True, exist_ok=True)
+    with LOG.open("w", encoding="utf-8") as log:
+        for line in command.stdout:
+            log.write(line)
+            if held:
+                progress.show(held)
+            held = line
+            if line.startswith("rt: must-fail ") and tests.ident is None:
+                tests.start()
+    progress.edits_end()
     return held
 
 
 def main():
+    began = time.monotonic()
     command = subprocess.Popen(sys.argv[1:], stdout=subprocess.PIPE, stderr=subprocess.STDOUT, text=True, start_new_session=True)
     tests = Tests(command)
     try:
@@ -86,10 +155,12 @@ def main():
     status = command.wait()
     if tests.ident is not None:
         tests.join()
-    print(tests.said, end="")
     if tests.fault and (status == 0 or tests.ident is not None):
-        print(f"mednukals: FAILED: the tests beside: {tests.fault}", file=sys.stderr)
+        print(f"mednukals: FAILED: the tests beside rt ci: {tests.fault}", file=sys.stderr)
         return 1
+    if status != 0:
+        print(f"mednukals: FAILED: rt ci; all that it said is in {LOG}", file=sys.stderr, flush=True)
+    say("proofs, edits and tests, together", round(time.monotonic() - began))
     print(last, end="", flush=True)
     return status
 

@@ -1,6 +1,7 @@
 // Prints the checksum of standard input and the count of its bytes, as `CRC BYTES`: four hexadecimal digits and a decimal
-// number. The input may be of any length: it is read in parts, each going on from the checksum of those before it.
-use libc::STDIN_FILENO;
+// number. The input may be of any length: it is read in parts, each going on from the checksum of those before it. Where a read
+// or a write fails, that is said on standard error, and no such line is printed.
+use libc::STDERR_FILENO;
 use libc::STDOUT_FILENO;
 ghost use mathlib.Core.Path.{_≡_};
 ghost use Rattle.crc.specs.Crc.{crcFrom};
@@ -34,26 +35,48 @@ fn with_part(sum: Sum, part: &[u8]) -> Sum
     }
 }
 
-// Reads until the input ends. A loop must be bounded to be proved to end: this one would stop after 2^64 - 1 parts.
-fn sum_input() -> Sum {
+// The sum of all parts, and whether a read failed.
+struct Summed {
+    sum: Sum,
+    failed: bool,
+}
+
+// Reads until the input ends or a read fails: only then is the buffer not full. A loop must be bounded to be proved to end: this
+// one would stop after 2^64 - 1 parts.
+fn sum_input() -> Summed {
     let mut buffer = io::large_buffer();
     let mut sum = Sum { crc: 0, bytes: 0 };
+    let mut failed = false;
     let mut left: u64 = 18446744073709551615;
     while 0 < left {
-        let n = io::read_full(STDIN_FILENO, &mut buffer);
-        if n == 0 {
+        let got = input::read(&mut buffer);
+        let n = got.count;
+        failed = got.failed;
+        sum = with_part(sum, &buffer[..n]);
+        if n < 65536 {
             break;
         }
-        sum = with_part(sum, &buffer[..n]);
         left -= 1;
     }
-    sum
+    Summed { sum, failed }
+}
+
+// Whether all of the line was written.
+fn print_sum(sum: Sum) -> bool {
+    io::print_hex(STDOUT_FILENO, wide(sum.crc), 4)
+        && io::write_all(STDOUT_FILENO, b" ")
+        && io::print_decimal(STDOUT_FILENO, sum.bytes)
+        && io::write_all(STDOUT_FILENO, b"\n")
 }
 
 fn main() {
-    let sum = sum_input();
-    io::print_hex(STDOUT_FILENO, wide(sum.crc), 4);
-    io::write_all(STDOUT_FILENO, b" ");
-    io::print_decimal(STDOUT_FILENO, sum.bytes);
-    io::write_all(STDOUT_FILENO, b"\n");
+    let summed = sum_input();
+    if summed.failed {
+        io::write_all(STDERR_FILENO, b"checksum: standard input cannot be read\n");
+    } else if !print_sum(summed.sum) {
+        io::write_all(
+            STDERR_FILENO,
+            b"checksum: standard output cannot be written\n",
+        );
+    }
 }

@@ -5,10 +5,10 @@ use Rattle.checksum.proofs.sum_input.Statement.{statement}
 use Rattle.checksum.proofs.sum_input.Tie as tie
 
 abbrev Inv-loop : tie.InvT-loop
-Inv-loop buffer₀ sum₀ left₀ buffer sum left = 65536 ≡ length buffer
+Inv-loop buffer₀ sum₀ failed₀ left₀ buffer sum failed left = 65536 ≡ length buffer
 
 abbrev μ-loop : tie.MeasureT-loop
-μ-loop buffer₀ sum₀ left₀ buffer sum left = left
+μ-loop buffer₀ sum₀ failed₀ left₀ buffer sum failed left = left
 
 large-buffer-requires : tie.Need-large-buffer-requires Inv-loop μ-loop
 large-buffer-requires c κs = search needs
@@ -16,11 +16,11 @@ large-buffer-requires c κs = search needs
 loop-holds : tie.Need-loop-holds Inv-loop μ-loop
 loop-holds c = search needs
 
-slice-aggregate-read-full : tie.Need-slice-aggregate-read-full Inv-loop μ-loop
-slice-aggregate-read-full c = search needs
+slice-aggregate-read : tie.Need-slice-aggregate-read Inv-loop μ-loop
+slice-aggregate-read c = search needs
 
-read-full-requires : tie.Need-read-full-requires Inv-loop μ-loop
-read-full-requires c κs = search needs
+read-requires : tie.Need-read-requires Inv-loop μ-loop
+read-requires c κs = search needs
 
 array-share-prefix-buffer : tie.Need-array-share-prefix-buffer Inv-loop μ-loop
 array-share-prefix-buffer c = search needs
@@ -54,8 +54,8 @@ sum-input-spec =
     μ-loop
     large-buffer-requires
     loop-holds
-    slice-aggregate-read-full
-    read-full-requires
+    slice-aggregate-read
+    read-requires
     array-share-prefix-buffer
     slice-aggregate-with-part
     with-part-requires

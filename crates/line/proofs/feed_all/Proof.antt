@@ -34,8 +34,20 @@ least-requires c κs = search needs
 add-at : tie.Need-add-at Inv-loop μ-loop
 add-at c = search needs
 
-print-event-requires : tie.Need-print-event-requires Inv-loop μ-loop
-print-event-requires c κs = search needs
+event-line-requires : tie.Need-event-line-requires Inv-loop μ-loop
+event-line-requires c κs = search needs
+
+enum-told : tie.Need-enum-told Inv-loop μ-loop
+enum-told c = search needs
+
+enum-told-2 : tie.Need-enum-told-2 Inv-loop μ-loop
+enum-told-2 c = search needs
+
+returns : tie.Need-returns Inv-loop μ-loop
+returns c = search needs
+
+enum-told-3 : tie.Need-enum-told-3 Inv-loop μ-loop
+enum-told-3 c = search needs
 
 sub-left : tie.Need-sub-left Inv-loop μ-loop
 sub-left c = search needs
@@ -46,11 +58,11 @@ loop-less c = search needs
 loop-again : tie.Need-loop-again Inv-loop μ-loop
 loop-again c = search needs
 
-returns : tie.Need-returns Inv-loop μ-loop
-returns c = search needs
-
 returns-2 : tie.Need-returns-2 Inv-loop μ-loop
 returns-2 c = search needs
+
+returns-3 : tie.Need-returns-3 Inv-loop μ-loop
+returns-3 c = search needs
 
 pub feed-all-spec : {M : Type 1} → statement M
 feed-all-spec =
@@ -66,9 +78,13 @@ feed-all-spec =
     sub-least
     least-requires
     add-at
-    print-event-requires
+    event-line-requires
+    enum-told
+    enum-told-2
+    returns
+    enum-told-3
     sub-left
     loop-less
     loop-again
-    returns
-    returns-2)
+    returns-2
+    returns-3)

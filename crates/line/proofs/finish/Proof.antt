@@ -14,8 +14,20 @@ loop-holds c = search needs
 gap-in-requires : tie.Need-gap-in-requires Inv-loop μ-loop
 gap-in-requires c κs = search needs
 
-print-event-requires : tie.Need-print-event-requires Inv-loop μ-loop
-print-event-requires c κs = search needs
+event-line-requires : tie.Need-event-line-requires Inv-loop μ-loop
+event-line-requires c κs = search needs
+
+enum-told : tie.Need-enum-told Inv-loop μ-loop
+enum-told c = search needs
+
+enum-told-2 : tie.Need-enum-told-2 Inv-loop μ-loop
+enum-told-2 c = search needs
+
+returns : tie.Need-returns Inv-loop μ-loop
+returns c = search needs
+
+enum-told-3 : tie.Need-enum-told-3 Inv-loop μ-loop
+enum-told-3 c = search needs
 
 sub-left : tie.Need-sub-left Inv-loop μ-loop
 sub-left c = search needs
@@ -26,11 +38,11 @@ loop-less c = search needs
 loop-again : tie.Need-loop-again Inv-loop μ-loop
 loop-again c = search needs
 
-returns : tie.Need-returns Inv-loop μ-loop
-returns c = search needs
-
 returns-2 : tie.Need-returns-2 Inv-loop μ-loop
 returns-2 c = search needs
+
+returns-3 : tie.Need-returns-3 Inv-loop μ-loop
+returns-3 c = search needs
 
 pub finish-spec : {M : Type 1} → statement M
 finish-spec =
@@ -40,9 +52,13 @@ finish-spec =
     μ-loop
     loop-holds
     gap-in-requires
-    print-event-requires
+    event-line-requires
+    enum-told
+    enum-told-2
+    returns
+    enum-told-3
     sub-left
     loop-less
     loop-again
-    returns
-    returns-2)
+    returns-2
+    returns-3)

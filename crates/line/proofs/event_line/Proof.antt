@@ -1,23 +1,26 @@
 use mathlib.Core.Path.{sym}
 use lib.Seq.{length-take-le}
 use borrow.Author.Needs.{needs}
-use Rattle.line.proofs.print_event.Statement.{statement}
-use Rattle.line.proofs.print_event.Tie as tie
+use Rattle.line.proofs.event_line.Statement.{statement}
+use Rattle.line.proofs.event_line.Tie as tie
 
 enum-known-event : tie.Need-enum-known-event
 enum-known-event c = search needs
 
-slice-aggregate-print-packet : tie.Need-slice-aggregate-print-packet
-slice-aggregate-print-packet c = sym (length-take-le _ _ (c .before .if1 .taken))
+slice-aggregate-packet-line : tie.Need-slice-aggregate-packet-line
+slice-aggregate-packet-line c = sym (length-take-le _ _ (c .before .if1 .taken))
 
-print-packet-requires : tie.Need-print-packet-requires
-print-packet-requires c κs = search needs
+packet-line-requires : tie.Need-packet-line-requires
+packet-line-requires c κs = search needs
 
 enum-known-event-2 : tie.Need-enum-known-event-2
 enum-known-event-2 c = search needs
 
 print-bad-checksum-requires : tie.Need-print-bad-checksum-requires
 print-bad-checksum-requires c κs = search needs
+
+line-if-requires : tie.Need-line-if-requires
+line-if-requires c κs = search needs
 
 enum-told : tie.Need-enum-told
 enum-told c = search needs
@@ -40,15 +43,16 @@ returns-4 c = search needs
 returns-5 : tie.Need-returns-5
 returns-5 c = search needs
 
-pub print-event-spec : {M : Type 1} → statement M
-print-event-spec =
+pub event-line-spec : {M : Type 1} → statement M
+event-line-spec =
     tie.close
     (tie.spec
     enum-known-event
-    slice-aggregate-print-packet
-    print-packet-requires
+    slice-aggregate-packet-line
+    packet-line-requires
     enum-known-event-2
     print-bad-checksum-requires
+    line-if-requires
     enum-told
     enum-told-2
     returns

@@ -1,0 +1,523 @@
+/*
+ * Runs examples/uart_board.c on a simulated UART: a line with its speed, a ring buffer that a DMA fills, the two interrupts, the
+ * echo of what the board sends, and a clock. Time is simulated, so that a busy machine changes nothing.
+ */
+#define _POSIX_C_SOURCE 200809L
+#include <setjmp.h>
+#include <stdio.h>
+#include <stdlib.h>
+#include <string.h>
+#include <unistd.h>
+
+#include "mednukals.h"
+#include "uart_board.h"
+
+enum { MOST = 4096, NANOS = 1000 };
+
+/* ---- the line: bytes on their way, from the master or as the board's echo, in the order of their times ---- */
+
+static struct {
+    int64_t time; /* when its stop bit is over, in nanoseconds */
+    uint8_t byte;
+} line[MOST];
+static size_t n_line, delivered;
+
+static int64_t now;                     /* nanoseconds */
+static int64_t last_byte, idle_due, sent_due; /* -1: none */
+static int64_t busy_until;              /* the master's last byte */
+static uint32_t speed, received;
+static int echo_broken;                 /* the echo comes back damaged */
+
+volatile uint8_t uart_ring[UART_RING];
+
+/* ---- what the board did ---- */
+
+static uint8_t sent[MOST];
+static size_t n_sent;
+static int64_t sent_at; /* when it began to send last, and with which speed */
+static uint32_t sent_with;
+static int torque, fault;
+static int32_t goal, position;
+static uint8_t store[STORE_BYTES];
+static unsigned stores;
+static jmp_buf faulted;
+
+static unsigned failures, tests;
+static const char *current;
+
+static void expect(int holds, const char *what)
+{
+    if (!holds) {
+        fprintf(stderr, "uart: %s: %s\n", current, what);
+        failures++;
+    }
+}
+
+static int64_t byte_time(void)
+{
+    return (int64_t)10 * 1000000 * NANOS / speed;
+}
+
+static void put(int64_t time, uint8_t byte)
+{
+    if (n_line == MOST) {
+        expect(0, "the simulated line is too short");
+        return;
+    }
+    size_t at = n_line++;
+    for (; at > delivered && line[at - 1].time > time; at--)
+        line[at] = line[at - 1];
+    line[at].time = time;
+    line[at].byte = byte;
+}
+
+/* ---- the hardware ---- */
+
+uint32_t uart_received(void)
+{
+    return received;
+}
+
+void uart_send(const uint8_t *bytes, size_t n)
+{
+    sent_at = now;
+    sent_with = speed;
+    for (size_t i = 0; i < n; i++) {
+        if (n_sent < MOST)
+            sent[n_sent++] = bytes[i];
+        put(now + (int64_t)(i + 1) * byte_time(), echo_broken && i == n - 1 ? bytes[i] ^ 1 : bytes[i]);
+    }
+    sent_due = now + (int64_t)n * byte_time();
+}
+
+void uart_set_baud(uint32_t baud)
+{
+    speed = baud;
+}
+
+uint32_t clock_micros(void)
+{
+    return (uint32_t)(now / NANOS);
+}
+
+int32_t motor_position(void)
+{
+    return position;
+}
+
+uint8_t motor_errors(void)
+{
+    return 0;
+}
+
+void motor_set_torque(int on)
+{
+    torque = on;
+}
+
+void motor_set_goal(int32_t to)
+{
+    goal = to;
+}
+
+void store_read(uint8_t bytes[STORE_BYTES])
+{
+    memcpy(bytes, store, STORE_BYTES);
+}
+
+void store_write(const uint8_t bytes[STORE_BYTES])
+{
+    memcpy(store, bytes, STORE_BYTES);
+    stores++;
+}
+
+void board_fault(int refusal)
+{
+    fault = refusal;
+    longjmp(faulted, 1);
+}
+
+/* ---- time ---- */
+
+static void deliver(void)
+{
+    now = line[delivered].time;
+    uart_ring[received % UART_RING] = line[delivered].byte;
+    received++;
+    delivered++;
+    last_byte = now;
+    idle_due = now + byte_time();
+}
+
+/* Whatever comes first, up to a time: a byte, the end of sending, an idle line. */
+static void pass_until(int64_t time)
+{
+    for (;;) {
+        int64_t byte = delivered < n_line ? line[delivered].time : INT64_MAX;
+        int64_t sent_end = sent_due >= 0 ? sent_due : INT64_MAX;
+        int64_t idle = idle_due >= 0 ? idle_due : INT64_MAX;
+        if (byte <= time && byte <= sent_end && byte <= idle) {
+            deliver();
+        } else if (sent_end <= time && sent_end <= idle) {
+            now = sent_end;
+            sent_due = -1;
+            board_sent();
+        } else if (idle <= time) {
+            now = idle;
+            idle_due = -1;
+            board_line_idle();
+        } else {
+            now = time;
+            return;
+        }
+    }
+}
+
+/* The board's loop for so many microseconds, a turn each period. */
+static void run(int64_t micros, int64_t period)
+{
+    int64_t end = now + micros * NANOS;
+    while (now < end) {
+        pass_until(now + period * NANOS);
+        board_poll();
+    }
+}
+
+/* The master sends as soon as what it sent before is over. */
+static void say(const uint8_t *bytes, size_t n)
+{
+    int64_t from = busy_until > now ? busy_until : now;
+    for (size_t i = 0; i < n; i++)
+        put(from + (int64_t)(i + 1) * byte_time(), bytes[i]);
+    busy_until = from + (int64_t)n * byte_time();
+}
+
+static void instruct(uint8_t id, uint8_t instruction, const uint8_t *params, size_t n)
+{
+    uint8_t out[DXL_MAX_PACKET];
+    int64_t count = dxl_encode(id, instruction, params, n, out, sizeof out, 0);
+    expect(count > 0, "the master's packet is refused");
+    say(out, (size_t)count);
+}
+
+static void write_byte(uint8_t id, uint8_t address, uint8_t value)
+{
+    const uint8_t params[] = {address, 0, value};
+    instruct(id, DXL_INST_WRITE, params, sizeof params);
+}
+
+static void expect_status(uint8_t id, uint8_t error, const uint8_t *data, size_t n)
+{
+    uint8_t params[16] = {error}, wanted[64];
+    memcpy(params + 1, data, n);
+    int64_t count = dxl_encode(id, DXL_INST_STATUS, params, n + 1, wanted, sizeof wanted, 0);
+    expect(count > 0 && n_sent == (size_t)count && memcmp(sent, wanted, n_sent) == 0, "the status is not the wanted one");
+    n_sent = 0;
+}
+
+static const uint8_t FRESH_PING[] = {0x06, 0x04, 0x26}; /* model number and firmware version */
+static const uint8_t NOTHING[] = {0};
+
+static void expect_ping_answer(uint8_t id)
+{
+    expect_status(id, 0, FRESH_PING, sizeof FRESH_PING);
+}
+
+static void power_up(const char *name)
+{
+    current = name;
+    tests++;
+    n_line = delivered = 0;
+    n_sent = 0;
+    idle_due = sent_due = -1;
+    busy_until = now;
+    echo_broken = fault = 0;
+    torque = 1;
+    board_start();
+}
+
+static void forget_store(void)
+{
+    memset(store, 0xFF, sizeof store);
+    stores = 0;
+}
+
+/* ---- tests ---- */
+
+static void test_ping(int64_t period)
+{
+    power_up("Ping");
+    expect(torque == 0, "the motor is not let go at the start");
+    instruct(1, DXL_INST_PING, NOTHING, 0);
+    run(20000, period);
+    expect_ping_answer(1);
+    instruct(2, DXL_INST_PING, NOTHING, 0);
+    run(20000, period);
+    expect(n_sent == 0, "what is sent to another device is answered");
+}
+
+static void test_gap(void)
+{
+    const uint8_t promise[] = {0xFF, 0xFF, 0xFD, 0x00, 0x07, 0x00, 0x04};
+    power_up("a Ping behind noise that promises more");
+    say(promise, sizeof promise);
+    instruct(1, DXL_INST_PING, NOTHING, 0);
+    run(20000, 100);
+    expect_ping_answer(1);
+    expect(sent_at - busy_until > 1500 * NANOS, "the gap is told too early");
+    expect(sent_at - busy_until < 2500 * NANOS, "the gap is told late");
+}
+
+/* Several packets at once: their master has not waited, and gets the newest status only. */
+static void test_newest_only(void)
+{
+    const uint8_t promise[] = {0xFF, 0xFF, 0xFD, 0x00, 0x07, 0x00, 0x04}, zeros[60] = {0};
+    const uint8_t read[] = {DXL_REG_ID, 0, 1, 0}, one[] = {1};
+    power_up("two packets that come out at the gap");
+    say(promise, sizeof promise);
+    instruct(1, DXL_INST_PING, NOTHING, 0);
+    instruct(1, DXL_INST_READ, read, sizeof read);
+    run(30000, 100);
+    expect_status(1, 0, one, 1);
+
+    power_up("a packet inside a damaged one");
+    const uint8_t damaged[] = {0xFF, 0xFF, 0xFD, 0x00, 0x01, 0x0D, 0x00, 0x03};
+    say(damaged, sizeof damaged);
+    instruct(1, DXL_INST_PING, NOTHING, 0);
+    say(zeros, 2);
+    run(20000, 100);
+    expect_ping_answer(1);
+
+    power_up("more than one chunk for a turn of the loop");
+    instruct(1, DXL_INST_PING, NOTHING, 0);
+    say(zeros, sizeof zeros);
+    instruct(1, DXL_INST_READ, read, sizeof read);
+    pass_until(busy_until + 200 * NANOS);
+    run(20000, 100);
+    expect_status(1, 0, one, 1);
+}
+
+/* The loop stands still for longer than the gap while the bytes of one packet come: that is no gap. */
+static void test_late_loop(void)
+{
+    uint8_t ping[16];
+    int64_t n = dxl_encode(1, DXL_INST_PING, NOTHING, 0, ping, sizeof ping, 0);
+    power_up("a late loop");
+    say(ping, 5);
+    pass_until(busy_until + 200 * NANOS);
+    board_poll();
+    say(ping + 5, (size_t)n - 5);
+    pass_until(now + 5000 * NANOS);
+    run(5000, 100);
+    expect_ping_answer(1);
+}
+
+static void test_slots(void)
+{
+    const uint8_t list[] = {DXL_REG_ID, 0, 1, 0, 7, 9, 1};
+    const uint8_t seven[] = {7}, nine[] = {9}, one[] = {1};
+    power_up("slots");
+    instruct(DXL_BROADCAST_ID, DXL_INST_PING, NOTHING, 0);
+    int64_t end = busy_until;
+    run(30000, 100);
+    expect_ping_answer(1);
+    expect(sent_at - end >= 6000 * NANOS && sent_at - end < 7000 * NANOS, "Ping to all: not in slot 1");
+
+    instruct(DXL_BROADCAST_ID, DXL_INST_SYNC_READ, list, sizeof list);
+    end = busy_until;
+    run((end - now) / NANOS + 1000, 100);
+    uint8_t other[16];
+    const uint8_t *data[] = {seven, nine};
+    for (int i = 0; i < 2; i++) { /* two others answer first */
+        const uint8_t params[] = {0, *data[i]};
+        int64_t n = dxl_encode(*data[i], DXL_INST_STATUS, params, 2, other, sizeof other, 0);
+        say(other, (size_t)n);
+        run(6000, 100);
+    }
+    run(10000, 100);
+    expect_status(1, 0, one, 1);
+    expect(sent_at - end >= 13000 * NANOS && sent_at - end < 15000 * NANOS, "Sync Read: not in slot 2");
+}
+
+static void test_echo(void)
+{
+    power_up("the own echo");
+    echo_broken = 1; /* a wrong checksum with the own ID: an error 03, if it were heard */
+    instruct(1, DXL_INST_PING, NOTHING, 0);
+    run(20000, 100);
+    expect_ping_answer(1);
+    echo_broken = 0;
+
+    /* The next packet follows the status at once, before the loop has its next turn. */
+    instruct(1, DXL_INST_PING, NOTHING, 0);
+    while (sent_due < 0 && failures == 0)
+        run(100, 100);
+    busy_until = sent_due;
+    n_sent = 0;
+    instruct(1, DXL_INST_PING, NOTHING, 0);
+    pass_until(busy_until + 300 * NANOS);
+    run(20000, 100);
+    expect_ping_answer(1);
+}
+
+static void test_ring(void)
+{
+    uint8_t lamp[] = {DXL_REG_LAMP, 0, 0};
+    power_up("more bytes than the ring has");
+    for (int i = 0; i < 40; i++) { /* each is 13 bytes; nobody answers */
+        lamp[2] = (uint8_t)(i % 2);
+        instruct(DXL_BROADCAST_ID, DXL_INST_WRITE, lamp, sizeof lamp);
+    }
+    run((busy_until - now) / NANOS + 5000, 500);
+    const uint8_t read[] = {DXL_REG_LAMP, 0, 1, 0}, one[] = {1};
+    instruct(1, DXL_INST_READ, read, sizeof read);
+    run(20000, 500);
+    expect_status(1, 0, one, 1);
+}
+
+static void test_overrun(void)
+{
+    const uint8_t promise[] = {0xFF, 0xFF, 0xFD, 0x00, 0x07, 0x00, 0x04}, zeros[300] = {0};
+    power_up("bytes that were held when others are lost");
+    say(promise, sizeof promise);
+    instruct(1, DXL_INST_PING, NOTHING, 0);
+    run((busy_until - now) / NANOS + 200, 100);
+    say(zeros, sizeof zeros);
+    pass_until(busy_until + 200 * NANOS);
+    board_poll();
+    expect_ping_answer(1);
+
+    power_up("a loop so late that bytes are lost");
+    for (int i = 0; i < 30; i++)
+        instruct(1, DXL_INST_PING, NOTHING, 0);
+    pass_until(busy_until + 200 * NANOS);
+    run(5000, 100);
+    expect(n_sent == 0, "bytes that were overwritten are answered");
+    instruct(1, DXL_INST_PING, NOTHING, 0);
+    run(20000, 100);
+    expect_ping_answer(1);
+}
+
+static void test_changes(void)
+{
+    const uint8_t goal_512[] = {DXL_REG_GOAL_POSITION, 0, 0x00, 0x02, 0, 0};
+    power_up("torque, goal, registered write, Reboot");
+    forget_store();
+    write_byte(1, DXL_REG_TORQUE_ENABLE, 1);
+    run(20000, 100);
+    expect_status(1, 0, NOTHING, 0);
+    expect(torque == 1, "torque is not switched on");
+    instruct(1, DXL_INST_WRITE, goal_512, sizeof goal_512);
+    run(20000, 100);
+    expect_status(1, 0, NOTHING, 0);
+    expect(goal == 512, "the goal is not set");
+    const uint8_t goal_256[] = {DXL_REG_GOAL_POSITION, 0, 0x00, 0x01, 0, 0};
+    instruct(1, DXL_INST_REG_WRITE, goal_256, sizeof goal_256);
+    run(20000, 100);
+    expect_status(1, 0, NOTHING, 0);
+    expect(goal == 512, "the goal is set before Action");
+    instruct(1, DXL_INST_ACTION, NOTHING, 0);
+    run(20000, 100);
+    expect_status(1, 0, NOTHING, 0);
+    expect(goal == 256, "Action does not set the goal");
+    position = -1;
+    const uint8_t read[] = {DXL_REG_PRESENT_POSITION, 0, 4, 0}, minus_one[] = {0xFF, 0xFF, 0xFF, 0xFF};
+    instruct(1, DXL_INST_READ, read, sizeof read);
+    run(20000, 100);
+    expect_status(1, 0, minus_one, sizeof minus_one);
+    position = 0;
+    instruct(1, DXL_INST_REBOOT, NOTHING, 0);
+    run(20000, 100);
+    expect_status(1, 0, NOTHING, 0);
+    expect(torque == 0 && goal == 0, "Reboot does not let go of the motor");
+    expect(stores == 0, "what is in RAM is stored");
+}
+
+static void test_rom(void)
+{
+    const uint8_t limits[] = {DXL_REG_MAX_POSITION, 0, 0xE8, 0x03, 0, 0, 100, 0, 0, 0};
+    forget_store();
+    power_up("ROM over a power cut");
+    write_byte(1, DXL_REG_ID, 9);
+    run(20000, 100);
+    expect_status(1, 0, NOTHING, 0); /* under the ID from before */
+    instruct(9, DXL_INST_WRITE, limits, sizeof limits);
+    run(20000, 100);
+    expect_status(9, 0, NOTHING, 0);
+    expect(stores == 2, "ROM is not stored at each change");
+
+    power_up("ROM after a power cut");
+    expect(goal == 100, "the goal is not at the min position");
+    instruct(9, DXL_INST_PING, NOTHING, 0);
+    run(20000, 100);
+    expect_ping_answer(9);
+
+    store[3] ^= 1;
+    power_up("a store that is damaged");
+    instruct(1, DXL_INST_PING, NOTHING, 0);
+    run(20000, 100);
+    expect_ping_answer(1);
+}
+
+static void test_baud(void)
+{
+    forget_store();
+    power_up("a new speed");
+    write_byte(1, DXL_REG_BAUD_CODE, 3);
+    const uint8_t zeros[100] = {0};
+    say(zeros, sizeof zeros); /* so that the status has to wait */
+    pass_until(busy_until + 200 * NANOS);
+    run(20000, 100);
+    expect(sent_with == 57600, "the status does not leave with the old speed");
+    expect_status(1, 0, NOTHING, 0);
+    expect(speed == 1000000, "the speed does not change after the status");
+    instruct(1, DXL_INST_PING, NOTHING, 0);
+    run(20000, 20);
+    expect_ping_answer(1);
+
+    power_up("the new speed after a power cut");
+    expect(speed == 1000000, "the speed is not brought back");
+    forget_store();
+}
+
+/* A call refuses, by tests/c/refusing.c. */
+static void test_fault(const char *call, const char *number)
+{
+    forget_store();
+    power_up("a refusal");
+    setenv("REFUSING", call, 1);
+    setenv("REFUSAL", number, 1);
+    if (setjmp(faulted) == 0) {
+        say(NOTHING, 1);
+        say((const uint8_t *)"\xFF\xFF\xFD", 3); /* is held until the gap */
+        run(20000, 100);
+    }
+    expect(fault == atoi(number), call);
+    unsetenv("REFUSING");
+}
+
+int main(void)
+{
+    alarm(60); /* a board that goes on for ever */
+    speed = 57600;
+    forget_store();
+    test_ping(50);
+    test_ping(1000);
+    test_gap();
+    test_newest_only();
+    test_late_loop();
+    test_slots();
+    test_echo();
+    test_ring();
+    test_overrun();
+    test_changes();
+    test_rom();
+    test_baud();
+    test_fault("dxl_reader_feed", "25");
+    test_fault("dxl_reader_gap", "25");
+    test_fault("dxl_measure", "21");
+    if (failures != 0)
+        return 1;
+    printf("uart: the board on a simulated UART, %u tests\n", tests);
+    return 0;
+}

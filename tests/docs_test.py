@@ -1,0 +1,78 @@
+"""Holds the documents to the tree: usage docs_test.py CC ARCHIVE, in the repository's root
+
+Links lead to files, and commands of make to targets. The code that docs/INTEGRATING.md shows stands so in a file that the gate
+runs. The program in README.md is compiled and run, and prints what its comments say.
+"""
+import re
+import subprocess
+import sys
+import tempfile
+import textwrap
+import unittest
+from pathlib import Path
+
+CC, ARCHIVE = sys.argv[1:] if len(sys.argv) == 3 else ("", "")
+PAGES = [Path("README.md"), Path("CHANGELOG.md"), *sorted(Path("docs").glob("*.md"))]
+SHOWN = [Path("examples/uart_board.c"), Path("examples/uart_board.h"), Path("tests/c/empty.cpp")]
+PATIENCE = 60  # seconds for one command
+
+
+def text(path):
+    return path.read_text(encoding="utf-8")
+
+
+def blocks(path, *languages):
+    found = re.findall(r"^```(\w+)\n(.*?)^```$", text(path), flags=re.M | re.S)
+    return [code for language, code in found if language in languages]
+
+
+class Documents(unittest.TestCase):
+    def test_links(self):
+        for page in PAGES:
+            for link in re.findall(r"\]\(([^)#]+)(?:#[^)]*)?\)", text(page)):
+                if not link.startswith(("http:", "https:")):
+                    self.assertTrue((page.parent / link).exists(), f"{page}: {link}")
+
+    def test_index(self):
+        for page in Path("docs").glob("*.md"):
+            self.assertIn(f"](docs/{page.name})", text(Path("README.md")), "the index of documents")
+
+    def test_commands(self):
+        targets = {word for line in re.findall(r"^\.PHONY: (.*)$", text(Path("Makefile")), flags=re.M) for word in line.split()}
+        targets |= {"build/bin/line"}
+        for page in PAGES:
+            commands = re.findall(r"(?:^|`)make ([\w/]+)", text(page), flags=re.M)
+            self.assertLessEqual(set(commands), targets, page)
+
+    def test_code_of_integrating(self):
+        sources = [text(path) for path in SHOWN]
+        shown = blocks(Path("docs/INTEGRATING.md"), "c", "cpp")
+        self.assertGreater(len(shown), 3)
+        for code in shown:
+            parts = [code, textwrap.indent(textwrap.dedent(code), "    ")]
+            self.assertTrue(any(part in source for part in parts for source in sources), code)
+
+    def test_program_of_readme(self):
+        programs = [code for code in blocks(Path("README.md"), "c") if "int main" in code]
+        self.assertEqual(len(programs), 1)
+        with tempfile.TemporaryDirectory() as folder:
+            source, program = Path(folder, "example.c"), Path(folder, "example")
+            source.write_text(programs[0], encoding="utf-8")
+            warnings = ["-std=c99", "-Wall", "-Wextra", "-Wpedantic", "-Werror"]
+            subprocess.run([CC, *warnings, "-Iinclude", "-o", program, source, ARCHIVE], check=True, timeout=PATIENCE)
+            ended = subprocess.run([program], capture_output=True, check=True, timeout=PATIENCE, text=True)
+        for line in ended.stdout.splitlines():
+            self.assertRegex(programs[0], rf"/\* {re.escape(line.strip())}\b")
+
+
+def main():
+    if not CC:
+        print("usage: docs_test.py CC ARCHIVE", file=sys.stderr)
+        return 2
+    tests = unittest.defaultTestLoader.loadTestsFromModule(sys.modules["__main__"])
+    result = unittest.TextTestRunner(verbosity=0, failfast=True).run(tests)
+    return 0 if result.wasSuccessful() else 1
+
+
+if __name__ == "__main__":
+    sys.exit(main())

@@ -1,0 +1,108 @@
+"""Installs the library and links a program with what is there, and holds the version to CHANGELOG.md: usage install_test.py CC
+ARCHIVE, in the repository's root
+"""
+import os
+import re
+import shlex
+import shutil
+import subprocess
+import sys
+import tempfile
+import unittest
+from pathlib import Path
+
+CC, ARCHIVE = sys.argv[1:] if len(sys.argv) == 3 else ("", "")
+HEADER = Path("include/mednukals.h")
+PATIENCE = 60  # seconds for one command
+FILES = {"include/mednukals.h": HEADER, "lib/libmednukals.a": Path(ARCHIVE), "lib/pkgconfig/mednukals.pc": None}
+
+
+def run(*words, **environment):
+    """The output of a command that must go well."""
+    outside = {name: value for name, value in os.environ.items() if not name.startswith(("MAKE", "MFLAGS", "PREFIX", "DESTDIR"))}
+    ended = subprocess.run(words, capture_output=True, timeout=PATIENCE, text=True, check=False, env={**outside, **environment})
+    if ended.returncode != 0:
+        raise AssertionError(f"{shlex.join(words)}: {ended.stdout}{ended.stderr}")
+    return ended.stdout
+
+
+def install(*words):
+    return run("make", "--no-print-directory", "-o", ARCHIVE, "install", *words)
+
+
+def version():
+    return re.search(r'^#define DXL_VERSION "(.*)"$', HEADER.read_text(encoding="utf-8"), flags=re.M).group(1)
+
+
+def fields(path):
+    """A pkg-config file's fields, with the variables put in."""
+    text = path.read_text(encoding="utf-8")
+    values = dict(re.findall(r"^(\w+)=(.*)$", text, flags=re.M))
+    for _ in values:
+        text = re.sub(r"\$\{(\w+)\}", lambda name: values[name.group(1)], text)
+    return dict(re.findall(r"^(\w+): (.*)$", text, flags=re.M))
+
+
+def flags(folder):
+    """What a compiler needs, by pkg-config where it is there."""
+    if shutil.which("pkg-config"):
+        return shlex.split(run("pkg-config", "--cflags", "--libs", "mednukals", PKG_CONFIG_PATH=str(folder)))
+    found = fields(folder / "mednukals.pc")
+    return shlex.split(f"{found['Cflags']} {found['Libs']}")
+
+
+class Install(unittest.TestCase):
+    def test_a_program_is_linked(self):
+        for name in ["plain", "with a space"]:
+            with self.subTest(name), tempfile.TemporaryDirectory() as folder:
+                prefix = Path(folder, name)
+                self.assertIn(f"installed below {prefix}:", install(f"PREFIX={prefix}"))
+                self.hold(prefix)
+                program = str(Path(folder, "program"))
+                run(CC, "-std=c99", "-o", program, "tests/c/header.c", *flags(prefix / "lib/pkgconfig"))
+                self.assertEqual(run(program), f"{version()} {version()}\n")
+
+    def hold(self, prefix):
+        """All files are there, as they should be, and no other."""
+        there = {str(path.relative_to(prefix)) for path in prefix.rglob("*") if path.is_file()}
+        self.assertEqual(there, set(FILES))
+        for name, source in FILES.items():
+            self.assertEqual((prefix / name).stat().st_mode & 0o777, 0o644)
+            if source is not None:
+                self.assertEqual((prefix / name).read_bytes(), source.read_bytes())
+        self.assertEqual(fields(prefix / "lib/pkgconfig/mednukals.pc")["Version"], version())
+
+    def test_destdir(self):
+        with tempfile.TemporaryDirectory() as folder:
+            install("PREFIX=/opt/mednukals", f"DESTDIR={folder}")
+            self.hold(Path(folder, "opt/mednukals"))
+            self.assertIn('"/opt/mednukals/include"', fields(Path(folder, "opt/mednukals/lib/pkgconfig/mednukals.pc"))["Cflags"])
+
+    def test_a_relative_prefix(self):
+        with tempfile.TemporaryDirectory(dir="build") as folder:
+            install(f"PREFIX={folder}")
+            self.hold(Path(folder))
+            self.assertIn(f'"{Path.cwd() / folder}/lib"', fields(Path(folder, "lib/pkgconfig/mednukals.pc"))["Libs"])
+
+
+class Version(unittest.TestCase):
+    def test_one_version(self):
+        text = HEADER.read_text(encoding="utf-8")
+        numbers = [re.search(rf"^#define DXL_VERSION_{part} (\d+)$", text, flags=re.M).group(1) for part in ("MAJOR", "MINOR", "PATCH")]
+        headings = re.findall(r"^## (.*)$", Path("CHANGELOG.md").read_text(encoding="utf-8"), flags=re.M)
+        self.assertEqual(headings[0], "Unreleased")
+        self.assertEqual([version(), ".".join(numbers)], [headings[1]] * 2)
+        self.assertEqual(headings[1:], sorted(headings[1:], key=lambda text: [int(n) for n in text.split(".")], reverse=True))
+
+
+def main():
+    if not CC:
+        print("usage: install_test.py CC ARCHIVE", file=sys.stderr)
+        return 2
+    tests = unittest.defaultTestLoader.loadTestsFromModule(sys.modules["__main__"])
+    result = unittest.TextTestRunner(verbosity=0, failfast=True).run(tests)
+    return 0 if result.wasSuccessful() else 1
+
+
+if __name__ == "__main__":
+    sys.exit(main())

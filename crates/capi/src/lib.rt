@@ -8,6 +8,7 @@ ghost use mathlib.Core.Path.{_≡_};
 ghost use mathlib.Core.List.{_∷_};
 ghost use mathlib.Core.Option.{none};
 ghost use Rattle.crc.specs.Crc.{crcFrom};
+ghost use Rattle.crc.specs.Laws.{SumLaws};
 ghost use Rattle.stuffing.specs.Answers.{removalAnswer, removalOut};
 ghost use Rattle.encoder.specs.Encoding.{encodeAnswer, encodeOut};
 ghost use Rattle.table_rules.specs.Outcomes.{inTable};
@@ -21,10 +22,11 @@ ghost use Rattle.exchange.specs.Exchange.{exchangeAnswer, exchangeRegistered, e
 ghost use Rattle.numbers.specs.Exported.{exported, exportedRefusal, stepNumbers, deviceNumbers};
 ghost use Rattle.capi.specs.Heard.{heardBy, idBy};
 
-// The checksum of the bytes, going on from an earlier one; 0 starts a packet's.
+// The checksum of the bytes, going on from an earlier one; 0 starts a packet's. The leaf's laws are promised here too.
 #[no_mangle]
 pub extern "C" fn dxl_crc16(start: u16, bytes: &[u8]) -> u16
     ensures { λ crc. ⌜ crc ≡ crcFrom start (now (bytes .entry)) ⌝ }
+    ensures { λ _. ⌜ SumLaws ⌝ }
 {
     crc16::update(start, bytes)
 }

@@ -89,14 +89,21 @@ kit:
 format:
 	@rt fmt --check || $(call failed,the layout of a Rattle file; make fmt puts it right)
 
-c_test: build/c/published build/c/exchange
+c_test: build/c/published build/c/exchange build/c/parts
 	@build/c/published tests/vectors/packets.txt || $(call failed,the C test)
 	@build/c/exchange || $(call failed,the C test of the loop in the header)
+	@build/c/parts || $(call failed,the C test of the example that sends in parts)
 
 build/c/published build/c/exchange: build/c/%: tests/c/%.c include/mednukals.h build/lib/libmednukals.a
 	@$(call need,$(CC))
 	@mkdir -p $(@D)
 	@$(CC) $(WARNINGS) -O2 -Iinclude -o $@ $< build/lib/libmednukals.a || $(call failed,compiling the C test)
+
+build/c/parts: tests/c/parts.c examples/parts.c examples/parts.h include/mednukals.h build/lib/libmednukals.a
+	@$(call need,$(CC))
+	@mkdir -p $(@D)
+	@$(CC) $(WARNINGS) -O2 -Iinclude -Iexamples -o $@ tests/c/parts.c examples/parts.c build/lib/libmednukals.a \
+	    || $(call failed,compiling the example that sends in parts)
 
 BOARD_SOURCES := examples/board.c examples/pty_line.c
 build/c/board: $(BOARD_SOURCES) examples/pty_line.h include/mednukals.h build/lib/libmednukals.a

@@ -26,9 +26,15 @@ fn with_part(sum: Sum, part: &[u8]) -> Sum
     let n = part.len() as u64;
     let bytes = sum.bytes;
     if bytes <= 18446744073709551615 - n {
-        Sum { crc, bytes: bytes + n }
+        Sum {
+            crc,
+            bytes: bytes + n,
+        }
     } else {
-        Sum { crc, bytes: 18446744073709551615 }
+        Sum {
+            crc,
+            bytes: 18446744073709551615,
+        }
     }
 }
 

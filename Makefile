@@ -134,15 +134,22 @@ kit:
 format:
 	@$(call step,format,layout of the Rattle files (make fmt puts it right)) rt fmt --check
 
-c_test: build/c/published build/c/exchange build/c/uart_test
+c_test: build/c/published build/c/exchange build/c/parts build/c/uart_test
 	@$(call step,published,published packets through the archive) build/c/published tests/vectors/packets.txt
 	@$(call step,exchange,the loop that the header shows) build/c/exchange
+	@$(call step,parts,example that sends a packet in parts) build/c/parts
 	@$(call step,uart_test,example board on a simulated UART) build/c/uart_test
 
 build/c/published build/c/exchange: build/c/%: tests/c/%.c include/mednukals.h build/lib/libmednukals.a
 	@$(call need,$(CC))
 	@mkdir -p $(@D)
 	@$(CC) $(WARNINGS) -O2 -Iinclude -o $@ $< build/lib/libmednukals.a || $(call failed,compiling the C test)
+
+build/c/parts: tests/c/parts.c examples/parts.c examples/parts.h include/mednukals.h build/lib/libmednukals.a
+	@$(call need,$(CC))
+	@mkdir -p $(@D)
+	@$(CC) $(WARNINGS) -O2 -Iinclude -Iexamples -o $@ tests/c/parts.c examples/parts.c build/lib/libmednukals.a \
+	    || $(call failed,compiling the example that sends in parts)
 
 BOARD_SOURCES := examples/board.c examples/pty_line.c
 build/c/board: $(BOARD_SOURCES) examples/pty_line.h include/mednukals.h build/lib/libmednukals.a

@@ -41,8 +41,8 @@ extern "C" {
  *
  * start   0 for the first bytes of a packet; for bytes that follow others, the checksum of those.
  *
- * Bytes may come in any number of parts: dxl_crc16(dxl_crc16(s, a, n), b, m) is the checksum from s of a and b joined. With
- * n == 0 the answer is start.
+ * Bytes may come in any number of parts, which may lie apart: dxl_crc16(dxl_crc16(s, a, n), b, m) is the checksum from s of a and
+ * b joined, for every s, and where either is empty. With n == 0 the answer is start. examples/parts.c sends a packet so.
  *
  * A packet's checksum starts from 0, covers everything before it, the header FF FF FD 00 included, in the stuffed form, and goes
  * on the line low byte first.

@@ -9,6 +9,7 @@ ghost use mathlib.Core.Path.{_≡_};
 ghost use mathlib.Core.List.{_∷_};
 ghost use mathlib.Core.Option.{none};
 ghost use Rattle.crc.specs.Crc.{crcFrom};
+ghost use Rattle.crc.specs.Laws.{SumLaws};
 ghost use Rattle.stuffing.specs.Answers.{removalAnswer, removalOut};
 ghost use Rattle.encoder.specs.Encoding.{encodeAnswer, encodeOut};
 ghost use Rattle.encoder.specs.RoundTrip.{RoundTrip};
@@ -25,10 +26,11 @@ ghost use Rattle.cases.specs.Cases.{CasesHold};
 ghost use Rattle.numbers.specs.Exported.{exported, exportedRefusal, stepNumbers, deviceNumbers};
 ghost use Rattle.capi.specs.Heard.{heardBy, idBy};
 
-// The checksum of the bytes, going on from an earlier one; 0 starts a packet's. [C1-C7 G5]
+// The checksum of the bytes, going on from an earlier one; 0 starts a packet's. The laws of the sum are promised too. [C1-C7 G5]
 #[no_mangle]
 pub extern "C" fn dxl_crc16(start: u16, bytes: &[u8]) -> u16
     ensures { λ crc. ⌜ crc ≡ crcFrom start (now (bytes .entry)) ⌝ }
+    ensures { λ _. ⌜ SumLaws ⌝ }
 {
     crc16::update(start, bytes)
 }

@@ -4,6 +4,8 @@
 use libc::STDERR_FILENO;
 use libc::STDOUT_FILENO;
 ghost use mathlib.Core.Path.{_≡_};
+ghost use mathlib.Core.List.{List, _++_};
+ghost use Prim.Native.Nat.{ℕ};
 ghost use Rattle.crc.specs.Crc.{crcFrom};
 
 // The checksum and the count so far.
@@ -16,20 +18,22 @@ fn wide(x: u16) -> u64 {
     x as u64
 }
 
-// One part more. The count stays at the largest number where it would pass it.
+// One part more: from the checksum of the parts so far to that of all of them joined. The count stays at the largest number
+// where it would pass it.
 fn with_part(sum: Sum, part: &[u8]) -> Sum
-    ensures { λ next. ⌜ next .crc ≡ crcFrom (sum .crc) (now (part .entry)) ⌝ }
+    ensures { λ next. ⌜ ((parts : List ℕ) → sum .crc ≡ crcFrom 0 parts → next .crc ≡ crcFrom 0 (parts ++ now (part .entry))) ⌝ }
 {
+    let crc = crc16::update(sum.crc, part);
     let n = part.len() as u64;
     let bytes = sum.bytes;
     if bytes <= 18446744073709551615 - n {
         Sum {
-            crc: crc16::update(sum.crc, part),
+            crc,
             bytes: bytes + n,
         }
     } else {
         Sum {
-            crc: crc16::update(sum.crc, part),
+            crc,
             bytes: 18446744073709551615,
         }
     }

@@ -1,6 +1,6 @@
--- The laws of the checksum that other crates cite: it goes on where another left off, and it stays within 16 bits.
+-- The laws of the checksum that other crates cite: those that the leaf promises, its range, and a loop's turn and end.
 use mathlib.Core.Path.{_≡_, refl, ap}
-use mathlib.Core.List.{List, [], _∷_, _++_}
+use mathlib.Core.List.{List, [], _∷_}
 use Prim.Native.Nat.{ℕ, zero, suc, _+_, _*_, _/_, _%_, _^_, _≤_, _<_}
 use native.Mathlib.Nat.{mod-lt}
 use native.Mathlib.Numerals.{add-one}
@@ -11,13 +11,17 @@ use lib.ListN.{length, getD, drop, drop-of-length-le}
 use lib.Seq.{drop-cons}
 use Rattle.lists.proofs.Xor.{bit-lt}
 use Rattle.crc.specs.Crc.{polynomial, shift, shifts, crcByte, crcFrom}
+use Rattle.crc.specs.Laws.{Joined, SumLaws}
 use Rattle.crc.proofs.Linear.{shift-flat}
 
--- going on over y from the sum of x is the sum of both joined; either may be empty
-pub crc-append : (start : ℕ) (x y : List ℕ) → crcFrom (crcFrom start x) y ≡ crcFrom start (x ++ y)
+joined : Joined
 unfolding crcFrom
-crc-append start [] y = refl
-crc-append start (b ∷ x) y = crc-append (crcByte start b) x y
+joined start [] b = refl
+joined start (x ∷ a) b = joined (crcByte start x) a b
+
+-- what a leaf promises beside its result
+pub sum-laws : SumLaws
+sum-laws = record { joined = joined }
 
 shift-lt : (c : ℕ) → shift c < 2 ^ 16
 shift-lt c =

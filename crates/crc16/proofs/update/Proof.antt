@@ -8,7 +8,7 @@ use lib.ListN.{length, getD, drop}
 use borrow.Author.Needs.{needs}
 use Rattle.crc.specs.Crc.{reduceIf, shift, shifts, crcFrom}
 use Rattle.crc.proofs.Lookup.{Rule, rule, looked-up, index-lt}
-use Rattle.crc.proofs.Laws.{crcByte-lt, crc-turn, crc-done}
+use Rattle.crc.proofs.Laws.{sum-laws, crcByte-lt, crc-turn, crc-done}
 use Rattle.crc16.proofs.update.Statement.{statement}
 use Rattle.crc16.proofs.update.Tie as tie
 
@@ -61,7 +61,7 @@ loop-again c =
     )
 
 returns : tie.Need-returns Inv-loop μ-loop
-returns c = sym (crc-done _ _ _ (c .loop-test .left)) ∙ c .before .loop .inv .3
+returns c = (sym (crc-done _ _ _ (c .loop-test .left)) ∙ c .before .loop .inv .3, sum-laws)
 
 pub update-spec : {M : Type 1} → statement M
 update-spec =

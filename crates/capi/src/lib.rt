@@ -9,6 +9,7 @@ ghost use mathlib.Core.List.{_∷_};
 ghost use mathlib.Core.Option.{none};
 ghost use Rattle.crc.specs.Crc.{crcFrom};
 ghost use Rattle.crc.specs.Laws.{SumLaws};
+ghost use Rattle.crc.specs.Flips.{flippedSum, Flipped};
 ghost use Rattle.stuffing.specs.Answers.{removalAnswer, removalOut};
 ghost use Rattle.encoder.specs.Encoding.{encodeAnswer, encodeOut};
 ghost use Rattle.table_rules.specs.Outcomes.{inTable};
@@ -29,6 +30,15 @@ pub extern "C" fn dxl_crc16(start: u16, bytes: &[u8]) -> u16
     ensures { λ _. ⌜ SumLaws ⌝ }
 {
     crc16::update(start, bytes)
+}
+
+// The checksum after bits were flipped, from the one before. That it is the checksum of the changed bytes is promised too.
+#[no_mangle]
+pub extern "C" fn dxl_crc16_flipped(crc: u16, flips: &[u8], after: usize) -> u16
+    ensures { λ r. ⌜ r ≡ flippedSum crc (now (flips .entry)) after ⌝ }
+    ensures { λ _. ⌜ Flipped ⌝ }
+{
+    crc16_flips::flipped(crc, flips, after)
 }
 
 // The encoder: the packet's byte count, or minus a refusal number.

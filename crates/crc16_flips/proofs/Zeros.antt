@@ -49,10 +49,10 @@ module _ {crc count sum power left : ℕ} (t : Turn crc count sum power left) wh
         within = g;
         stands = f ∙ squared;
         asked =
-          ap (shifts (left / 2 * (t .k + t .k))) e
-          ∙ sym (shifts-add (left % 2 * t .k) (left / 2 * (t .k + t .k)) sum)
-          ∙ ap (λ (n : ℕ). shifts n sum) (halves (left / 2) (left % 2) (t .k) ∙ ap (λ (n : ℕ). n * t .k) l)
-          ∙ t .asked;
+            ap (shifts (left / 2 * (t .k + t .k))) e
+            ∙ sym (shifts-add (left % 2 * t .k) (left / 2 * (t .k + t .k)) sum)
+            ∙ ap (λ (n : ℕ). shifts n sum) (halves (left / 2) (left % 2) (t .k) ∙ ap (λ (n : ℕ). n * t .k) l)
+            ∙ t .asked;
       }
     where
       halves : (h b k : ℕ) → b * k + h * (k + k) ≡ (h * 2 + b) * k

@@ -20,12 +20,12 @@ fn times(a: u16, b: u16) -> u16
     let mut sum = 0;
     let mut x = a;
     let mut y = b;
-    let mut left: u8 = 16;
-    while 0 < left {
+    let mut bits: u8 = 16;
+    while 0 < bits {
         sum = sum ^ (y % 2 * x);
         x = shifted(x);
         y = y / 2;
-        left -= 1;
+        bits -= 1;
     }
     sum
 }

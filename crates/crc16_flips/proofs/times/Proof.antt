@@ -1,4 +1,4 @@
--- The loop keeps: what is added up, with the product of what is left, is the product.
+-- The loop keeps: what is added up, with the product of what is bits, is the product.
 use mathlib.Core.Path.{_≡_, sym, ap, _∙_}
 use Prim.Native.Nat.{ℕ, _*_, _-_, _/_, _%_, _^_, _<_}
 use native.Mathlib.Omega.{arith}
@@ -12,10 +12,10 @@ use Rattle.crc16_flips.proofs.times.Statement.{statement}
 use Rattle.crc16_flips.proofs.times.Tie as tie
 
 abbrev Inv-loop : tie.InvT-loop
-Inv-loop a b sum₀ x₀ y₀ left₀ sum x y left = (x < 2 ^ 16) × (bitXor sum (product left x y) ≡ product 16 a b)
+Inv-loop a b sum₀ x₀ y₀ bits₀ sum x y bits = (x < 2 ^ 16) × (bitXor sum (product bits x y) ≡ product 16 a b)
 
 abbrev μ-loop : tie.MeasureT-loop
-μ-loop a b sum₀ x₀ y₀ left₀ sum x y left = left
+μ-loop a b sum₀ x₀ y₀ bits₀ sum x y bits = bits
 
 loop-holds : tie.Need-loop-holds Inv-loop μ-loop
 loop-holds c = (search needs, search needs)
@@ -26,8 +26,8 @@ mul-sum c = omega (arith, bit-times-lt _ _ (bit-lt (c .before .loop .y)) (c .bef
 shifted-requires : tie.Need-shifted-requires Inv-loop μ-loop
 shifted-requires c κs = search needs
 
-sub-left : tie.Need-sub-left Inv-loop μ-loop
-sub-left c = search needs
+sub-bits : tie.Need-sub-bits Inv-loop μ-loop
+sub-bits c = search needs
 
 loop-less : tie.Need-loop-less Inv-loop μ-loop
 loop-less c = omega arith
@@ -36,19 +36,19 @@ loop-again : tie.Need-loop-again Inv-loop μ-loop
 loop-again c =
     let h = c .before .before .loop in
     let bit = h .y % 2 * h .x in
-    let rest : ℕ → ℕ = λ (x : ℕ). product (h .left - 1) x (h .y / 2) in (
+    let rest : ℕ → ℕ = λ (x : ℕ). product (h .bits - 1) x (h .y / 2) in (
       c .shifted .ok,
       ap (λ (x : ℕ). bitXor (bitXor (h .sum) bit) (rest x)) (c .shifted .ensures)
-      ∙ xor-assoc (h .sum) bit (rest (shift (h .x)))
-      ∙ ap (bitXor (h .sum)) (sym (product-turn (h .left) (h .x) (h .y) (omega arith)))
-      ∙ h .inv .1,
+          ∙ xor-assoc (h .sum) bit (rest (shift (h .x)))
+          ∙ ap (bitXor (h .sum)) (sym (product-turn (h .bits) (h .x) (h .y) (omega arith)))
+          ∙ h .inv .1,
     )
 
 returns : tie.Need-returns Inv-loop μ-loop
 unfolding product
 returns c =
     let h = c .before .loop in
-    let none : h .left ≡ 0 = omega arith in
+    let none : h .bits ≡ 0 = omega arith in
     sym (xor-zero-r (h .sum)) ∙ ap (λ (n : ℕ). bitXor (h .sum) (product n (h .x) (h .y))) (sym none) ∙ h .inv .1
 
 pub times-spec : {M : Type 1} → statement M
@@ -60,7 +60,7 @@ times-spec =
     loop-holds
     mul-sum
     shifted-requires
-    sub-left
+    sub-bits
     loop-less
     loop-again
     returns)

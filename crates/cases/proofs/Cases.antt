@@ -34,9 +34,10 @@ use Rattle.reactions.specs.Reactions.{heardInstruction}
 use Rattle.device.specs.Device.{heeded}
 use Rattle.device.specs.Answers.{Answer, sent, refused, stateRefusal, roomRefusal, callRefusal}
 use Rattle.exchange.specs.Exchange.{idHeard}
+use Rattle.exchange.specs.Demand1.{packetError}
 use Rattle.instructions.specs.declared.RegisteredWrite.{RegisteredWrite}
 use Rattle.cases.specs.Exchanges.{Lent, answerTo, leftBy}
-use Rattle.cases.specs.Cases.{Case, packet, stuffing, exchange, apart, across, Claim, table, CasesHold}
+use Rattle.cases.specs.Cases.{Case, packet, stuffing, exchange, refusal, apart, across, Claim, table, CasesHold}
 
 -- ---- equality as a test
 
@@ -121,6 +122,7 @@ abbrev right : Case → Bool
 right (packet id body bytes) = same (packetOf id body) bytes && isPacketOf (verdict bytes) (length bytes)
 right (stuffing body stuffed) = same (stuff body) stuffed && (wellStuffed stuffed && same (unstuff stuffed) body)
 right (exchange bytes before answer after) = sameAnswer (answerTo bytes before) answer && sameLent (leftBy bytes before) after
+right (refusal bytes before number) = eqb (packetError (before .table) (before .registered) bytes) number
 right (apart noise beyond) = not (reachesAcross protocol2 noise beyond)
 right (across noise beyond) = reachesAcross protocol2 noise beyond
 
@@ -139,6 +141,7 @@ claimed (exchange bytes before answer after) e =
     let a = sameAnswer (answerTo bytes before) answer in
     let b = sameLent (leftBy bytes before) after in
     (same-answer (answerTo bytes before) answer (and-left a b e), same-lent (leftBy bytes before) after (and-right a b e))
+claimed (refusal bytes before number) e = eqb-true (packetError (before .table) (before .registered) bytes) number e
 claimed (apart noise beyond) e = across-decided protocol2 laws noise beyond .0 (fails (reachesAcross protocol2 noise beyond) e)
 claimed (across noise beyond) e =
     λ n. both-ways (reachesAcross protocol2 noise beyond) e (across-decided protocol2 laws noise beyond .1 n)

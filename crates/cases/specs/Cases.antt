@@ -14,6 +14,7 @@ use Rattle.items.specs.Items.{put}
 use Rattle.control_table.specs.Fresh.{freshTable}
 use Rattle.instructions.specs.Registered.{dropped}
 use Rattle.device.specs.Answers.{Answer, sent, refused}
+use Rattle.exchange.specs.Demand1.{packetError}
 use Rattle.cases.specs.Exchanges.{Lent, answerTo, leftBy, lent, left, at166, registeredTable, goalTooLarge, markedLimits}
 use Rattle.cases.specs.Exchanges.{pingWrongSum, pingWithParameter, lengthStatus, actionTo1, actionToAll, rangeStatus, syncReadPosition, readLimits, longestStatus}
 
@@ -24,6 +25,8 @@ pub data Case : Type 0 where
   stuffing : List ℕ → List ℕ → Case
   -- a packet as received, and what is lent to the call on it: its answer, and what it leaves
   exchange : List ℕ → Lent → Answer → Lent → Case
+  -- a packet as received, and what is lent: the error number by which demand 1 calls it refused, answered or not
+  refusal : List ℕ → Lent → ℕ → Case
   -- noise, and the bytes beyond it: no packet reaches across the noise's end, as demand 3 supposes
   apart : List ℕ → List ℕ → Case
   -- one does
@@ -34,6 +37,7 @@ abbrev pub Claim : Case → Type 0
 Claim (packet id body bytes) = (packetOf id body ≡ bytes) × (verdict bytes ≡ isPacket (length bytes))
 Claim (stuffing body stuffed) = (stuff body ≡ stuffed) × (wellStuffed stuffed ≡ true) × (unstuff stuffed ≡ body)
 Claim (exchange bytes before answer after) = (answerTo bytes before ≡ answer) × (leftBy bytes before ≡ after)
+Claim (refusal bytes before number) = packetError (before .table) (before .registered) bytes ≡ number
 Claim (apart noise beyond) = NoneAcross protocol2 noise beyond
 Claim (across noise beyond) = ¬ NoneAcross protocol2 noise beyond
 
@@ -102,6 +106,9 @@ table =
     ∷ exchange actionToAll (lent registeredTable goalTooLarge 1) (sent 0 0) (left freshTable dropped 1 (0x05 ∷ []) [])
     ∷ exchange pingWithParameter (lent registeredTable goalTooLarge 2) (sent 11 0)
     (left registeredTable goalTooLarge 2 (0x01 ∷ 0x00 ∷ []) lengthStatus)
+    ∷ refusal actionTo1 (lent registeredTable goalTooLarge 1) 0x04
+    ∷ refusal actionToAll (lent registeredTable goalTooLarge 1) 0x04
+    ∷ refusal pingWithParameter (lent registeredTable goalTooLarge 2) 0x05
     -- no room for the body
     ∷ exchange pingTo1 (lent freshTable dropped 0) (refused 13) (lent freshTable dropped 0)
     -- noise that is a packet itself and ends right before one; a packet that ends with the first byte beyond the noise, and one

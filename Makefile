@@ -283,7 +283,7 @@ mutants:
 	@$(call need,rt)
 	@$(call need,python3)
 	@[ -n '$(CRATE)' ] || { echo 'mednukals: make mutants CRATE=NAME [DEFINITIONS=1] [SINCE=REV] [MOST=N] [SEED=S]' >&2; exit 1; }
-	@python3 tools/mutants.py $(CRATE) $(if $(DEFINITIONS),--definitions) $(if $(SINCE),--since '$(SINCE)') $(if $(MOST),--most $(MOST)) $(if $(SEED),--seed $(SEED))
+	@python3 tools/mutants.py $(CRATE) $(if $(DEFINITIONS),--definitions) $(if $(SINCE),--since '$(SINCE)') $(if $(MOST),--most $(MOST)) $(if $(SEED),--seed $(SEED)) $(if $(LIMIT),--limit $(LIMIT))
 
 # PROMISES is made from the comments in the tree.
 promises:

@@ -119,8 +119,23 @@ def edits():
         yield f"{path.parts[1]}/{path.stem}", words
 
 
+def unfit_edits():
+    """Edits that would change nothing: their file is not there, or their old text does not stand there exactly once."""
+    for path in sorted(Path("crates").glob("*/must-fail/*.edit")):
+        file = None
+        for line in read(path).split("\n"):
+            word, _, rest = line.partition(": ")
+            if word == "file":
+                file = path.parent.parent / rest
+                if not file.exists():
+                    yield f"the edit {path} is of {file}, which is not there"
+                    break
+            if word == "old" and read(file).count(rest) != 1:
+                yield f"the old text of the edit {path} stands {read(file).count(rest)} times in {file}"
+
+
 def tests():
-    """(what, file, name, comment) of each test."""
+    """(file, name, comment) of each test."""
     for path in sorted(Path("tests").glob("*/tests/**/*.rs")) + sorted(Path("tests").glob("*/src/**/*.rs")):
         lines = read(path).split("\n")
         for number, line in enumerate(lines):
@@ -212,8 +227,11 @@ class Tree:
         return {f"{crate}::{name}": self.statements.led_to(read(path), head) for crate, name, _, head, _, path in self.functions}
 
     def unpromised(self):
-        led_to = set().union(*self.promised().values())
-        for place in sorted(self.statements.statements.keys() - led_to):
+        """A theorem has to be led to by a public function's contract, any other statement by some function's."""
+        promised = self.promised()
+        public = {f"{crate}::{name}" for crate, name, public, _, _, _ in self.functions if public}
+        by_public = set().union(*(places for who, places in promised.items() if who in public))
+        for place in sorted(self.statements.statements.keys() - set().union(*promised.values()) | self.statements.theorems - by_public):
             yield f"no function promises {place[2]} of {self.statements.statements[place]}"
 
     def page(self):
@@ -282,7 +300,7 @@ Statements in `specs/` that are not about one call's arguments, and the exports 
 
 def main():
     tree = Tree()
-    faults = tree.faults + list(tree.missing()) + list(tree.weak_contracts()) + list(tree.unpromised())
+    faults = tree.faults + list(unfit_edits()) + list(tree.missing()) + list(tree.weak_contracts()) + list(tree.unpromised())
     page = tree.page()
     if "--check" in sys.argv[1:]:
         if not PAGE.exists() or read(PAGE) != page:

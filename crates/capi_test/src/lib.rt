@@ -14,7 +14,7 @@ ghost use Rattle.reading.specs.Calls.{feed as Call·feed};
 ghost use Rattle.reading.specs.Progress.{Settles};
 ghost use Rattle.packet_front.specs.Begun.{lacks, settledBy};
 ghost use Rattle.packet.specs.Verdict.{verdict, answerFor, protocol2};
-ghost use Rattle.reader.specs.Records.{saidOn, leftBy, lent, packetOn};
+ghost use Rattle.reader.specs.Records.{saidOn, leftBy, lent, packetOn, ReaderPromises};
 ghost use Rattle.numbers.specs.Exported.{stepNumbers};
 ghost use Rattle.capi_test.specs.Numbers.{testNumber, verdictNumbers};
 
@@ -88,6 +88,7 @@ pub extern "C" fn dxl_test_feed_value(held: &[u8; 1030], count: usize, chunk: &[
     ensures { λ r. ⌜ r .step ≡ stepNumbers (saidOn (lent (now (held .entry)) count) (Call·feed (now (chunk .entry)))) ⌝ }
     ensures { λ r. ⌜ r .packet ≡ packetOn (lent (now (held .entry)) count) (Call·feed (now (chunk .entry))) (replicate 1031 0) ⌝ }
     ensures { λ r. ⌜ r .reader ≡ leftBy (lent (now (held .entry)) count) (Call·feed (now (chunk .entry))) ⌝ }
+    ensures { λ _. ⌜ ReaderPromises ⌝ }
 {
     let bytes = *held;
     let fed = reader::feed(Reader { bytes, count }, chunk);

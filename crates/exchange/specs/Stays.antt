@@ -1,4 +1,4 @@
--- What comes over the line never makes the device refuse, whatever it is and whatever the buffers are.
+-- What comes over the line never leads to a 21, 22 or 23, whatever it is and whatever the buffers are.
 use mathlib.Core.Path.{_≡_}
 use mathlib.Core.List.{List, [], _∷_, List·Memᴰ}
 use mathlib.Core.Option.{none}

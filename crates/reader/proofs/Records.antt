@@ -114,6 +114,7 @@ followed-by-1030 s = (λ h. omega arith, λ h. omega arith)
 pub reader-promises : ReaderPromises
 reader-promises =
     record {
+      any-fresh = λ bytes. refl;
       follows = follows;
       calls = call-promises protocol2 laws records Legal heldIn follows;
       never-refused = never-refused;

@@ -75,6 +75,8 @@ FollowedBy1030 = (s : List ℕ) → (Followed protocol2 s → AtLeast1030 s) × 
 
 -- what is promised of every list of calls on the records
 pub record ReaderPromises : Type 0 where
+  -- there are fresh records: any bytes with a count of 0 [F2]
+  pub any-fresh : (bytes : List ℕ) → records .Fresh (lent bytes 0)
   -- a record that holds at most 1,030 bytes keeps to the rules of Protocol 2.0
   pub follows : Follows protocol2 records (λ r. r .count ≤ 1030) heldIn
   -- demand 3, with what holds it in place

@@ -12,8 +12,9 @@ step-requires c κs = search needs
 
 returns : tie.Need-returns
 returns c =
-    let f = c .before .before .before .before .feed .ensures .0 in
-    (c .step2 .ensures ∙ ap stepNumbers (f .0), (f .1, f .2))
+    let e = c .before .before .before .before .feed .ensures in
+    let f = e .0 in
+    (c .step2 .ensures ∙ ap stepNumbers (f .0), (f .1, (f .2, e .1)))
 
 pub dxl-test-feed-value-spec : {M : Type 1} → statement M
 dxl-test-feed-value-spec = tie.close (tie.spec feed-requires step-requires returns)

@@ -51,6 +51,27 @@ extern "C" {
  */
 uint16_t dxl_crc16(uint16_t start, const uint8_t *bytes, size_t n);
 
+/*
+ * The checksum of bytes in which chosen bits were flipped, without a new pass over them.
+ *
+ * crc        their checksum before, from any start
+ * flips, n   a 1 for each flipped bit, in n bytes that lie over n of those bytes
+ * after      how many bytes follow these n up to the end of what the checksum covers; any number
+ *
+ * Where crc is the checksum from some start of a, b and c joined, b has n bytes and c has `after` of them, the answer is the
+ * checksum from that start of a, of b with its bits flipped, and c. Checksums add: for strings of equal length that of their
+ * exclusive or, from the exclusive or of the starts, is the exclusive or of theirs.
+ *
+ * The time grows with n and with the number of binary digits of `after`, and not with the bytes before and behind the flips.
+ *
+ *     // bit 4 of the ID, byte 4 of a packet of which the checksum covers `covered` bytes
+ *     const uint8_t flips[] = {0x10};
+ *     crc = dxl_crc16_flipped(crc, flips, 1, covered - 5);
+ *
+ * It refuses nothing and writes no memory.
+ */
+uint16_t dxl_crc16_flipped(uint16_t crc, const uint8_t *flips, size_t n, size_t after);
+
 /* Refusals: a call answers minus the number; for 25, see struct dxl_step. */
 enum {
     DXL_BAD_ID = 11,         /* an ID of 253 or 255 */

@@ -53,6 +53,27 @@ static uint16_t crc_baseline(uint16_t last, size_t n)
     return baseline_crc16(last, input, n);
 }
 
+/* The checksum of n bytes of which byte 4 was changed: from the one before, and by a whole pass in C. */
+static uint16_t flip_ours(uint16_t last, size_t n)
+{
+    static size_t summed;
+    static uint16_t before;
+    uint8_t flips[1] = {(uint8_t)last};
+    if (summed != n) {
+        before = dxl_crc16(0, input, n);
+        summed = n;
+    }
+    return dxl_crc16_flipped(before, flips, 1, n - 5);
+}
+
+static uint16_t flip_baseline(uint16_t last, size_t n)
+{
+    input[4] ^= (uint8_t)last;
+    uint16_t crc = baseline_crc16(0, input, n);
+    input[4] ^= (uint8_t)last;
+    return crc;
+}
+
 /* The status that answers a Ping, 14 bytes, and the longest packet, with ten places to stuff in it. */
 static uint8_t ping_status[] = {0x00, 0x06, 0x04, 0x26};
 static uint8_t longest[1011];
@@ -336,6 +357,11 @@ static int measure_bytes(const char *what, work *ours, work *baseline, size_t n)
     return measure(what, ours, baseline, n, (double)n * 1e-6, "MB/s");
 }
 
+static int measure_flips(size_t n)
+{
+    return measure("flipped byte, or a whole pass", flip_ours, flip_baseline, n, 1e-6, "Mcalls/s");
+}
+
 static int measure_line(const char *what, size_t chunk)
 {
     return measure(what, read_ours, read_baseline, chunk, (double)n_line * 1e-6, "MB/s");
@@ -418,7 +444,8 @@ int main(int n_words, char **words)
     printf("size: bytes of a call, for the reader of a chunk; ratio: ours to baseline, median of %d rounds\n\n", ROUNDS);
     printf("%-30s %8s %-8s %10s %10s %8s\n", "what", "size", "unit", "ours", "baseline", "ratio");
     int good = measure_bytes("checksum", crc_ours, crc_baseline, 14) && measure_bytes("checksum", crc_ours, crc_baseline, 1031)
-               && measure_bytes("checksum", crc_ours, crc_baseline, LARGEST)
+               && measure_bytes("checksum", crc_ours, crc_baseline, LARGEST) && measure_flips(14) && measure_flips(1031)
+               && measure_flips(LARGEST)
                && measure_bytes("encode", encode_ours, encode_baseline, 14)
                && measure_bytes("encode", encode_ours, encode_baseline, DXL_MAX_PACKET) && measure_reader()
                && measure_instructions();

@@ -36,6 +36,13 @@ static void call_crc16(void)
         answered = dxl_crc16(0, line, n);
 }
 
+static void call_crc16_flipped(void)
+{
+    MARK_TOP();
+    for (size_t n = 0; n <= sizeof line; n = n * 2 + 1)
+        answered = dxl_crc16_flipped(0, line, n, SIZE_MAX - n);
+}
+
 /* Parameters of every number, with as many places to stuff as there can be. */
 static void call_encode(void)
 {
@@ -252,7 +259,7 @@ static size_t deepest_device(void (*call)(void))
 
 static void tell(const char *name, size_t bytes)
 {
-    printf("  %-15s %6zu\n", name, bytes);
+    printf("  %-17s %6zu\n", name, bytes);
 }
 
 int main(void)
@@ -260,6 +267,7 @@ int main(void)
     dxl_fresh(table, sizeof table);
     printf("greatest stack depth of each export, in bytes\n");
     tell("dxl_crc16", deepest(nothing, call_crc16));
+    tell("dxl_crc16_flipped", deepest(nothing, call_crc16_flipped));
     tell("dxl_encode", deepest(places_to_stuff, call_encode));
     tell("dxl_unstuff", deepest(places_to_stuff, call_unstuff));
     tell("dxl_feed", deepest(all_kinds, call_feed));

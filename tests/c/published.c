@@ -60,6 +60,20 @@ static int encodes_again(const uint8_t *packet, size_t n)
     return 1;
 }
 
+/* Bits flipped in up to three bytes from `at` on: the checksum by the flips is that of a new pass over all n bytes. */
+static int flipped_as_summed_again(const uint8_t *bytes, size_t n, size_t at)
+{
+    static const uint8_t flips[MAX_BYTES] = {0x10, 0, 0x81};
+    uint8_t changed[MAX_BYTES];
+    size_t covered = n - at < 3 ? n - at : 3;
+    uint16_t crc = dxl_crc16(0, bytes, n);
+    memcpy(changed, bytes, n);
+    for (size_t i = 0; i < covered; i++)
+        changed[at + i] ^= flips[i];
+    return dxl_crc16_flipped(crc, flips, covered, n - at - covered) == dxl_crc16(0, changed, n)
+           && dxl_crc16_flipped(crc, flips, 0, SIZE_MAX) == crc;
+}
+
 static void refusals(void)
 {
     uint8_t out[10] = {0};
@@ -97,6 +111,7 @@ int main(int argc, char **argv)
             uint16_t in_two = dxl_crc16(dxl_crc16(0, bytes, cut), bytes + cut, n - 2 - cut);
             expect(in_two == whole, "two parts give another checksum", number);
             expect(dxl_crc16(whole, bytes, 0) == whole, "no bytes change the checksum", number);
+            expect(flipped_as_summed_again(bytes, n - 2, cut), "flipped bits give another checksum", number);
             expect(n >= 10 && encodes_again(bytes, n), "a good packet is not what the encoder writes", number);
             good++;
         } else if (strstr(line, "| misprint |") != NULL) {

@@ -10,6 +10,7 @@ ghost use mathlib.Core.List.{_∷_};
 ghost use mathlib.Core.Option.{none};
 ghost use Rattle.crc.specs.Crc.{crcFrom};
 ghost use Rattle.crc.specs.Laws.{SumLaws};
+ghost use Rattle.crc.specs.Flips.{flippedSum, Flipped};
 ghost use Rattle.stuffing.specs.Answers.{removalAnswer, removalOut};
 ghost use Rattle.encoder.specs.Encoding.{encodeAnswer, encodeOut};
 ghost use Rattle.encoder.specs.RoundTrip.{RoundTrip};
@@ -26,13 +27,23 @@ ghost use Rattle.cases.specs.Cases.{CasesHold};
 ghost use Rattle.numbers.specs.Exported.{exported, exportedRefusal, stepNumbers, deviceNumbers};
 ghost use Rattle.capi.specs.Heard.{heardBy, idBy};
 
-// The checksum of the bytes, going on from an earlier one; 0 starts a packet's. The laws of the sum are promised too. [C1-C7 G5]
+// The checksum of the bytes, going on from an earlier one; 0 starts a packet's. The laws of the sum are promised too.
+// [C1-C8 G5]
 #[no_mangle]
 pub extern "C" fn dxl_crc16(start: u16, bytes: &[u8]) -> u16
     ensures { λ crc. ⌜ crc ≡ crcFrom start (now (bytes .entry)) ⌝ }
     ensures { λ _. ⌜ SumLaws ⌝ }
 {
     crc16::update(start, bytes)
+}
+
+// The checksum after bits were flipped, from the one before. That it is the checksum of the changed bytes is promised too. [C9]
+#[no_mangle]
+pub extern "C" fn dxl_crc16_flipped(crc: u16, flips: &[u8], after: usize) -> u16
+    ensures { λ r. ⌜ r ≡ flippedSum crc (now (flips .entry)) after ⌝ }
+    ensures { λ _. ⌜ Flipped ⌝ }
+{
+    crc16_flips::flipped(crc, flips, after)
 }
 
 // The encoder: the packet's byte count, or minus a refusal number. [E1-E9 G5 N1 N2 N4]

@@ -1,5 +1,5 @@
 -- The laws of the checksum that other crates cite: those that the leaf promises, its range, and a loop's turn and end.
-use mathlib.Core.Path.{_≡_, refl, ap}
+use mathlib.Core.Path.{_≡_, refl, ap, _∙_}
 use mathlib.Core.List.{List, [], _∷_}
 use Prim.Native.Nat.{ℕ, zero, suc, _+_, _*_, _/_, _%_, _^_, _≤_, _<_}
 use native.Mathlib.Nat.{mod-lt}
@@ -11,17 +11,25 @@ use lib.ListN.{length, getD, drop, drop-of-length-le}
 use lib.Seq.{drop-cons}
 use Rattle.lists.proofs.Xor.{bit-lt}
 use Rattle.crc.specs.Crc.{polynomial, shift, shifts, crcByte, crcFrom}
-use Rattle.crc.specs.Laws.{Joined, SumLaws}
-use Rattle.crc.proofs.Linear.{shift-flat}
+use Rattle.crc.specs.Laws.{Joined, xorBytes, Adds, SumLaws}
+use Rattle.crc.proofs.Linear.{shift-flat, crcByte-xor}
 
 joined : Joined
 unfolding crcFrom
 joined start [] b = refl
 joined start (x ∷ a) b = joined (crcByte start x) a b
 
+adds : Adds
+unfolding crcFrom xorBytes
+adds s t [] [] e = refl
+adds s t [] (y ∷ b) e = absurd (omega arith)
+adds s t (x ∷ a) [] e = absurd (omega arith)
+adds s t (x ∷ a) (y ∷ b) e =
+    ap (λ (c : ℕ). crcFrom c (xorBytes a b)) (crcByte-xor s t x y) ∙ adds (crcByte s x) (crcByte t y) a b (omega arith)
+
 -- what a leaf promises beside its result
 pub sum-laws : SumLaws
-sum-laws = record { joined = joined }
+sum-laws = record { joined = joined; adds = adds }
 
 shift-lt : (c : ℕ) → shift c < 2 ^ 16
 shift-lt c =

@@ -1,4 +1,6 @@
 pub mod Linear
+pub mod Shifts
 pub mod Laws
+pub mod Flips
 pub mod Lookup
 pub mod Examples

@@ -3,7 +3,7 @@ use mathlib.Core.Path.{_≡_, sym, ap, _∙_}
 use mathlib.Core.Bool.{Bool}
 use mathlib.Core.List.{List}
 use Prim.Native.Nat.{ℕ, _*_, _/_, _%_, _^_, _<_}
-use native.Mathlib.Nat.{div-eq-of-lt, mod-eq-of-lt, mod-lt}
+use native.Mathlib.Nat.{mod-lt}
 use native.Mathlib.Omega.{arith}
 use lib.Pow.{pow-pos, split}
 use lib.Bits.{bitXor, xor-comm, xor-shifted, xor-lt}
@@ -11,13 +11,9 @@ use lib.Dec.{T, eqb, eqb→eq}
 use lib.ListN.{getD}
 use Rattle.lists.proofs.Below.{allBelow, below}
 use Rattle.lists.proofs.Xor.{xor-assoc, xor-shl}
-use Rattle.crc.specs.Crc.{reduceIf, shift, shifts, crcByte}
+use Rattle.crc.specs.Crc.{shifts, crcByte}
 use Rattle.crc.proofs.Linear.{shifts-xor}
-
--- nothing leaves a register whose bit 15 is 0
-shift-low : (c : ℕ) → c < 2 ^ 15 → shift c ≡ c * 2
-unfolding shift reduceIf
-shift-low c h = ap (λ (t : ℕ). reduceIf (t % 2) (c * 2 % 2 ^ 16)) (div-eq-of-lt h) ∙ mod-eq-of-lt (omega arith)
+use Rattle.crc.proofs.Shifts.{shift-low}
 
 shifts-low : (c : ℕ) → c < 2 ^ 8 → shifts 8 c ≡ c * 2 ^ 8
 unfolding shifts

@@ -7,7 +7,7 @@ ghost use Rattle.crc.specs.Crc.{crcFrom};
 ghost use Rattle.crc.specs.Laws.{SumLaws};
 
 // The register after the bytes, from start, which may be the sum of earlier bytes: the laws of the sum are promised too. The table
-// is bound once, before the loop: a constant array is built anew wherever it is named. [C1-C7]
+// is bound once, before the loop: a constant array is built anew wherever it is named. [C1-C8]
 pub fn update(start: u16, bytes: &[u8]) -> u16
     ensures { λ crc. ⌜ crc ≡ crcFrom start (now (bytes .entry)) ⌝ }
     ensures { λ _. ⌜ SumLaws ⌝ }

@@ -10,6 +10,7 @@ pub type ExchangeCall = fn(&mut [u8], Registered, &[u8], &mut [u8], &mut [u8]) -
 #[derive(Clone, Copy)]
 pub struct Calls {
     pub crc16: fn(u16, &[u8]) -> u16,
+    pub crc16_flipped: fn(u16, &[u8], usize) -> u16,
     pub encode: fn(u8, u8, &[u8], &mut [u8], usize) -> i64,
     pub unstuff: fn(&[u8], &mut [u8]) -> i64,
     pub feed: fn(&mut [u8; 1030], &mut usize, &[u8], &mut [u8; 1031]) -> Step,
@@ -24,6 +25,7 @@ pub struct Calls {
 
 pub const PROVED: Calls = Calls {
     crc16: exports::crc16,
+    crc16_flipped: exports::crc16_flipped,
     encode: exports::encode,
     unstuff: exports::unstuff,
     feed: exports::feed,

@@ -14,6 +14,17 @@ pub fn compare_checksum(calls: &Calls, rng: &mut Rng, start: u16, bytes: &[u8]) 
     Ok(answer)
 }
 
+pub fn compare_flipped(calls: &Calls, rng: &mut Rng, crc: u16, flips: &[u8], after: usize) -> Result<u16, Difference> {
+    let mut ours = Lent::new(rng, flips, 0);
+    let expected = ours.clone();
+    let answer = ours.call(|flips, _| (calls.crc16_flipped)(crc, flips, after));
+    let given = || format!("checksum {crc:04x}, flips {}, {after} bytes after", hex(flips));
+    let comparison = Comparison { export: "dxl_crc16_flipped", given: &given };
+    comparison.same_shown("the checksum", answer, reference::flipped(crc, flips, after), |sum| format!("{sum:04x}"))?;
+    comparison.same_lent(&ours, &expected)?;
+    Ok(answer)
+}
+
 /// What the encoder writes of an instruction and its parameters into a buffer with so much room.
 pub struct Encoded<'a> {
     pub id: u8,

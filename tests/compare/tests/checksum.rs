@@ -1,7 +1,7 @@
 //! The checksum: the proved export and the reference give the same.
 
-use compare::{published, Published, Status};
-use exports::crc16;
+use compare::{compare_flipped, must_agree, published, Published, Status, PROVED};
+use exports::{crc16, crc16_flipped};
 use reference::{checksum, Rng};
 
 /// The two bytes at the end are the checksum of all before them, low byte first, by both implementations.
@@ -128,4 +128,68 @@ fn parts_join_to_a_packet() {
     }
     assert!(joined.is_empty());
     assert_eq!(answers, 2);
+}
+
+fn xor(a: &[u8], b: &[u8]) -> Vec<u8> {
+    assert_eq!(a.len(), b.len());
+    a.iter().zip(b).map(|(x, y)| x ^ y).collect()
+}
+
+/// The checksum of an exclusive or is the exclusive or of the checksums, the starts combined likewise.
+#[test]
+fn sums_add() {
+    let mut rng = Rng::new(4);
+    for case in 0..20_000 {
+        let count = if case % 10 == 0 { 0 } else { rng.between(0, 300) };
+        let (a, b) = (rng.bytes(count), rng.bytes(count));
+        let [s, t] = if case % 4 == 0 { [0, 0] } else { [rng.word() as u16, rng.word() as u16] };
+        assert_eq!(crc16(s ^ t, &xor(&a, &b)), crc16(s, &a) ^ crc16(t, &b), "case {case}: {count} bytes from {s:04x}, {t:04x}");
+    }
+}
+
+/// From the checksum of three parts that of the same with bits flipped in the second: parts of any length, also empty ones, and
+/// any start.
+#[test]
+fn flipped_bits() {
+    let mut rng = Rng::new(5);
+    for case in 0..20_000 {
+        let [before, within, after] = [rng.between(0, 40), rng.between(0, 12), rng.between(0, 1_200) / rng.between(1, 400)];
+        let (a, b, c) = (rng.bytes(before), rng.bytes(within), rng.bytes(after));
+        let flips = rng.bytes(within);
+        let start = rng.word() as u16;
+        let crc = checksum(start, &[&a[..], &b, &c].concat());
+        let changed = checksum(start, &[&a[..], &xor(&b, &flips), &c].concat());
+        assert_eq!(crc16_flipped(crc, &flips, after), changed, "case {case}: {before}, {within} and {after} bytes");
+        must_agree(compare_flipped(&PROVED, &mut rng, crc, &flips, after));
+    }
+}
+
+/// Each bit of each published packet, before its checksum, flipped by itself.
+#[test]
+fn every_bit_of_published_packets() {
+    for packet in published().iter().filter(|packet| packet.status == Status::Good) {
+        let covered = &packet.bytes[..packet.bytes.len() - 2];
+        let crc = crc16(0, covered);
+        for (at, bit) in (0..covered.len()).flat_map(|at| (0..8).map(move |bit| (at, 1 << bit))) {
+            let mut changed = covered.to_vec();
+            changed[at] ^= bit;
+            assert_eq!(crc16_flipped(crc, &[bit], covered.len() - at - 1), checksum(0, &changed), "{}: byte {at}", packet.place);
+        }
+    }
+}
+
+/// Every count with few binary digits, their neighbours, and the largest there is.
+#[test]
+fn flips_far_from_the_end() {
+    let mut rng = Rng::new(6);
+    for bit in 0..usize::BITS {
+        let power = 1usize << bit;
+        for after in [power - 1, power, power + 1, usize::MAX - power, usize::MAX, rng.word() as usize >> (63 - bit)] {
+            let flips = rng.bytes(2);
+            must_agree(compare_flipped(&PROVED, &mut rng, 0x4E19, &flips, after));
+        }
+    }
+    for after in [32_766, 32_767, 32_768, 65_534, 65_535, 65_536] {
+        must_agree(compare_flipped(&PROVED, &mut rng, 0, &[1], after));
+    }
 }

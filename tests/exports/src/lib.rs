@@ -50,6 +50,7 @@ mod raw {
 
     extern "C" {
         pub fn dxl_crc16(start: u16, bytes: *const u8, n: usize) -> u16;
+        pub fn dxl_crc16_flipped(crc: u16, flips: *const u8, n: usize, after: usize) -> u16;
         pub fn dxl_encode(
             id: u8,
             instruction: u8,
@@ -103,6 +104,10 @@ mod raw {
 
 pub fn crc16(start: u16, bytes: &[u8]) -> u16 {
     unsafe { raw::dxl_crc16(start, bytes.as_ptr(), bytes.len()) }
+}
+
+pub fn crc16_flipped(crc: u16, flips: &[u8], after: usize) -> u16 {
+    unsafe { raw::dxl_crc16_flipped(crc, flips.as_ptr(), flips.len(), after) }
 }
 
 pub fn encode(id: u8, instruction: u8, params: &[u8], out: &mut [u8], at: usize) -> i64 {

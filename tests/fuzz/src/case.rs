@@ -6,6 +6,12 @@ pub enum Operation {
         start: u16,
         bytes: Vec<u8>,
     },
+    /// The checksum after flipped bits, from the one before.
+    Flip {
+        crc: u16,
+        after: usize,
+        flips: Vec<u8>,
+    },
     Encode {
         id: u8,
         instruction: u8,
@@ -84,6 +90,7 @@ impl Operation {
     fn bytes(&self) -> usize {
         match self {
             Operation::Checksum { bytes, .. } => bytes.len(),
+            Operation::Flip { flips, .. } => flips.len(),
             Operation::Encode { params, .. } => params.len(),
             Operation::Unstuff { body, .. } | Operation::Hear { body, .. } => body.len(),
             Operation::Record { held, .. } => held.len(),

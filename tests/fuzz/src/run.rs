@@ -1,7 +1,7 @@
 //! Runs a case: every call goes to an export and to the reference, and all that is answered and left must be the same.
 
 use crate::{Case, Operation};
-use compare::{compare_checksum, compare_encode, compare_unstuff, BAD_CHECKSUM, PACKET};
+use compare::{compare_checksum, compare_encode, compare_flipped, compare_unstuff, BAD_CHECKSUM, PACKET};
 use compare::{hex, Calls, Comparison, DevicePair, Difference, Encoded, Guarded, ReaderPair, Stepped, Told};
 use reference::{fresh, Event, Registered, Rng, MOST_HELD};
 use std::collections::BTreeMap;
@@ -77,6 +77,10 @@ impl<'a> World<'a> {
             Operation::Checksum { start, bytes } => {
                 compare_checksum(self.calls, &mut self.rng, *start, bytes)?;
                 self.tally.call("dxl_crc16", 0);
+            }
+            Operation::Flip { crc, after, flips } => {
+                compare_flipped(self.calls, &mut self.rng, *crc, flips, *after)?;
+                self.tally.call("dxl_crc16_flipped", 0);
             }
             &Operation::Encode { id, instruction, room, at, ref params } => {
                 let answer = compare_encode(self.calls, &mut self.rng, Encoded { id, instruction, params, room, at })?;

@@ -37,6 +37,7 @@ pub fn write(case: &Case, about: &str) -> String {
 fn line(operation: &Operation) -> String {
     match operation {
         Operation::Checksum { start, bytes } => format!("checksum start=0x{start:04x} bytes={}", hex(bytes)),
+        Operation::Flip { crc, after, flips } => format!("flip crc=0x{crc:04x} after={after} flips={}", hex(flips)),
         Operation::Encode { id, instruction, room, at, params } => {
             format!("encode id={id} instruction=0x{instruction:02x} room={room} at={at} params={}", hex(params))
         }
@@ -91,6 +92,9 @@ fn operation(line: &str) -> Result<Operation, String> {
     let mut fields = Fields::new(line);
     let operation = match fields.name {
         "checksum" => Operation::Checksum { start: fields.number("start")?, bytes: fields.bytes("bytes")? },
+        "flip" => {
+            Operation::Flip { crc: fields.number("crc")?, after: fields.number("after")?, flips: fields.bytes("flips")? }
+        }
         "encode" => Operation::Encode {
             id: fields.number("id")?,
             instruction: fields.number("instruction")?,

@@ -19,6 +19,7 @@ fn every_operation_by_hand() {
         memory number=0x1f\n\
         \n\
         checksum start=0x1234 bytes=00ff\n\
+        flip crc=0x4e19 after=18446744073709551615 flips=10\n\
         encode id=254 instruction=0x03 room=40 at=18446744073709551615 params=\n\
         unstuff room=3 body=fffffdfd\n\
         record count=1031 past=0x07 held=ff\n\
@@ -41,6 +42,7 @@ fn every_operation_by_hand() {
     assert_eq!(case.memory, 0x1F);
     let wanted = [
         Operation::Checksum { start: 0x1234, bytes: vec![0, 0xFF] },
+        Operation::Flip { crc: 0x4E19, after: usize::MAX, flips: vec![0x10] },
         Operation::Encode { id: 254, instruction: 3, room: 40, at: usize::MAX, params: vec![] },
         Operation::Unstuff { room: 3, body: vec![0xFF, 0xFF, 0xFD, 0xFD] },
         Operation::Record { count: 1_031, past: 7, held: vec![0xFF] },

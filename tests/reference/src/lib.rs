@@ -9,7 +9,7 @@ mod rng;
 mod stuffing;
 mod table;
 
-pub use checksum::checksum;
+pub use checksum::{checksum, flipped};
 pub use device::{device_call, packet_call, Answer as DeviceAnswer, Heard, Registered};
 pub use packet::{encode, framed, packet_of, verdict, well_formed, Verdict, LONGEST_LENGTH, SHORTEST_LENGTH};
 pub use reader::{feed, feed_record, gap, gap_record, reading, Event, Found, Given, Step, LONGEST_PACKET, MOST_HELD};

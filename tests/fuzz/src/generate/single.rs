@@ -13,6 +13,13 @@ pub fn checksum(rng: &mut Rng) -> Operation {
     Operation::Checksum { start, bytes: some_body(rng) }
 }
 
+/// Few bytes after the flips, as in a packet, or any number of them.
+pub fn flip(rng: &mut Rng) -> Operation {
+    let count = rng.between(0, 8);
+    let after = if rng.one_in(4) { rng.word() as usize >> rng.between(0, 63) } else { rng.between(0, 1_100) };
+    Operation::Flip { crc: rng.word() as u16, after, flips: rng.bytes(count) }
+}
+
 pub fn encode(rng: &mut Rng) -> Operation {
     let mut body = some_body(rng);
     if body.is_empty() {

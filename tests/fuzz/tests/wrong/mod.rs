@@ -16,6 +16,7 @@ pub fn all() -> Vec<Wrong> {
     let wrong = |export, what, calls| Wrong { export, what, calls };
     vec![
         wrong("dxl_crc16", "the checksum", Calls { crc16: long_checksum, ..PROVED }),
+        wrong("dxl_crc16_flipped", "the checksum", Calls { crc16_flipped: half_the_bytes_after, ..PROVED }),
         wrong("dxl_encode", "the answer", Calls { encode: late_refusal, ..PROVED }),
         wrong("dxl_encode", "the bytes around input and output", Calls { encode: past_the_end, ..PROVED }),
         wrong("dxl_unstuff", "the answer", Calls { unstuff: room_first, ..PROVED }),
@@ -41,6 +42,11 @@ pub fn all() -> Vec<Wrong> {
 
 fn long_checksum(start: u16, bytes: &[u8]) -> u16 {
     exports::crc16(start, bytes) ^ u16::from(bytes.len() > 1_024)
+}
+
+/// Of the count of bytes after the flips only 32 bits are looked at.
+fn half_the_bytes_after(crc: u16, flips: &[u8], after: usize) -> u16 {
+    exports::crc16_flipped(crc, flips, after as u32 as usize)
 }
 
 /// Room is tested before the length.

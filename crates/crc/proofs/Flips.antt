@@ -1,0 +1,33 @@
+-- Flipped bits change the sum by that of the flips and as many bytes of 0 as follow them: from the laws of the sum alone.
+use mathlib.Core.Path.{_≡_, refl, sym, ap, ap₂, _∙_}
+use mathlib.Core.List.{List, [], _∷_, _++_}
+use Prim.Native.Nat.{ℕ, _+_}
+use native.Mathlib.Omega.{arith}
+use lib.Bits.{bitXor, xor-zero-r}
+use lib.ListN.{length, replicate, length-append, length-replicate}
+use Rattle.crc.specs.Crc.{crcFrom}
+use Rattle.crc.specs.Laws.{xorBytes}
+use Rattle.crc.specs.Flips.{Flipped}
+use Rattle.crc.proofs.Laws.{sum-laws}
+
+xor-zeros : (c : List ℕ) → xorBytes c (replicate (length c) 0) ≡ c
+unfolding xorBytes
+xor-zeros [] = refl
+xor-zeros (x ∷ c) = ap₂ (λ (y : ℕ) (l : List ℕ). y ∷ l) (xor-zero-r x) (xor-zeros c)
+
+xor-parts : (b f c d : List ℕ) → length b ≡ length f → xorBytes (b ++ c) (f ++ d) ≡ xorBytes b f ++ xorBytes c d
+unfolding xorBytes
+xor-parts [] [] c d e = refl
+xor-parts [] (y ∷ f) c d e = absurd (omega arith)
+xor-parts (x ∷ b) [] c d e = absurd (omega arith)
+xor-parts (x ∷ b) (y ∷ f) c d e = ap (λ (l : List ℕ). bitXor x y ∷ l) (xor-parts b f c d (omega arith))
+
+pub flipped : Flipped
+flipped start a b c flips e =
+    let zeros : List ℕ = replicate (length c) 0 in
+    let same : length (b ++ c) ≡ length (flips ++ zeros) = simp (length-append, length-replicate) (omega arith) in
+    ap (λ (x : ℕ). bitXor x (crcFrom 0 (flips ++ zeros))) (sum-laws .joined start a (b ++ c))
+    ∙ sym (sum-laws .adds (crcFrom start a) 0 (b ++ c) (flips ++ zeros) same)
+    ∙ ap₂ crcFrom (xor-zero-r (crcFrom start a))
+    (xor-parts b flips c zeros e ∙ ap (λ (l : List ℕ). xorBytes b flips ++ l) (xor-zeros c))
+    ∙ sym (sum-laws .joined start a (xorBytes b flips ++ c))

@@ -17,6 +17,7 @@ ghost use Rattle.control_table.specs.Answers.{freshOut, measureOut};
 ghost use Rattle.reading.specs.Calls.{feed as Call·feed, gap as Call·gap};
 ghost use Rattle.reading.specs.Promise.{Demand3};
 ghost use Rattle.packet.specs.Verdict.{protocol2};
+ghost use Rattle.packet.specs.Burst.{BurstDetected};
 ghost use Rattle.reader.specs.Records.{saidOn, leftBy, lent, packetOn, records, NeverRefused};
 ghost use Rattle.device.specs.Answers.{callAnswer, callRegistered, callTable, callOut};
 ghost use Rattle.exchange.specs.Exchange.{exchangeAnswer, exchangeRegistered, exchangeTable, exchangeBody, exchangeOut};
@@ -83,7 +84,8 @@ pub extern "C" fn dxl_measure(table: &mut [u8], position: i32, hardware_error: u
     numbers::outcome(control_table::measure(table, position, hardware_error))
 }
 
-// A feeding call on a reader's record by its parts, the held bytes and their count. Demand 3 is promised of these calls.
+// A feeding call on a reader's record by its parts, the held bytes and their count. Demand 3 is promised of these calls, and
+// that the verdict sees a packet of which one byte or two neighbours were changed between length field and checksum.
 #[no_mangle]
 pub extern "C" fn dxl_feed(
     held: &mut [u8; 1030],
@@ -95,6 +97,7 @@ pub extern "C" fn dxl_feed(
     ensures { λ _. ⌜ lent (now (held .exit)) (now (count .exit)) ≡ leftBy (lent (now (held .entry)) (now (count .entry))) (Call·feed (now (chunk .entry))) ⌝ }
     ensures { λ _. ⌜ now (packet .exit) ≡ packetOn (lent (now (held .entry)) (now (count .entry))) (Call·feed (now (chunk .entry))) (now (packet .entry)) ⌝ }
     ensures { λ _. ⌜ Demand3 protocol2 records × NeverRefused ⌝ }
+    ensures { λ _. ⌜ BurstDetected ⌝ }
 {
     let n = *count;
     let told = reader::feed_into(held, n, chunk, packet);

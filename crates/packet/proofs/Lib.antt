@@ -1,4 +1,6 @@
 pub mod Header
 mod Rulings
 mod Looks
+pub mod Sums
 pub mod Laws
+pub mod Burst

@@ -1,6 +1,7 @@
 use mathlib.Core.Path.{ap₂, _∙_}
 use Rattle.reading.specs.Calls.{feed, call}
 use Rattle.packet.specs.Verdict.{protocol2}
+use Rattle.packet.proofs.Burst.{burst-detected}
 use Rattle.reader.specs.Records.{heldIn, lent, saidOn, leftBy, packetOn}
 use Rattle.reader.proofs.Answers.{packet-said}
 use Rattle.reader.proofs.Records.{records-demand, never-refused}
@@ -25,7 +26,7 @@ returns c =
     let e = c .before .feed-into .ensures in
     let packet-is = e .1 .1 ∙ packet-said (a .count .now) (call protocol2 (heldIn r) (feed (a .chunk .now))) (a .packet .now) in (
       c .told .ensures ∙ numbers-told (t .heard) (t .taken) (t .held) s (e .0),
-      (ap₂ lent (e .1 .0) (held-told (t .heard) (t .taken) (t .held) s (e .0)), (packet-is, (records-demand, never-refused))),
+      (ap₂ lent (e .1 .0) (held-told (t .heard) (t .taken) (t .held) s (e .0)), (packet-is, ((records-demand, never-refused), burst-detected))),
     )
 
 pub dxl-feed-spec : {M : Type 1} → statement M

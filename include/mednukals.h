@@ -307,6 +307,9 @@ struct dxl_reader {
  * Call it with the untaken rest until it answers DXL_NO_EVENT, or refuses, also where that rest is empty: several events may wait
  * in the held bytes, and a loop that stops when all bytes are taken leaves them there.
  *
+ * A packet of which one byte, or two side by side, were changed after the length field and before the checksum is never told as
+ * a packet: where reading comes to it, it is a bad checksum with the packet's ID.
+ *
  * The packet's bytes as received are written to packet, followed by 0 up to 1,031; beside any other answer that is no refusal
  * packet becomes all 0. The held bytes after an event are all bytes taken so far from where reading goes on; after DXL_NO_EVENT
  * they are the beginning of what may be a packet and is not all there, or none.

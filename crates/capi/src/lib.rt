@@ -17,6 +17,7 @@ ghost use Rattle.encoder.specs.RoundTrip.{RoundTrip};
 ghost use Rattle.table_rules.specs.Outcomes.{inTable};
 ghost use Rattle.control_table.specs.Answers.{freshOut, measureOut};
 ghost use Rattle.reading.specs.Calls.{feed as Call·feed, gap as Call·gap};
+ghost use Rattle.packet.specs.Burst.{BurstDetected};
 ghost use Rattle.reader.specs.Records.{saidOn, leftBy, lent, packetOn, ReaderPromises};
 ghost use Rattle.device.specs.Answers.{callAnswer, callRegistered, callTable, callOut};
 ghost use Rattle.device.specs.Promises.{DevicePromises};
@@ -91,8 +92,9 @@ pub extern "C" fn dxl_measure(table: &mut [u8], position: i32, hardware_error: u
     numbers::outcome(control_table::measure(table, position, hardware_error))
 }
 
-// A feeding call on a reader's record by its parts, the held bytes and their count. Demand 3 is promised of these calls.
-// [F1-F16 G5 K3 K7 N9 Q1-Q14 V1-V12]
+// A feeding call on a reader's record by its parts, the held bytes and their count. Demand 3 is promised of these calls, and
+// that the verdict sees a packet of which one byte or two neighbours were changed between length field and checksum.
+// [F1-F16 G5 K3 K7 N9 P11 Q1-Q14 V1-V12]
 #[no_mangle]
 pub extern "C" fn dxl_feed(
     held: &mut [u8; 1030],
@@ -104,6 +106,7 @@ pub extern "C" fn dxl_feed(
     ensures { λ _. ⌜ lent (now (held .exit)) (now (count .exit)) ≡ leftBy (lent (now (held .entry)) (now (count .entry))) (Call·feed (now (chunk .entry))) ⌝ }
     ensures { λ _. ⌜ now (packet .exit) ≡ packetOn (lent (now (held .entry)) (now (count .entry))) (Call·feed (now (chunk .entry))) (now (packet .entry)) ⌝ }
     ensures { λ _. ⌜ ReaderPromises ⌝ }
+    ensures { λ _. ⌜ BurstDetected ⌝ }
 {
     let n = *count;
     let step = framer::feed_in(held, n, chunk, packet);

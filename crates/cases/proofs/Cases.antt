@@ -8,6 +8,7 @@ use Prim.Native.Nat.{ℕ}
 use native.Mathlib.Omega.{arith}
 use lib.Dec.{eqb}
 use lib.ListN.{length}
+use lib.Seq.{take-length}
 use borrow.Author.Tests.{eqb-true}
 use Rattle.lists.proofs.Bools.{and-left, and-right, both-ways}
 use Rattle.reading.specs.Rules.{Verdict, isPacket, isBadChecksum, isWaiting, isNothing}
@@ -17,7 +18,7 @@ use Rattle.crc.specs.Crc.{reduceIf, shift, shifts, crcByte, crcFrom}
 use Rattle.stuffing.specs.Stuffing.{stuffAfter, stuff, wellAfter, wellStuffed, unstuffAfter, unstuff}
 use Rattle.stuffing.specs.Answers.{removalRefusal}
 use Rattle.packet_front.specs.Front.{lengthOf}
-use Rattle.packet.specs.Packet.{bodyOf, checksumRight}
+use Rattle.packet.specs.Packet.{bodyOf, checksumRight, WellFormed}
 use Rattle.packet_front.specs.Begun.{frontAgrees, lengthAgrees}
 use Rattle.packet.specs.Verdict.{verdict, protocol2}
 use Rattle.packet.proofs.Laws.{laws}
@@ -130,7 +131,11 @@ claimed : (c : Case) → right c ≡ true → Claim c
 claimed (packet id body bytes) e =
     let a = same (packetOf id body) bytes in
     let b = isPacketOf (verdict bytes) (length bytes) in
-    (same-lists (packetOf id body) bytes (and-left a b e), packet-of (verdict bytes) (length bytes) (and-right a b e))
+    let v = packet-of (verdict bytes) (length bytes) (and-right a b e) in (
+      same-lists (packetOf id body) bytes (and-left a b e),
+      v,
+      subst WellFormed (take-length bytes) (laws .sound bytes (length bytes) v .2),
+    )
 claimed (stuffing body stuffed) e =
     let a = same (stuff body) stuffed in
     let b = wellStuffed stuffed in

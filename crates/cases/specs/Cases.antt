@@ -7,6 +7,7 @@ use lib.ListN.{length, take, drop}
 use Rattle.reading.specs.Rules.{isPacket}
 use Rattle.reading.specs.Promise.{NoneAcross}
 use Rattle.stuffing.specs.Stuffing.{stuff, wellStuffed, unstuff}
+use Rattle.packet.specs.Packet.{WellFormed}
 use Rattle.packet.specs.Verdict.{verdict, protocol2}
 use Rattle.encoder.specs.Writing.{packetOf}
 use Rattle.registers.specs.Registers.{goalPosition}
@@ -34,7 +35,7 @@ pub data Case : Type 0 where
 
 -- what each case says
 abbrev pub Claim : Case → Type 0
-Claim (packet id body bytes) = (packetOf id body ≡ bytes) × (verdict bytes ≡ isPacket (length bytes))
+Claim (packet id body bytes) = (packetOf id body ≡ bytes) × (verdict bytes ≡ isPacket (length bytes)) × WellFormed bytes
 Claim (stuffing body stuffed) = (stuff body ≡ stuffed) × (wellStuffed stuffed ≡ true) × (unstuff stuffed ≡ body)
 Claim (exchange bytes before answer after) = (answerTo bytes before ≡ answer) × (leftBy bytes before ≡ after)
 Claim (refusal bytes before number) = packetError (before .table) (before .registered) bytes ≡ number
@@ -72,6 +73,10 @@ writeStatus = 0xFF ∷ 0xFF ∷ 0xFD ∷ 0x00 ∷ 0x01 ∷ 0x04 ∷ 0x00 ∷ 0x5
 abbrev pub lacksFF : List ℕ
 lacksFF = 0xFF ∷ 0xFF ∷ 0xFD ∷ 0x00 ∷ 0x01 ∷ 0x04 ∷ 0x00 ∷ 0x02 ∷ 0x41 ∷ 0x21 ∷ []
 
+-- Ping to 1 with its last body byte changed by 0F and the low byte of its checksum by 22: the checksum is right again
+abbrev pub spoiledPing : List ℕ
+spoiledPing = 0xFF ∷ 0xFF ∷ 0xFD ∷ 0x00 ∷ 0x01 ∷ 0x03 ∷ 0x00 ∷ 0x0E ∷ 0x3B ∷ 0x4E ∷ []
+
 -- ---- the cases
 
 abbrev pub table : List Case
@@ -83,6 +88,7 @@ table =
     ∷ packet 1 (0x55 ∷ 0x00 ∷ 0xA6 ∷ 0x00 ∷ 0x00 ∷ 0x00 ∷ []) readStatus
     ∷ packet 1 (0x03 ∷ 0x74 ∷ 0x00 ∷ 0x00 ∷ 0x02 ∷ 0x00 ∷ 0x00 ∷ []) writeGoal
     ∷ packet 1 (0x55 ∷ 0x00 ∷ []) writeStatus
+    ∷ packet 1 (0x0E ∷ []) spoiledPing
     -- bodies that end FF FF FD, FF FF FD FD and FF FF
     ∷ stuffing (0x03 ∷ 0xFF ∷ 0xFF ∷ 0xFD ∷ []) (0x03 ∷ 0xFF ∷ 0xFF ∷ 0xFD ∷ 0xFD ∷ [])
     ∷ stuffing (0x03 ∷ 0xFF ∷ 0xFF ∷ 0xFD ∷ 0xFD ∷ []) (0x03 ∷ 0xFF ∷ 0xFF ∷ 0xFD ∷ 0xFD ∷ 0xFD ∷ [])

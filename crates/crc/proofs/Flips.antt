@@ -10,7 +10,7 @@ use Rattle.crc.specs.Laws.{xorBytes}
 use Rattle.crc.specs.Flips.{Flipped}
 use Rattle.crc.proofs.Laws.{sum-laws}
 
-xor-zeros : (c : List ℕ) → xorBytes c (replicate (length c) 0) ≡ c
+pub xor-zeros : (c : List ℕ) → xorBytes c (replicate (length c) 0) ≡ c
 unfolding xorBytes
 xor-zeros [] = refl
 xor-zeros (x ∷ c) = ap₂ (λ (y : ℕ) (l : List ℕ). y ∷ l) (xor-zero-r x) (xor-zeros c)

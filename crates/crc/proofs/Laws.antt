@@ -31,13 +31,13 @@ adds s t (x ∷ a) (y ∷ b) e =
 pub sum-laws : SumLaws
 sum-laws = record { joined = joined; adds = adds }
 
-shift-lt : (c : ℕ) → shift c < 2 ^ 16
+pub shift-lt : (c : ℕ) → shift c < 2 ^ 16
 shift-lt c =
     let top : c / 2 ^ 15 % 2 < 2 = bit-lt (c / 2 ^ 15) in
     rw (shift-flat c)
     (xor-lt 16 (c * 2 % 2 ^ 16) (c / 2 ^ 15 % 2 * polynomial) (mod-lt (c * 2) (pow-pos 16)) (omega arith))
 
-shifts-lt : (n c : ℕ) → c < 2 ^ 16 → shifts n c < 2 ^ 16
+pub shifts-lt : (n c : ℕ) → c < 2 ^ 16 → shifts n c < 2 ^ 16
 unfolding shifts
 shifts-lt zero c h = h
 shifts-lt (suc n) c h = shifts-lt n (shift c) (shift-lt c)

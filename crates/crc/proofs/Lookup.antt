@@ -13,20 +13,7 @@ use Rattle.lists.proofs.Below.{allBelow, below}
 use Rattle.lists.proofs.Xor.{xor-assoc, xor-shl}
 use Rattle.crc.specs.Crc.{shifts, crcByte}
 use Rattle.crc.proofs.Linear.{shifts-xor}
-use Rattle.crc.proofs.Shifts.{shift-low}
-
-shifts-low : (c : ℕ) → c < 2 ^ 8 → shifts 8 c ≡ c * 2 ^ 8
-unfolding shifts
-shifts-low c h =
-    ap (shifts 7) (shift-low c (omega arith))
-    ∙ ap (shifts 6) (shift-low (c * 2) (omega arith))
-    ∙ ap (shifts 5) (shift-low (c * 2 * 2) (omega arith))
-    ∙ ap (shifts 4) (shift-low (c * 2 * 2 * 2) (omega arith))
-    ∙ ap (shifts 3) (shift-low (c * 2 * 2 * 2 * 2) (omega arith))
-    ∙ ap (shifts 2) (shift-low (c * 2 * 2 * 2 * 2 * 2) (omega arith))
-    ∙ ap (shifts 1) (shift-low (c * 2 * 2 * 2 * 2 * 2 * 2) (omega arith))
-    ∙ ap (shifts 0) (shift-low (c * 2 * 2 * 2 * 2 * 2 * 2 * 2) (omega arith))
-    ∙ omega arith
+use Rattle.crc.proofs.Shifts.{shifts-low}
 
 -- what is left of the low half, with what eight shifts make of the high half and the byte
 pub table-step : (c b : ℕ) → bitXor (c * 2 ^ 8 % 2 ^ 16) (shifts 8 (bitXor (c / 2 ^ 8) b * 2 ^ 8)) ≡ crcByte c b
@@ -39,7 +26,7 @@ table-step c b =
     low : c * 2 ^ 8 % 2 ^ 16 ≡ shifts 8 (c % 2 ^ 8)
     low =
         let e : c * 2 ^ 8 % 2 ^ 16 ≡ c % 2 ^ 8 * 2 ^ 8 = omega arith in
-        e ∙ sym (shifts-low (c % 2 ^ 8) (mod-lt c (pow-pos 8)))
+        e ∙ sym (shifts-low 8 (c % 2 ^ 8) (omega (arith, mod-lt c (pow-pos 8))))
 
     halves : bitXor (c % 2 ^ 8) (c / 2 ^ 8 * 2 ^ 8) ≡ c
     halves =

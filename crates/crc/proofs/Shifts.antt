@@ -2,9 +2,10 @@
 use mathlib.Core.Path.{_≡_, refl, sym, ap, _∙_}
 use mathlib.Core.List.{List, []}
 use Prim.Native.Nat.{ℕ, zero, suc, _+_, _*_, _/_, _%_, _^_, _<_}
-use native.Mathlib.Nat.{div-eq-of-lt, mod-eq-of-lt, zero-add, suc-add}
+use native.Mathlib.Nat.{div-eq-of-lt, mod-eq-of-lt, zero-add, suc-add, pow-suc}
 use native.Mathlib.Numerals.{add-one}
 use native.Mathlib.Omega.{arith}
+use lib.Pow.{pow-pos}
 use lib.Bits.{bitXor, xor-zero-r}
 use lib.ListN.{replicate}
 use Rattle.crc.specs.Crc.{reduceIf, shift, shifts, crcByte, crcFrom}
@@ -13,6 +14,22 @@ use Rattle.crc.specs.Crc.{reduceIf, shift, shifts, crcByte, crcFrom}
 pub shift-low : (c : ℕ) → c < 2 ^ 15 → shift c ≡ c * 2
 unfolding shift reduceIf
 shift-low c h = ap (λ (t : ℕ). reduceIf (t % 2) (c * 2 % 2 ^ 16)) (div-eq-of-lt h) ∙ mod-eq-of-lt (omega arith)
+
+-- and nothing leaves it in k shifts where its k highest bits are 0
+pub shifts-low : (k c : ℕ) → c * 2 ^ k < 2 ^ 16 → shifts k c ≡ c * 2 ^ k
+unfolding shifts
+shifts-low zero c h = omega arith
+shifts-low (suc k) c h =
+    let twice : c * 2 ^ suc k ≡ c * 2 * 2 ^ k = ap (λ (p : ℕ). c * p) (pow-suc 2 k) ∙ regroup c (2 ^ k) in
+    let low : c < 2 ^ 15 = half c (2 ^ k) (pow-pos k) (omega (arith, twice)) in
+    ap (shifts k) (shift-low c low) ∙ shifts-low k (c * 2) (omega (arith, twice)) ∙ sym twice
+  where
+    regroup : (c p : ℕ) → c * (p * 2) ≡ c * 2 * p
+    regroup c p = omega arith
+
+    half : (c p : ℕ) → 0 < p → c * 2 * p < 2 ^ 16 → c < 2 ^ 15
+    half c zero h l = absurd (omega arith)
+    half c (suc p) h l = omega arith
 
 pub shifts-zero : (n : ℕ) → shifts n 0 ≡ 0
 unfolding shifts

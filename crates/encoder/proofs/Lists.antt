@@ -36,11 +36,3 @@ seven-apart (x0 ∷ x1 ∷ x2 ∷ x3 ∷ []) h = absurd (omega arith)
 seven-apart (x0 ∷ x1 ∷ x2 ∷ x3 ∷ x4 ∷ []) h = absurd (omega arith)
 seven-apart (x0 ∷ x1 ∷ x2 ∷ x3 ∷ x4 ∷ x5 ∷ []) h = absurd (omega arith)
 seven-apart (x0 ∷ x1 ∷ x2 ∷ x3 ∷ x4 ∷ x5 ∷ x6 ∷ w) h = refl
-
--- all but the last two, and those
-pub last-two : (s : List ℕ) (n : ℕ) → length s ≡ n + 2 → take n s ++ getD s n 0 ∷ getD s (suc n) 0 ∷ [] ≡ s
-last-two [] n e = absurd (omega arith)
-last-two (x ∷ []) n e = absurd (omega arith)
-last-two (x ∷ y ∷ []) zero e = refl
-last-two (x ∷ y ∷ z ∷ s) zero e = absurd (omega arith)
-last-two (x ∷ y ∷ s) (suc n) e = ap (λ (l : List ℕ). x ∷ l) (last-two (y ∷ s) n (omega arith))

@@ -4,9 +4,8 @@ use mathlib.Core.Bool.{true}
 use mathlib.Core.List.{List, [], _∷_, _++_, append-assoc}
 use Prim.Native.Nat.{ℕ, suc, _+_, _-_, _≤_, _<_}
 use native.Mathlib.Omega.{arith}
-use lib.Dec.{eqb}
 use lib.ListN.{length, take, drop, getD, length-append, length-take, length-drop}
-use lib.Seq.{take-at, getD-at, getD-append-add, getD-drop}
+use lib.Seq.{take-at, getD-drop}
 use borrow.Author.Tests.{eqb-true, eq-eqb}
 use Rattle.crc.specs.Crc.{crcFrom}
 use Rattle.crc.proofs.Laws.{crc-lt}
@@ -20,7 +19,9 @@ use Rattle.packet.specs.Packet.{bodyOf, checksumRight, WellFormed}
 use Rattle.encoder.specs.Writing.{low, high, front, withChecksum, packetOf}
 use Rattle.encoder.specs.RoundTrip.{RoundTrip}
 use Rattle.lists.specs.Numbers.{Bytes}
-use Rattle.encoder.proofs.Lists.{seven-apart, last-two}
+use Rattle.lists.proofs.Parts.{last-two}
+use Rattle.packet.proofs.Sums.{sum-test}
+use Rattle.encoder.proofs.Lists.{seven-apart}
 use Rattle.encoder.proofs.Writing.{packet-length}
 
 -- a 16-bit number and its two bytes
@@ -32,17 +33,6 @@ low-word a b h = omega arith
 
 high-word : (a b : ℕ) → a < 256 → b < 256 → high (word a b) ≡ b
 high-word a b h k = omega arith
-
--- the checksum's test, where its two bytes follow the bytes s that it covers
-sum-test : (s : List ℕ) (a b : ℕ) → checksumRight (s ++ a ∷ b ∷ []) ≡ eqb (crcFrom 0 s) (word a b)
-unfolding checksumRight
-sum-test s a b =
-    let w = s ++ a ∷ b ∷ [] in
-    let n : length w ≡ length s + 2 = length-append s (a ∷ b ∷ []) in
-    let e : length w - 1 ≡ length s + 1 = omega arith in
-    ap₂ eqb (ap (crcFrom 0) (take-at s (a ∷ b ∷ []) (length w - 2) (omega arith)))
-    (ap₂ word (getD-at s a (b ∷ []) 0 (length w - 2) (omega arith))
-    (ap (λ (i : ℕ). getD w i 0) e ∙ getD-append-add s (a ∷ b ∷ []) 1 0))
 
 -- ---- a packet that was written
 

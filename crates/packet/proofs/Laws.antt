@@ -22,7 +22,7 @@ use Rattle.packet_front.proofs.Tests.{both, length-good, incomplete-early, inco
 use Rattle.packet.proofs.Rulings.{disagrees, waits, whole}
 use Rattle.packet_front.proofs.Agreement.{passes, passed, front-header, front-tests, front-agrees, front-before, front-same, size-same, length-same, length-before, length-bounds}
 
-abbrev agrees : List ℕ → Bool
+abbrev pub agrees : List ℕ → Bool
 agrees s = frontAgrees s && lengthAgrees s
 
 -- ---- agreement and completeness
@@ -32,7 +32,7 @@ agrees-before a b e =
     both a (front-before a b (and-left (frontAgrees (a ++ b)) (lengthAgrees (a ++ b)) e))
     (length-before a b (and-right (frontAgrees (a ++ b)) (lengthAgrees (a ++ b)) e))
 
-agrees-same : (a b : List ℕ) → 7 ≤ length a → agrees (a ++ b) ≡ agrees a
+pub agrees-same : (a b : List ℕ) → 7 ≤ length a → agrees (a ++ b) ≡ agrees a
 agrees-same a b h = cc (front-same a b (omega arith), length-same a b h)
 
 disagrees-still : (a b : List ℕ) → agrees a ≡ false → agrees (a ++ b) ≡ false
@@ -70,6 +70,13 @@ waits-by s e = waiting-only _ _ _ _ _ _ e
 -- the verdict where all bytes are there, by the packet's own bytes
 abbrev ruledBy : List ℕ → ℕ → ℕ → Ruling
 ruledBy w n id = ruling true true (checksumRight w) (wellStuffed (bodyOf w)) n id
+
+-- and where there are no others
+pub ruled-alone : (w : List ℕ) → agrees w ≡ true → 7 ≤ length w → sizeOf w ≡ length w → verdict w ≡ ruledBy w (length w) (idOf w)
+ruled-alone w a h n =
+    whole w a (completes w h (omega arith))
+    ∙ ap (λ (m : ℕ). ruledBy (take m w) m (idOf w)) n
+    ∙ ap (λ (v : List ℕ). ruledBy v (length w) (idOf w)) (take-length w)
 
 -- ---- what is decided stays
 
@@ -109,16 +116,13 @@ module _ (w : List ℕ) (f : WellFormed w) where
         fifth = passed goodId 4 w (f .identified);
       })
 
-  well-agrees : agrees w ≡ true
+  pub well-agrees : agrees w ≡ true
   well-agrees = let l = long in both w well-front (length-good w (omega arith) (f .shortest) (f .longest))
 
   found : verdict w ≡ isPacket (length w)
   found =
       let l = long in
-      let n : sizeOf w ≡ length w = sym (f .counted) in
-      whole w well-agrees (completes w (omega arith) (omega arith))
-      ∙ ap (λ (m : ℕ). ruledBy (take m w) m (idOf w)) n
-      ∙ ap (λ (v : List ℕ). ruledBy v (length w) (idOf w)) (take-length w) ∙ rw (f .summed, f .stuffed)
+      ruled-alone w well-agrees (omega arith) (sym (f .counted)) ∙ rw (f .summed, f .stuffed)
 
 found-first : (w x : List ℕ) → WellFormed w → verdict (w ++ x) ≡ isPacket (length w)
 found-first w x f =

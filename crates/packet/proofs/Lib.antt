@@ -1,5 +1,7 @@
 pub mod Header
 mod Rulings
 mod Looks
+pub mod Sums
 pub mod Laws
 pub mod Begins
+pub mod Burst

@@ -46,6 +46,23 @@ fn packets() {
     }
 }
 
+/// Ping to 1 with its body changed by 0F and the low byte of its checksum by 22 is a packet; with only one of the two changed it
+/// is none.
+#[test]
+fn ping_spoiled_up_to_its_checksum() {
+    let [(_, _, ping), ..] = PACKETS;
+    let changed = |by: [u8; 2]| [&ping[..7], &[ping[7] ^ by[0], ping[8] ^ by[1]], &ping[9..]].concat();
+    let spoiled = [0xFF, 0xFF, 0xFD, 0x00, 0x01, 0x03, 0x00, 0x0E, 0x3B, 0x4E];
+    assert_eq!(changed([0x0F, 0x22]), spoiled);
+    assert_eq!(packet_of(1, &[0x0E]), spoiled);
+    assert!(well_formed(&spoiled));
+    assert_eq!(exports::test::verdict(&spoiled, 0), (1, 0, 10));
+    for by in [[0x0F, 0], [0, 0x22]] {
+        assert!(!well_formed(&changed(by)));
+        assert_eq!(exports::test::verdict(&changed(by), 0), (2, 1, 0));
+    }
+}
+
 /// The packet goes through the reader to a device, and its status comes back.
 fn exchange(table: &mut [u8; 136], packet: &[u8]) -> Vec<u8> {
     let (mut held, mut count, mut found) = ([0; 1030], 0, [0; 1031]);

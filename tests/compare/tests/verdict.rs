@@ -66,6 +66,62 @@ fn one_byte_changed() {
     assert!([0, 2, 3].iter().all(|&kind: &usize| kinds[kind] > 500), "{kinds:?}");
 }
 
+/// One byte, or two side by side, changed after the length field and before the checksum: a bad checksum with the packet's ID, at
+/// every place, whatever follows. [P11]
+#[test]
+fn spoiled_neighbours() {
+    let mut rng = Rng::new(34);
+    let mut changed = [0; 3];
+    for _ in 0..1_500 {
+        let length = length(&mut rng);
+        let packet = packet(&mut rng, length);
+        if !well_formed(&packet) {
+            continue;
+        }
+        let end = packet.len() - 2;
+        let step = if packet.len() > 100 { rng.between(1, 40) } else { 1 };
+        for place in (7..end).step_by(step) {
+            let mut segment = packet.clone();
+            segment[place] ^= rng.byte();
+            if place + 1 < end && rng.one_in(2) {
+                segment[place + 1] ^= rng.byte();
+            }
+            if segment == packet {
+                continue;
+            }
+            changed[segment.iter().zip(&packet).filter(|(new, old)| new != old).count()] += 1;
+            assert!(!well_formed(&segment), "{segment:02x?}");
+            let following = rng.between(0, 12);
+            segment.extend(rng.bytes(following));
+            assert_eq!(exports::test::verdict(&segment, 0), (2, packet[4], 0), "at {place} of {segment:02x?}");
+            compare_at(&segment, 0);
+        }
+    }
+    assert!(changed[1] > 5_000 && changed[2] > 5_000, "{changed:?}");
+}
+
+/// The last body byte together with the low byte of the checksum is another matter: changed by 0F and 22 the sum is right again.
+/// [P11 X20]
+#[test]
+fn spoiled_up_to_the_checksum() {
+    let mut rng = Rng::new(35);
+    let mut packets = 0;
+    for _ in 0..2_000 {
+        let length = length(&mut rng);
+        let mut packet = packet(&mut rng, length);
+        if !well_formed(&packet) {
+            continue;
+        }
+        let end = packet.len() - 2;
+        packet[end - 1] ^= 0x0F;
+        packet[end] ^= 0x22;
+        let kind = compare_at(&packet, 0);
+        assert!(kind == 1 || kind == 0 && !well_formed(&packet), "{packet:02x?}");
+        packets += usize::from(kind == 1);
+    }
+    assert!(packets > 500, "{packets}");
+}
+
 /// Noise, beginnings, packets good and bad behind each other: the verdict at every offset and past the end. [P10 V6 V11]
 #[test]
 fn every_offset_of_noisy_segments() {

@@ -1,6 +1,7 @@
 use mathlib.Core.Path.{ap, _∙_}
 use Rattle.numbers.specs.Exported.{stepNumbers}
 use Rattle.reader.specs.Records.{saidOn, packetOn}
+use Rattle.packet.proofs.Burst.{burst-detected}
 use Rattle.reader.proofs.Records.{record-left, reader-promises}
 use borrow.Author.Needs.{needs}
 use Rattle.capi.proofs.dxl_feed.Statement.{statement}
@@ -17,7 +18,7 @@ unfolding saidOn packetOn
 returns c =
     let e = c .before .feed-in .ensures in (
       c .step .ensures ∙ ap stepNumbers (e .0),
-      (record-left (c .before .feed-in .result) _ _ _ (e .0) (e .1), (e .2, reader-promises)),
+      (record-left (c .before .feed-in .result) _ _ _ (e .0) (e .1), (e .2, (reader-promises, burst-detected))),
     )
 
 pub dxl-feed-spec : {M : Type 1} → statement M

@@ -98,25 +98,21 @@ two-halves c b =
         xor-assoc c (b / 16 * 2 ^ 12) (b % 16 * 2 ^ 8)
         ∙ ap (bitXor c) (xor-shifted (b / 16) 12 (b % 16 * 2 ^ 8) (omega (arith, mod-lt b (pow-pos 4))) ∙ omega (arith, split b 4))
 
--- by a table of 16: a look, and the two looks for a byte, with their indices
+-- by a table of 16: a look with half a byte, and the two looks for a byte
 abbrev pub looked : List ℕ → ℕ → ℕ → ℕ
 looked table c v = bitXor (c * 2 ^ 4 % 2 ^ 16) (getD table (bitXor (c / 2 ^ 12) v) 0)
 
-module _ (table : List ℕ) (r : Rule 12 4 table) (c b : ℕ) (hc : c < 2 ^ 16) (hb : b < 2 ^ 8) where
-  between : looked table c (b / 16) ≡ shifts 4 (bitXor c (b / 16 * 2 ^ 12))
-  between = looked-up 12 4 refl table r c (b / 16) hc (omega arith)
+module _ (table : List ℕ) (r : Rule 12 4 table) (c : ℕ) (hc : c < 2 ^ 16) where
+  shifted : (v : ℕ) → v < 2 ^ 4 → looked table c v ≡ shifts 4 (bitXor c (v * 2 ^ 12))
+  shifted v hv = looked-up 12 4 refl table r c v hc hv
 
-  pub high-lt : bitXor (c / 2 ^ 12) (b / 16) < 2 ^ 4
-  high-lt = index-lt 12 4 refl c (b / 16) hc (omega arith)
+  pub looked-lt : (v : ℕ) → v < 2 ^ 4 → looked table c v < 2 ^ 16
+  looked-lt v hv = subst (λ (x : ℕ). x < 2 ^ 16) (sym (shifted v hv)) (shifts-some-lt 3 (bitXor c (v * 2 ^ 12)))
 
-  between-lt : looked table c (b / 16) < 2 ^ 16
-  between-lt = subst (λ (x : ℕ). x < 2 ^ 16) (sym between) (shifts-some-lt 3 (bitXor c (b / 16 * 2 ^ 12)))
-
-  pub low-lt : bitXor (looked table c (b / 16) / 2 ^ 12) (b % 16) < 2 ^ 4
-  low-lt = index-lt 12 4 refl (looked table c (b / 16)) (b % 16) between-lt (omega (arith, mod-lt b (pow-pos 4)))
-
-  pub by-halves : looked table (looked table c (b / 16)) (b % 16) ≡ crcByte c b
-  by-halves =
-      looked-up 12 4 refl table r (looked table c (b / 16)) (b % 16) between-lt (omega (arith, mod-lt b (pow-pos 4)))
-      ∙ ap (λ (x : ℕ). shifts 4 (bitXor x (b % 16 * 2 ^ 12))) between
-      ∙ two-halves c b
+pub by-halves : (table : List ℕ) → Rule 12 4 table → (c b : ℕ) → c < 2 ^ 16 → b < 2 ^ 8
+    → looked table (looked table c (b / 16)) (b % 16) ≡ crcByte c b
+by-halves table r c b hc hb =
+    let h : b / 16 < 2 ^ 4 = omega arith in
+    shifted table r (looked table c (b / 16)) (looked-lt table r c hc (b / 16) h) (b % 16) (mod-lt b (pow-pos 4))
+    ∙ ap (λ (x : ℕ). shifts 4 (bitXor x (b % 16 * 2 ^ 12))) (shifted table r c hc (b / 16) h)
+    ∙ two-halves c b

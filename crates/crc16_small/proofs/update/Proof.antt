@@ -1,14 +1,16 @@
 -- The loop keeps: the table keeps its rule, the register has 16 bits, and going on from it over the bytes that are left gives
 -- the checksum of all.
-use mathlib.Core.Path.{_≡_, sym, ap, subst, _∙_}
+use mathlib.Core.Path.{_≡_, refl, sym, ap, subst, _∙_}
 use mathlib.Core.List.{List}
 use Prim.Native.Nat.{ℕ, _+_, _-_, _/_, _%_, _^_, _≤_, _<_}
+use native.Mathlib.Nat.{mod-lt}
 use native.Mathlib.Omega.{arith}
+use lib.Pow.{pow-pos}
 use lib.Bits.{bitXor}
 use lib.ListN.{length, getD, drop}
 use borrow.Author.Needs.{needs}
 use Rattle.crc.specs.Crc.{reduceIf, shift, shifts, crcByte, crcFrom}
-use Rattle.crc.proofs.Lookup.{Rule, rule, looked, high-lt, low-lt, by-halves}
+use Rattle.crc.proofs.Lookup.{Rule, rule, index-lt, looked, looked-lt, by-halves}
 use Rattle.crc.proofs.Laws.{sum-laws, crcByte-lt, crc-turn, crc-done}
 use Rattle.crc16_small.proofs.update.Statement.{statement}
 use Rattle.crc16_small.proofs.update.Tie as tie
@@ -31,40 +33,55 @@ shared-slice-read-byte c = omega arith
 cast-byte : tie.Need-cast-byte Inv-loop μ-loop
 cast-byte c = omega (arith, c .shared-slice-known .given (c .before .before .loop .i))
 
--- what is known of the register, the byte and the table at the two looks
-module _ (table : List ℕ) (r : Rule 12 4 table) (c : tie.After-shared-slice-known Inv-loop μ-loop) where
+-- half a byte, either one, makes an index with a register's four highest bits
+module _ (c : tie.After-shared-slice-known Inv-loop μ-loop) where
   abbrev crc : ℕ
   crc = c .before .before .loop .crc
 
   abbrev byte : ℕ
   byte = getD (c .before .before .before .args .bytes .now) (c .before .before .loop .i) 0
 
-  high : bitXor (crc / 2 ^ 12) (byte / 16) < 2 ^ 4
-  high = high-lt table r crc byte (c .before .before .loop .inv .2) (c .shared-slice-known .given (c .before .before .loop .i) .fits)
+  small : byte < 2 ^ 8
+  small = c .shared-slice-known .given (c .before .before .loop .i) .fits
 
-  low : bitXor (looked table crc (byte / 16) / 2 ^ 12) (byte % 16) < 2 ^ 4
-  low = low-lt table r crc byte (c .before .before .loop .inv .2) (c .shared-slice-known .given (c .before .before .loop .i) .fits)
+  low : byte % 16 < 2 ^ 4
+  low = mod-lt byte (pow-pos 4)
 
-  next : looked table (looked table crc (byte / 16)) (byte % 16) ≡ crcByte crc byte
-  next = by-halves table r crc byte (c .before .before .loop .inv .2) (c .shared-slice-known .given (c .before .before .loop .i) .fits)
+  indices : (x : ℕ) → x < 2 ^ 16 → (bitXor (x / 2 ^ 12) (byte / 16) < 2 ^ 4) × (bitXor (x / 2 ^ 12) (byte % 16) < 2 ^ 4)
+  indices x h = let b = small in (index-lt 12 4 refl x (byte / 16) h (omega arith), index-lt 12 4 refl x (byte % 16) h low)
+
+  -- at the second look, after one with either half
+  module _ (table : List ℕ) (r : Rule 12 4 table) where
+    abbrev after : ℕ → Type 0
+    after v =
+        (bitXor (looked table crc v / 2 ^ 12) (byte / 16) < 2 ^ 4) × (bitXor (looked table crc v / 2 ^ 12) (byte % 16) < 2 ^ 4)
+
+    second : after (byte / 16) × after (byte % 16)
+    second =
+        let b = small in
+        let small-crc = c .before .before .loop .inv .2 in
+        (indices _ (looked-lt table r crc small-crc (byte / 16) (omega arith)), indices _ (looked-lt table r crc small-crc (byte % 16) low))
+
+    next : looked table (looked table crc (byte / 16)) (byte % 16) ≡ crcByte crc byte
+    next = by-halves table r crc byte (c .before .before .loop .inv .2) small
 
 cast-between : tie.Need-cast-between Inv-loop μ-loop
-cast-between c = omega (arith, high _ (c .before .before .loop .inv .0) c)
+cast-between c = let i = indices c (crc c) (c .before .before .loop .inv .2) in omega arith
 
 mul-between : tie.Need-mul-between Inv-loop μ-loop
-mul-between c = omega (arith, high _ (c .before .before .loop .inv .0) c)
+mul-between c = let i = indices c (crc c) (c .before .before .loop .inv .2) in omega arith
 
 array-read-between : tie.Need-array-read-between Inv-loop μ-loop
-array-read-between c = high _ (c .before .before .loop .inv .0) c
+array-read-between c = let i = indices c (crc c) (c .before .before .loop .inv .2) in omega arith
 
 cast-crc : tie.Need-cast-crc Inv-loop μ-loop
-cast-crc c = omega (arith, low _ (c .before .before .loop .inv .0) c)
+cast-crc c = let i = second c _ (c .before .before .loop .inv .0) in omega arith
 
 mul-crc : tie.Need-mul-crc Inv-loop μ-loop
-mul-crc c = omega (arith, low _ (c .before .before .loop .inv .0) c)
+mul-crc c = let i = second c _ (c .before .before .loop .inv .0) in omega arith
 
 array-read-crc : tie.Need-array-read-crc Inv-loop μ-loop
-array-read-crc c = low _ (c .before .before .loop .inv .0) c
+array-read-crc c = let i = second c _ (c .before .before .loop .inv .0) in omega arith
 
 add-i : tie.Need-add-i Inv-loop μ-loop
 add-i c = omega arith
@@ -76,7 +93,7 @@ loop-again : tie.Need-loop-again Inv-loop μ-loop
 loop-again c =
     let h = c .before .before .loop in
     let s = c .before .before .before .args .bytes .now in
-    let e = next _ (h .inv .0) c in (
+    let e = next c _ (h .inv .0) in (
       h .inv .0,
       omega arith,
       subst (λ (x : ℕ). x < 2 ^ 16) (sym e) (crcByte-lt (h .crc) (getD s (h .i) 0)),

@@ -6,7 +6,7 @@ SHELL := /bin/sh
 # rt works in one target/ folder, so two of its runs must never overlap.
 .NOTPARALLEL:
 .PHONY: help run checksum demo lib test fuzz replay bench memory mutants fmt clean kit format promises_test vectors_test c_test header_test demo_test rust_test
-.PHONY: fuzz_program replay_file
+.PHONY: fuzz_program replay_file leaf_test
 
 # Each crate listed here becomes an archive for C: capi is libmednukals.a, capi_NAME is libmednukals_NAME.a.
 EXPORT_CRATES := capi capi_test
@@ -31,6 +31,7 @@ help:
 	@echo 'make checksum  print the checksum and byte count of a file, likewise (CAPTURE=FILE or -)'
 	@echo 'make demo   run a device in C on a pseudo-terminal, talk to it and show the exchanges'
 	@echo 'make lib    prove the exports and build the archives that C links: $(LIBS)'
+	@echo 'make lib LEAF=small  prove them over the small checksum leaf, for boards with little flash: $(SMALL)'
 	@echo 'make test   the gate: formatting, every proof from nothing and every must-fail edit, C and Rust tests'
 	@echo 'make fuzz   compare all exports with the second implementation for 10 minutes (SECONDS=N, SEED=S)'
 	@echo 'make replay FILE=FILE  run a case again in which make fuzz has found a difference'
@@ -63,7 +64,16 @@ $(PROGRAMS:%=build/bin/%): build/bin/%: $(SOURCES)
 	@rt check $* || $(call failed,proving and building the program $*)
 	@mkdir -p $(@D) && cp target/bin/$* $@
 
-lib: $(LIBS)
+# LEAF=small: the exports over the checksum's leaf for boards with little flash.
+SMALL := build/lib/libmednukals_small.a
+lib: $(if $(filter small,$(LEAF)),$(SMALL),$(LIBS))
+
+# The callers of the leaf are proved over the other one in a copy of the tree, so that this may run beside rt.
+$(SMALL): $(SOURCES) tests/other_leaf.py
+	@$(call need,rt)
+	@$(call need,python3)
+	@python3 tests/other_leaf.py crc16_small build/small || $(call failed,the exports over the small leaf)
+	@mkdir -p $(@D) && cp build/small/libmednukals.a $@
 
 define archive_rule
 $(call archive,$(1)): $(SOURCES)
@@ -104,6 +114,14 @@ build/c/parts: tests/c/parts.c examples/parts.c examples/parts.h include/mednuka
 	@mkdir -p $(@D)
 	@$(CC) $(WARNINGS) -O2 -Iinclude -Iexamples -o $@ tests/c/parts.c examples/parts.c build/lib/libmednukals.a \
 	    || $(call failed,compiling the example that sends in parts)
+
+# The small archive: what has no table, and what the tests say of it.
+leaf_test: $(LIBS) $(SMALL) build/bin/line
+	@$(call need,cargo)
+	@python3 tests/check_small.py build/lib/libmednukals.a $(SMALL) || $(call failed,the size of the small archive)
+	@python3 tests/check_header.py include/mednukals.h $(SMALL) || $(call failed,the header beside the small archive)
+	@cd tests && MEDNUKALS_ARCHIVES=build/small CARGO_TARGET_DIR=../build/rust_small cargo test --release --offline --quiet \
+	    --package compare || $(call failed,the comparison tests of the small archive)
 
 BOARD_SOURCES := examples/board.c examples/pty_line.c
 build/c/board: $(BOARD_SOURCES) examples/pty_line.h include/mednukals.h build/lib/libmednukals.a

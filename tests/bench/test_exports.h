@@ -1,4 +1,4 @@
-/* The exports of libmednukals_test.a that the benchmark calls: what dxl_feed stands on. */
+/* The exports of libmednukals_test.a that the benchmark calls: the small checksum, and what dxl_feed stands on. */
 #ifndef TEST_EXPORTS_H
 #define TEST_EXPORTS_H
 
@@ -19,6 +19,9 @@ struct value_step {
     uint8_t kind, id;
     uint8_t bytes[DXL_MAX_PACKET];
 };
+
+/* As dxl_crc16, by a table of sixteen numbers: what it is in libmednukals_small.a. */
+uint16_t dxl_test_crc16_small(uint16_t start, const uint8_t *bytes, size_t n);
 
 /* The core of dxl_feed: it clears the record past the held bytes, and does not clear the packet buffer past the packet. */
 struct core_step dxl_test_core_feed(uint8_t held[1030], size_t count, const uint8_t *chunk, size_t n, uint8_t packet[1031]);

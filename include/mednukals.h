@@ -1,8 +1,8 @@
 /*
  * Mednukals: the bus side of a DYNAMIXEL Protocol 2.0 device.
  *
- * Link with libmednukals.a. What is said of each function here is proved for every input, as long as the caller keeps to the
- * following, which C cannot check:
+ * Link with libmednukals.a, or with libmednukals_small.a, in which the checksum has a table of 32 bytes and not of 512. What is
+ * said of each function here is proved for every input, as long as the caller keeps to the following, which C cannot check:
  *
  * - A pointer and the length after it name memory that is the caller's for the whole call. The pointer is valid and not null,
  *   also where the length is 0 (then nothing is read or written through it).

@@ -1,6 +1,6 @@
 """Builds the exports over the other checksum leaf: usage other_leaf.py LEAF FOLDER, in the repository's root
 
-A copy of the tree is made outside the repository, in which the callers of the leaf `crc16` name LEAF instead: in their sources,
+Both leaves make the same promise to the letter. A copy of the tree is made outside the repository, in which the callers of the leaf `crc16` name LEAF instead: in their sources,
 their proofs and crates.txt, and nothing else. There the callers and all crates from them up to the exports are proved, and the
 archives of the exports go to FOLDER. Crates that do not stand on the leaf are not proved again where target/ has them proved.
 """
@@ -15,6 +15,12 @@ LEAF = "crc16"
 ARCHIVES = {"capi": "libmednukals.a", "capi_test": "libmednukals_test.a"}
 KEPT = ["rlib", "obj", "bin", "log", "stamp"]  # of target/: what rt goes by to see that a crate is proved
 NAMED = re.compile(rf"(?<![\w-]){LEAF}(?=::|\.)")  # as a source calls it and a proof cites it
+
+
+def promise(leaf):
+    """The head of the leaf's function, with the definitions that it cites."""
+    source = Path("crates", leaf, "src", "lib.rt").read_text(encoding="utf-8")
+    return re.findall(r"^ghost use .*$", source, flags=re.M), re.search(r"^pub fn update.*?^\{", source, flags=re.M | re.S).group()
 
 
 def dependencies(text):
@@ -53,6 +59,8 @@ def rt(room, *words):
 
 
 def main(leaf, folder):
+    if promise(leaf) != promise(LEAF):
+        sys.exit(f"other_leaf: {leaf}::update and {LEAF}::update do not make the same promise")
     folder = Path(folder)
     folder.mkdir(parents=True, exist_ok=True)
     with tempfile.TemporaryDirectory(prefix="mednukals-") as name:

@@ -25,7 +25,7 @@ KEPT = ["rlib", "obj", "bin", "log", "stamp"]  # of target/: what rt goes by to 
 ARCHIVES = {"capi": "libmednukals.a", "capi_test": "libmednukals_test.a"}
 PROGRAMS = ["line", "checksum"]
 TESTS = ["c_test", "header_test", "install_test", "docs_test", "programs_test", "demo_test",
-         "rust_test"]
+         "rust_test", "leaf_test"]
 # what the tests link is there: make must not call rt beside the command
 MADE = [f"build/lib/{archive}" for archive in ARCHIVES.values()] + [f"build/bin/{program}" for program in PROGRAMS]
 MOST_LINES, MOST_CHARACTERS = 40, 500  # of what a failed proof says
@@ -75,7 +75,7 @@ class Tests(threading.Thread):
         """The tests by make, whose lines are handed on as they come."""
         old = [f"--old-file={file}" for file in MADE]
         make = subprocess.Popen(["make", "--no-print-directory", *old, *TESTS], stdout=subprocess.PIPE, stderr=subprocess.STDOUT,
-                                text=True)
+                                text=True, env={**os.environ, "RT_JOBS": "1"})  # leaf_test proves crates
         for line in make.stdout:
             print(line, end="", flush=True)
         return "a test" if make.wait() != 0 else ""

@@ -8,7 +8,7 @@ ghost use Rattle.crc.specs.Crc.{crcFrom};
 ghost use Rattle.crc.specs.Laws.{SumLaws};
 
 // The register after the bytes, from start, which may be the sum of earlier bytes: the laws of the sum are promised too. Each
-// byte goes in by its halves, the high one first.
+// byte goes in by its halves, the high one first. [C1-C5 C7-C8 C10]
 pub fn update(start: u16, bytes: &[u8]) -> u16
     ensures { λ crc. ⌜ crc ≡ crcFrom start (now (bytes .entry)) ⌝ }
     ensures { λ _. ⌜ SumLaws ⌝ }

@@ -5,7 +5,7 @@ SHELL := /bin/sh
 .DELETE_ON_ERROR:
 # rt works in one target/ folder, so two of its runs must never overlap.
 .NOTPARALLEL:
-.PHONY: help run checksum demo lib install test fuzz replay bench memory mutants promises fmt clean kit format promises_test constants_test vectors_test c_test header_test demo_test programs_test install_test docs_test make_test rust_test
+.PHONY: help run checksum demo lib install test fuzz replay bench memory mutants promises fmt clean kit format promises_test constants_test vectors_test c_test header_test demo_test programs_test install_test docs_test make_test rust_test leaf_test
 .PHONY: fuzz_program replay_file
 
 # Each crate listed here becomes an archive for C: capi is libmednukals.a, capi_NAME is libmednukals_NAME.a.
@@ -14,6 +14,10 @@ PROGRAMS := checksum line
 
 archive = build/lib/$(patsubst capi%,libmednukals%,$(1)).a
 LIBS := $(foreach crate,$(EXPORT_CRATES),$(call archive,$(crate)))
+SMALL := build/lib/libmednukals_small.a
+MADE_LIBS := $(if $(filter small,$(LEAF)),$(SMALL),$(LIBS))
+$(if $(filter-out small,$(LEAF)),$(error mednukals: LEAF=$(LEAF): only LEAF=small is known))
+$(if $(LEAF),$(if $(filter-out lib,$(MAKECMDGOALS)),$(error mednukals: LEAF=small is for make lib alone)))
 # Folders stand in the list too, so that a file added or removed counts as a change.
 SOURCES := crates.txt $(shell find crates -path '*/must-fail' -prune -o -print)
 
@@ -39,12 +43,13 @@ use it
       CAPTURE=FILE         a file of your own; - is standard input
   make demo                run a device in C on a pseudo-terminal, talk to it and show the exchanges
   make lib                 prove the exports and build the archives that C links, under build/lib
+      LEAF=small           over the small checksum function, for boards with little flash
   make install             put header, archive and a pkg-config file below /usr/local
       PREFIX=DIR           below that folder
       DESTDIR=DIR          staged below that one, for a package
 
 prove and test it
-  make test                the gate: every proof from nothing, every must-fail edit, and all that follows down to rust_test
+  make test                the gate: every proof from nothing, every must-fail edit, and all that follows down to leaf_test
   make kit                 the tools that are needed, and the kit's version
   make format              the layout of the Rattle files
   make promises_test       docs/PROMISES.md and docs/BELIEVE.md beside the tree
@@ -58,6 +63,7 @@ prove and test it
   make programs_test       the programs line and checksum where something is wrong
   make demo_test           the example board and its master
   make rust_test           every export beside the second implementation
+  make leaf_test           the exports over the small checksum function: no large table, and the same beside it
   make fuzz                the same on random cases, for ten minutes
       SECONDS=N            for so long
       SEED=S               the cases of an earlier run
@@ -99,8 +105,16 @@ $(PROGRAMS:%=build/bin/%): build/bin/%: $(SOURCES)
 	@$(call step,program-$*,proving and building the program $*) rt check $*
 	@mkdir -p $(@D) && cp target/bin/$* $@
 
-lib: $(LIBS)
-	@echo 'archives: $(LIBS)'
+# LEAF=small: the exports over the checksum function for boards with little flash.
+lib: $(MADE_LIBS)
+	@echo 'archives: $(MADE_LIBS)'
+
+# The callers of that function are proved over the other one in a copy of the tree, so that this may run beside rt.
+$(SMALL): $(SOURCES) KIT tests/other_leaf.py
+	@$(call need,rt)
+	@$(call need,python3)
+	@$(call step,archive-small,proving the exports over the small checksum and building $@) python3 tests/other_leaf.py crc16_small build/small
+	@mkdir -p $(@D) && cp build/small/libmednukals.a $@
 
 # As CAPTURE above, these names are their own.
 install: export MEDNUKALS_PREFIX := $(if $(value PREFIX),$(value PREFIX),/usr/local)
@@ -231,6 +245,16 @@ vectors_test:
 rust_test: $(LIBS) build/bin/line
 	@$(call need,cargo)
 	@$(call step,rust_test,comparison with the second implementation) sh -c 'cd tests && exec cargo test --release --offline --quiet'
+
+# Over the small checksum function: the header, the table that must not be there, and the comparison tests.
+leaf_test: $(LIBS) $(SMALL) build/bin/line
+	@$(call need,cargo)
+	@$(call need,python3)
+	@$(call need,size)
+	@$(call step,small,small archive: no large table) python3 tests/check_small.py build/lib/libmednukals.a $(SMALL)
+	@$(call step,small-header,header beside the small archive) python3 tests/check_header.py include/mednukals.h $(SMALL)
+	@$(call step,small-rust,small archive beside the second implementation) env MEDNUKALS_ARCHIVES=build/small CARGO_TARGET_DIR=../build/rust_small \
+	    sh -c 'cd tests && cargo test --release --offline --quiet --package compare'
 
 # Ends at the first difference, with a file under build/fuzz that replays it. The same seed gives the same cases.
 SECONDS ?= 600

@@ -1,7 +1,8 @@
 /*
  * Mednukals: the bus side of a DYNAMIXEL Protocol 2.0 device.
  *
- * Link with libmednukals.a. docs/INTEGRATING.md is about the firmware around these calls.
+ * Link with libmednukals.a, or with libmednukals_small.a, in which the checksum has a table of 32 bytes and not of 512.
+ * docs/INTEGRATING.md is about the firmware around these calls.
  *
  * What is said of each function here is proved for every input, as long as the caller keeps to the following, which C cannot
  * check:

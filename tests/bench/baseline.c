@@ -19,6 +19,18 @@ uint16_t baseline_crc16(uint16_t start, const uint8_t *bytes, size_t n)
     return crc;
 }
 
+/* Half a byte at a time; the entries are the first sixteen of the large table. */
+uint16_t baseline_crc16_small(uint16_t start, const uint8_t *bytes, size_t n)
+{
+    static const uint16_t halves[16] = {SIXTEEN(0)};
+    uint16_t crc = start;
+    for (size_t i = 0; i < n; i++) {
+        crc = (uint16_t)(crc << 4) ^ halves[(crc >> 12) ^ (bytes[i] >> 4)];
+        crc = (uint16_t)(crc << 4) ^ halves[(crc >> 12) ^ (bytes[i] & 15)];
+    }
+    return crc;
+}
+
 enum { LONGEST_BODY = 1022, AROUND_BODY = 9 };
 
 /* A count of the FF at the end of what was seen, up to 2: FF FF FD is complete where FD comes at 2. */

@@ -53,6 +53,16 @@ static uint16_t crc_baseline(uint16_t last, size_t n)
     return baseline_crc16(last, input, n);
 }
 
+static uint16_t small_ours(uint16_t last, size_t n)
+{
+    return dxl_test_crc16_small(last, input, n);
+}
+
+static uint16_t small_baseline(uint16_t last, size_t n)
+{
+    return baseline_crc16_small(last, input, n);
+}
+
 /* The checksum of n bytes of which byte 4 was changed: from the one before, and by a whole pass in C. */
 static uint16_t flip_ours(uint16_t last, size_t n)
 {
@@ -357,6 +367,13 @@ static int measure_bytes(const char *what, work *ours, work *baseline, size_t n)
     return measure(what, ours, baseline, n, (double)n * 1e-6, "MB/s");
 }
 
+static int measure_small(void)
+{
+    return measure_bytes("checksum, sixteen numbers", small_ours, small_baseline, 14)
+           && measure_bytes("checksum, sixteen numbers", small_ours, small_baseline, 1031)
+           && measure_bytes("checksum, sixteen numbers", small_ours, small_baseline, LARGEST);
+}
+
 static int measure_flips(size_t n)
 {
     return measure("flipped byte, or a whole pass", flip_ours, flip_baseline, n, 1e-6, "Mcalls/s");
@@ -444,8 +461,8 @@ int main(int n_words, char **words)
     printf("size: bytes of a call, for the reader of a chunk; ratio: ours to baseline, median of %d rounds\n\n", ROUNDS);
     printf("%-30s %8s %-8s %10s %10s %8s\n", "what", "size", "unit", "ours", "baseline", "ratio");
     int good = measure_bytes("checksum", crc_ours, crc_baseline, 14) && measure_bytes("checksum", crc_ours, crc_baseline, 1031)
-               && measure_bytes("checksum", crc_ours, crc_baseline, LARGEST) && measure_flips(14) && measure_flips(1031)
-               && measure_flips(LARGEST)
+               && measure_bytes("checksum", crc_ours, crc_baseline, LARGEST) && measure_small() && measure_flips(14)
+               && measure_flips(1031) && measure_flips(LARGEST)
                && measure_bytes("encode", encode_ours, encode_baseline, 14)
                && measure_bytes("encode", encode_ours, encode_baseline, DXL_MAX_PACKET) && measure_reader()
                && measure_instructions();

@@ -8,6 +8,8 @@ ghost use mathlib.Core.List.{_∷_};
 ghost use Prim.Native.Nat.{min};
 ghost use lib.ListN.{length, take, drop, replicate};
 ghost use Rattle.lists.specs.Write.{overwritten};
+ghost use Rattle.crc.specs.Crc.{crcFrom};
+ghost use Rattle.crc.specs.Laws.{SumLaws};
 ghost use Rattle.stuffing.specs.Stuffing.{stuff};
 ghost use Rattle.stuffing.specs.Answers.{checked};
 ghost use Rattle.reading.specs.Calls.{feed as Call·feed};
@@ -24,6 +26,15 @@ pub struct VerdictNumbers {
     pub kind: u8,
     pub id: u8,
     pub count: usize,
+}
+
+// The checksum by the leaf with sixteen numbers.
+#[no_mangle]
+pub extern "C" fn dxl_test_crc16_small(start: u16, bytes: &[u8]) -> u16
+    ensures { λ crc. ⌜ crc ≡ crcFrom start (now (bytes .entry)) ⌝ }
+    ensures { λ _. ⌜ SumLaws ⌝ }
+{
+    crc16_small::update(start, bytes)
 }
 
 // 1 where the body is well stuffed, otherwise 0.

@@ -42,9 +42,14 @@ unfolding shifts
 shifts-lt zero c h = h
 shifts-lt (suc n) c h = shifts-lt n (shift c) (shift-lt c)
 
+-- one shift brings any number within the register
+pub shifts-some-lt : (n c : ℕ) → shifts (suc n) c < 2 ^ 16
+unfolding shifts
+shifts-some-lt n c = shifts-lt n (shift c) (shift-lt c)
+
 pub crcByte-lt : (c b : ℕ) → crcByte c b < 2 ^ 16
-unfolding crcByte shifts
-crcByte-lt c b = shifts-lt 7 (shift (bitXor c (b * 2 ^ 8))) (shift-lt (bitXor c (b * 2 ^ 8)))
+unfolding crcByte
+crcByte-lt c b = shifts-some-lt 7 (bitXor c (b * 2 ^ 8))
 
 pub crc-lt : (start : ℕ) (s : List ℕ) → start < 2 ^ 16 → crcFrom start s < 2 ^ 16
 unfolding crcFrom

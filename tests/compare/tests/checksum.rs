@@ -1,7 +1,7 @@
 //! The checksum: the proved export and the reference give the same.
 
 use compare::{compare_flipped, must_agree, published, Published, Status, PROVED};
-use exports::{crc16, crc16_flipped};
+use exports::{crc16, crc16_flipped, test::crc16_small};
 use reference::{checksum, Rng};
 
 /// The two bytes at the end are the checksum of all before them, low byte first, by both implementations.
@@ -38,6 +38,7 @@ fn random_slices_whole_and_in_parts() {
         let start = rng.word() as u16;
         let sum = checksum(start, &bytes);
         assert_eq!(crc16(start, &bytes), sum, "case {case}: {count} bytes from {start:04x}");
+        assert_eq!(crc16_small(start, &bytes), sum, "case {case}: {count} bytes from {start:04x}, by sixteen numbers");
 
         let count = match case % 3 {
             0 => 2,
@@ -57,19 +58,23 @@ fn random_slices_whole_and_in_parts() {
 fn every_start_without_bytes_and_with_one() {
     let mut rng = Rng::new(2);
     for start in 0..=u16::MAX {
-        assert_eq!(crc16(start, &[]), start);
         let byte = rng.byte();
-        assert_eq!(crc16(start, &[byte]), checksum(start, &[byte]), "from {start:04x}, byte {byte:02x}");
+        for crc16 in [crc16, crc16_small] {
+            assert_eq!(crc16(start, &[]), start);
+            assert_eq!(crc16(start, &[byte]), checksum(start, &[byte]), "from {start:04x}, byte {byte:02x}");
+        }
     }
 }
 
-/// [C2]
+/// [C2 C10]
 #[test]
 fn every_byte_from_every_high_half() {
     for high in 0..=255u8 {
         for byte in 0..=255u8 {
             let start = u16::from_be_bytes([high, 0x5A]);
-            assert_eq!(crc16(start, &[byte]), checksum(start, &[byte]), "from {start:04x}, byte {byte:02x}");
+            for crc16 in [crc16, crc16_small] {
+                assert_eq!(crc16(start, &[byte]), checksum(start, &[byte]), "from {start:04x}, byte {byte:02x}");
+            }
         }
     }
 }
@@ -78,6 +83,7 @@ fn every_byte_from_every_high_half() {
 fn a_megabyte() {
     let bytes = Rng::new(3).bytes(1 << 20);
     assert_eq!(crc16(0, &bytes), checksum(0, &bytes));
+    assert_eq!(crc16_small(0, &bytes), checksum(0, &bytes));
 }
 
 /// [C4 G2 K6 P8]

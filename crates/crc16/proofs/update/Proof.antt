@@ -1,20 +1,20 @@
 -- The loop keeps: the table keeps its rule, the register has 16 bits, and going on from it over the bytes that are left gives
 -- the checksum of all.
-use mathlib.Core.Path.{_≡_, sym, ap, subst, _∙_}
+use mathlib.Core.Path.{_≡_, refl, sym, ap, subst, _∙_}
 use Prim.Native.Nat.{ℕ, _+_, _-_, _/_, _^_, _≤_, _<_}
 use native.Mathlib.Omega.{arith}
 use lib.Bits.{bitXor}
 use lib.ListN.{length, getD, drop}
 use borrow.Author.Needs.{needs}
 use Rattle.crc.specs.Crc.{reduceIf, shift, shifts, crcFrom}
-use Rattle.crc.proofs.Lookup.{Rule, rule, looked-up, index-lt}
+use Rattle.crc.proofs.Lookup.{Rule, rule, by-byte, index-lt}
 use Rattle.crc.proofs.Laws.{sum-laws, crcByte-lt, crc-turn, crc-done}
 use Rattle.crc16.proofs.update.Statement.{statement}
 use Rattle.crc16.proofs.update.Tie as tie
 
 abbrev Inv-loop : tie.InvT-loop
 Inv-loop start bytes table crc₀ i₀ crc i =
-    Rule table × (i ≤ length bytes) × (crc < 2 ^ 16) × (crcFrom crc (drop i bytes) ≡ crcFrom start bytes)
+    Rule 8 8 table × (i ≤ length bytes) × (crc < 2 ^ 16) × (crcFrom crc (drop i bytes) ≡ crcFrom start bytes)
 
 abbrev μ-loop : tie.MeasureT-loop
 μ-loop start bytes table crc₀ i₀ crc i = length bytes - i
@@ -22,7 +22,7 @@ abbrev μ-loop : tie.MeasureT-loop
 -- the test of all 256 entries is computed here
 loop-holds : tie.Need-loop-holds Inv-loop μ-loop
 unfolding reduceIf shift shifts
-loop-holds c = (rule _ tt, search needs, search needs, search needs)
+loop-holds c = (rule 8 8 _ tt, search needs, search needs, search needs)
 
 shared-slice-read-crc : tie.Need-shared-slice-read-crc Inv-loop μ-loop
 shared-slice-read-crc c = omega arith
@@ -32,7 +32,7 @@ cast-crc c = omega (arith, c .shared-slice-known .given (c .before .before .loop
 
 index : (c : tie.After-shared-slice-known Inv-loop μ-loop)
     → bitXor (c .before .before .loop .crc / 2 ^ 8) (getD (c .before .before .before .args .bytes .now) (c .before .before .loop .i) 0) < 2 ^ 8
-index c = index-lt _ _ (c .before .before .loop .inv .2) (c .shared-slice-known .given (c .before .before .loop .i) .fits)
+index c = index-lt 8 8 refl _ _ (c .before .before .loop .inv .2) (c .shared-slice-known .given (c .before .before .loop .i) .fits)
 
 cast-crc-2 : tie.Need-cast-crc-2 Inv-loop μ-loop
 cast-crc-2 c = omega (arith, index c)
@@ -53,7 +53,7 @@ loop-again : tie.Need-loop-again Inv-loop μ-loop
 loop-again c =
     let h = c .before .before .loop in
     let s = c .before .before .before .args .bytes .now in
-    let next = looked-up _ (h .inv .0) (h .crc) (getD s (h .i) 0) (h .inv .2) (c .shared-slice-known .given (h .i) .fits) in (
+    let next = by-byte _ (h .inv .0) (h .crc) (getD s (h .i) 0) (h .inv .2) (c .shared-slice-known .given (h .i) .fits) in (
       h .inv .0,
       omega arith,
       subst (λ (x : ℕ). x < 2 ^ 16) (sym next) (crcByte-lt (h .crc) (getD s (h .i) 0)),

@@ -17,6 +17,7 @@ LIBS := $(foreach crate,$(EXPORT_CRATES),$(call archive,$(crate)))
 SMALL := build/lib/libmednukals_small.a
 MADE_LIBS := $(if $(filter small,$(LEAF)),$(SMALL),$(LIBS))
 $(if $(filter-out small,$(LEAF)),$(error mednukals: LEAF=$(LEAF): only LEAF=small is known))
+$(if $(LEAF),$(if $(filter-out lib,$(MAKECMDGOALS)),$(error mednukals: LEAF=small is for make lib alone)))
 # Folders stand in the list too, so that a file added or removed counts as a change.
 SOURCES := crates.txt $(shell find crates -path '*/must-fail' -prune -o -print)
 
@@ -109,7 +110,7 @@ lib: $(MADE_LIBS)
 	@echo 'archives: $(MADE_LIBS)'
 
 # The callers of that function are proved over the other one in a copy of the tree, so that this may run beside rt.
-$(SMALL): $(SOURCES) tests/other_leaf.py
+$(SMALL): $(SOURCES) KIT tests/other_leaf.py
 	@$(call need,rt)
 	@$(call need,python3)
 	@$(call step,archive-small,proving the exports over the small checksum and building $@) python3 tests/other_leaf.py crc16_small build/small
@@ -248,6 +249,8 @@ rust_test: $(LIBS) build/bin/line
 # Over the small checksum function: the header, the table that must not be there, and the comparison tests.
 leaf_test: $(LIBS) $(SMALL) build/bin/line
 	@$(call need,cargo)
+	@$(call need,python3)
+	@$(call need,size)
 	@$(call step,small,small archive: no large table) python3 tests/check_small.py build/lib/libmednukals.a $(SMALL)
 	@$(call step,small-header,header beside the small archive) python3 tests/check_header.py include/mednukals.h $(SMALL)
 	@$(call step,small-rust,small archive beside the second implementation) env MEDNUKALS_ARCHIVES=build/small CARGO_TARGET_DIR=../build/rust_small \

@@ -14,14 +14,14 @@ from pathlib import Path
 
 LEAF = "crc16"
 ARCHIVES = {"capi": "libmednukals.a", "capi_test": "libmednukals_test.a"}
-KEPT = ["rlib", "obj", "bin", "log", "stamp"]  # of target/: what rt goes by to see that a crate is proved
+KEPT = ["rlib", "stamp"]  # of target/: what rt goes by to see that a crate is proved
 NAMED = re.compile(rf"(?<![\w-]){LEAF}(?=::|\.)")  # as a source calls it and a proof cites it
 
 
 def promise(leaf):
     """The head of the leaf's function, with the definitions that it cites."""
     source = Path("crates", leaf, "src", "lib.rt").read_text(encoding="utf-8")
-    return re.findall(r"^ghost use .*$", source, flags=re.M), re.search(r"^pub fn update.*?^\{", source, flags=re.M | re.S).group()
+    return re.findall(r"^ghost use .*?;", source, flags=re.M | re.S), re.search(r"^pub fn update.*?^\{", source, flags=re.M | re.S).group()
 
 
 def dependencies(text):
@@ -32,6 +32,15 @@ def dependencies(text):
 
 def callers(stands_on):
     return sorted(crate for crate, names in stands_on.items() if LEAF in names)
+
+
+def from_callers(stands_on):
+    """The callers, and what stands between them and the exports."""
+    exports = set(ARCHIVES).union(*(stands_on[crate] for crate in ARCHIVES))
+    found = set(callers(stands_on))
+    while more := {crate for crate, names in stands_on.items() if crate in exports and found & set(names)} - found:
+        found |= more
+    return found
 
 
 def change_over(room, leaf):
@@ -74,6 +83,9 @@ def main(leaf, folder):
         changed = change_over(room, leaf)
         said = rt(room, "check", *changed, *ARCHIVES)
         proved = sorted(re.findall(r"^rt: (\w+) proved \(\d+ s\)", said, flags=re.M))
+        missing = from_callers(dependencies(Path("crates.txt").read_text(encoding="utf-8"))) - set(proved)
+        if missing or not all(changed.values()):
+            sys.exit(f"other_leaf: not proved over {leaf}: {sorted(missing)}; lines changed: {changed}")
         for crate, archive in ARCHIVES.items():
             rt(room, "staticlib", crate)
             shutil.copy(room / "target" / "staticlib" / f"lib{crate}.a", folder / archive)

@@ -98,7 +98,9 @@ impl ReaderPair {
             packet.bytes_mut().fill(self.filler);
         }
         let around = self.record.before;
+        // each call gets a chunk of its own: what one of them writes into it is not what the other reads
         let mut lent = chunk.map(<[u8]>::to_vec);
+        let mut record_lent = lent.clone();
 
         let Borrowed { held, count, packet } = &mut self.ours;
         let (held, count, packet) = (held.array_mut(), &mut count[1], packet.array_mut());
@@ -107,7 +109,7 @@ impl ReaderPair {
             None => (self.exports.gap)(held, count, packet),
         };
         let (record, packet) = (&mut self.record.reader, self.record_packet.array_mut());
-        let record_step = match &lent {
+        let record_step = match &record_lent {
             Some(chunk) => (self.exports.reader_feed)(record, chunk, packet),
             None => (self.exports.reader_gap)(record, packet),
         };
@@ -125,11 +127,11 @@ impl ReaderPair {
         comparison.same("the count of held bytes, with the words around it", self.ours.count, self.expected.count)?;
         comparison.same_guarded("the held bytes", &self.ours.held, &self.expected.held)?;
         comparison.same_guarded("the packet buffer", &self.ours.packet, &self.expected.packet)?;
+        comparison.same_bytes("the chunk", black_box(&mut lent).as_deref().unwrap_or_default(), chunk.unwrap_or_default())?;
         let on_record = Comparison { export: if chunk.is_some() { "dxl_reader_feed" } else { "dxl_reader_gap" }, given: &given };
         on_record.same("the answer", record_step, wanted)?;
         self.same_record(&on_record, around)?;
-        let lent = black_box(&mut lent).as_deref().unwrap_or_default();
-        comparison.same_bytes("the chunk", lent, chunk.unwrap_or_default())?;
+        on_record.same_bytes("the chunk", black_box(&mut record_lent).as_deref().unwrap_or_default(), chunk.unwrap_or_default())?;
         Ok((step, self.event(step)))
     }
 

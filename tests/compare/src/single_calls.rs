@@ -9,7 +9,12 @@ pub fn compare_checksum(calls: &Calls, rng: &mut Rng, start: u16, bytes: &[u8]) 
     let answer = ours.call(|bytes, _| (calls.crc16)(start, bytes));
     let given = || format!("start {start:04x}, {} bytes {}", bytes.len(), hex(bytes));
     let comparison = Comparison { export: "dxl_crc16", given: &given };
-    comparison.same_shown("the checksum", answer, reference::checksum(start, bytes), |sum| format!("{sum:04x}"))?;
+    let sum = reference::checksum(start, bytes);
+    comparison.same_shown("the checksum", answer, sum, |sum| format!("{sum:04x}"))?;
+    comparison.same_lent(&ours, &expected)?;
+    let small = ours.call(|bytes, _| exports::test::crc16_small(start, bytes));
+    let comparison = Comparison { export: "dxl_test_crc16_small", given: &given };
+    comparison.same_shown("the checksum", small, sum, |sum| format!("{sum:04x}"))?;
     comparison.same_lent(&ours, &expected)?;
     Ok(answer)
 }

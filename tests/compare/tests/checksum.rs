@@ -66,7 +66,7 @@ fn every_start_without_bytes_and_with_one() {
     }
 }
 
-/// [C2]
+/// [C2 C10]
 #[test]
 fn every_byte_from_every_high_half() {
     for high in 0..=255u8 {

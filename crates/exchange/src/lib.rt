@@ -20,15 +20,18 @@ pub struct Answered {
     pub registered: RegisteredWrite,
 }
 
-// The packet's ID. Where the bytes are not one well-formed packet and no more, 255, which no device has.
+// An ID that no device has.
+const NO_ID: u8 = 255;
+
+// The packet's ID, or none where the bytes are not one well-formed packet and no more.
 fn id_heard(packet: &[u8]) -> u8
     ensures { λ r. ⌜ r ≡ idHeard (now (packet .entry)) ⌝ }
 {
     let Verdict::Packet(n) = packet::judge(packet, 0) else {
-        return 255;
+        return NO_ID;
     };
     if n != packet.len() {
-        return 255;
+        return NO_ID;
     }
     packet[4]
 }

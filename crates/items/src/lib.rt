@@ -5,6 +5,9 @@ ghost use Rattle.registers.specs.Registers.{readWrite};
 ghost use Rattle.lists.specs.Numbers.{numberAt};
 ghost use Rattle.items.specs.Items.{signed, unsigned, inRange};
 
+// An item of so many bytes is a signed number, any other is not.
+pub const SIGNED_BYTES: usize = 4;
+
 // Four bytes, lowest first, as a signed number in two's complement. [T3]
 pub fn signed_of(a: u8, b: u8, c: u8, d: u8) -> i32
     ensures { λ r. ⌜ r ≡ signed (numberAt (a ∷ b ∷ c ∷ d ∷ []) 0 4) ⌝ }

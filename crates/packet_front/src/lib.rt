@@ -6,6 +6,11 @@ ghost use Rattle.packet_front.specs.Front.{goodId};
 ghost use Rattle.packet_front.specs.Front.{word as Front·word};
 ghost use Rattle.packet_front.specs.Begun.{soFar, frontAgrees, begunBy, settledBy};
 
+// The largest ID of a device, and the one that addresses all.
+pub const MAX_ID: u8 = 252;
+
+pub const BROADCAST_ID: u8 = 254;
+
 // Bytes that begin no packet, by header, ID and length field; that begin one and surely lack so many bytes; that have all its
 // bytes, so many.
 pub enum Begun {
@@ -24,10 +29,10 @@ pub fn word(low: u8, high: u8) -> usize
 pub fn good_id(id: u8) -> bool
     ensures { λ r. ⌜ r ≡ goodId id ⌝ }
 {
-    if id <= 252 {
+    if id <= MAX_ID {
         return true;
     }
-    id == 254
+    id == BROADCAST_ID
 }
 
 // Byte i is `value`, if it is there.

@@ -1,4 +1,5 @@
 // The parameters of an instruction: words, and the own entry in a list.
+use packet_front::MAX_ID;
 ghost use mathlib.Core.Path.{_≡_};
 ghost use mathlib.Core.Bool.{cond};
 ghost use Prim.Native.Nat.{_+_};
@@ -75,7 +76,7 @@ pub fn search(params: &[u8], from: usize, kind: EntryKind, own: u8) -> Found
             return Found::Nothing;
         }
         let id = params[at];
-        if 252 < id {
+        if MAX_ID < id {
             return Found::Nothing;
         }
         let k = id as usize;

@@ -1,4 +1,21 @@
 // Reboot and Factory Reset, on the table. A table of another size is refused and stays as it is.
+use registers::FRESH_BAUD_CODE;
+use registers::FRESH_ID;
+use registers::FRESH_MAX_POSITION;
+use registers::FRESH_STATUS_RETURN_LEVEL;
+use registers::REG_BAUD_CODE;
+use registers::REG_GOAL_POSITION;
+use registers::REG_GOAL_VELOCITY;
+use registers::REG_HARDWARE_ERROR;
+use registers::REG_HOMING_OFFSET;
+use registers::REG_ID;
+use registers::REG_LAMP;
+use registers::REG_MAX_POSITION;
+use registers::REG_MIN_POSITION;
+use registers::REG_REGISTERED_INSTRUCTION;
+use registers::REG_STATUS_RETURN_LEVEL;
+use registers::REG_TORQUE_ENABLE;
+use registers::TABLE_BYTES;
 use table_rules::Outcome;
 ghost use mathlib.Core.Path.{_≡_};
 ghost use mathlib.Core.Option.{none};
@@ -10,26 +27,26 @@ pub fn reboot(table: &mut [u8]) -> Outcome
     ensures { λ r. ⌜ refusalOf r ≡ inTable (now (table .entry)) none ⌝ }
     ensures { λ _. ⌜ now (table .exit) ≡ onTable (now (table .entry)) (rebooted (now (table .entry))) ⌝ }
 {
-    if table.len() != 136 {
+    if table.len() != TABLE_BYTES {
         return Outcome::NotTable;
     }
-    let a = table[52];
-    let b = table[53];
-    let c = table[54];
-    let d = table[55];
-    table[104] = 0;
-    table[105] = 0;
-    table[106] = 0;
-    table[107] = 0;
-    table[70] = 0;
-    table[69] = 0;
-    table[68] = 2;
-    table[65] = 0;
-    table[64] = 0;
-    table[116] = a;
-    table[117] = b;
-    table[118] = c;
-    table[119] = d;
+    let a = table[REG_MIN_POSITION];
+    let b = table[REG_MIN_POSITION + 1];
+    let c = table[REG_MIN_POSITION + 2];
+    let d = table[REG_MIN_POSITION + 3];
+    table[REG_GOAL_VELOCITY] = 0;
+    table[REG_GOAL_VELOCITY + 1] = 0;
+    table[REG_GOAL_VELOCITY + 2] = 0;
+    table[REG_GOAL_VELOCITY + 3] = 0;
+    table[REG_HARDWARE_ERROR] = 0;
+    table[REG_REGISTERED_INSTRUCTION] = 0;
+    table[REG_STATUS_RETURN_LEVEL] = FRESH_STATUS_RETURN_LEVEL;
+    table[REG_LAMP] = 0;
+    table[REG_TORQUE_ENABLE] = 0;
+    table[REG_GOAL_POSITION] = a;
+    table[REG_GOAL_POSITION + 1] = b;
+    table[REG_GOAL_POSITION + 2] = c;
+    table[REG_GOAL_POSITION + 3] = d;
     Outcome::Done
 }
 
@@ -38,21 +55,21 @@ pub fn reset_but_id_and_baud(table: &mut [u8]) -> Outcome
     ensures { λ r. ⌜ refusalOf r ≡ inTable (now (table .entry)) none ⌝ }
     ensures { λ _. ⌜ now (table .exit) ≡ onTable (now (table .entry)) (resetRom keepsIdAndBaud (now (table .entry))) ⌝ }
 {
-    if table.len() != 136 {
+    if table.len() != TABLE_BYTES {
         return Outcome::NotTable;
     }
-    table[52] = 0;
-    table[53] = 0;
-    table[54] = 0;
-    table[55] = 0;
-    table[48] = 255;
-    table[49] = 15;
-    table[50] = 0;
-    table[51] = 0;
-    table[20] = 0;
-    table[21] = 0;
-    table[22] = 0;
-    table[23] = 0;
+    table[REG_MIN_POSITION] = 0;
+    table[REG_MIN_POSITION + 1] = 0;
+    table[REG_MIN_POSITION + 2] = 0;
+    table[REG_MIN_POSITION + 3] = 0;
+    table[REG_MAX_POSITION] = (FRESH_MAX_POSITION % 256) as u8;
+    table[REG_MAX_POSITION + 1] = (FRESH_MAX_POSITION / 256) as u8;
+    table[REG_MAX_POSITION + 2] = 0;
+    table[REG_MAX_POSITION + 3] = 0;
+    table[REG_HOMING_OFFSET] = 0;
+    table[REG_HOMING_OFFSET + 1] = 0;
+    table[REG_HOMING_OFFSET + 2] = 0;
+    table[REG_HOMING_OFFSET + 3] = 0;
     Outcome::Done
 }
 
@@ -61,11 +78,11 @@ pub fn reset_but_id(table: &mut [u8]) -> Outcome
     ensures { λ r. ⌜ refusalOf r ≡ inTable (now (table .entry)) none ⌝ }
     ensures { λ _. ⌜ now (table .exit) ≡ onTable (now (table .entry)) (resetRom keepsId (now (table .entry))) ⌝ }
 {
-    if table.len() != 136 {
+    if table.len() != TABLE_BYTES {
         return Outcome::NotTable;
     }
     reset_but_id_and_baud(table);
-    table[8] = 1;
+    table[REG_BAUD_CODE] = FRESH_BAUD_CODE;
     Outcome::Done
 }
 
@@ -74,10 +91,10 @@ pub fn reset_all(table: &mut [u8]) -> Outcome
     ensures { λ r. ⌜ refusalOf r ≡ inTable (now (table .entry)) none ⌝ }
     ensures { λ _. ⌜ now (table .exit) ≡ onTable (now (table .entry)) (resetRom keepsNone (now (table .entry))) ⌝ }
 {
-    if table.len() != 136 {
+    if table.len() != TABLE_BYTES {
         return Outcome::NotTable;
     }
     reset_but_id(table);
-    table[7] = 1;
+    table[REG_ID] = FRESH_ID;
     Outcome::Done
 }

@@ -1,5 +1,8 @@
 // The status: what a reply holds, and its packet.
 use encoder::Encoded;
+use instructions::INST_STATUS;
+use packet_front::MAX_ID;
+use registers::MAX_DATA;
 ghost use mathlib.Core.Path.{_≡_};
 ghost use Prim.Native.Nat.{_≤_};
 ghost use Rattle.encoder.specs.Encoding.{encodedAnswer, encodeAnswer, encodeOut};
@@ -8,6 +11,12 @@ ghost use Rattle.status.specs.Status.{errorByte, statusBody};
 ghost use Rattle.status.specs.Steps.{writtenBy};
 ghost use Rattle.status.specs.Sending.{writtenAnswer, statusAnswer, statusOut};
 
+// The shortest reply buffer: every status has room in it.
+pub const MIN_REPLY: usize = 32;
+
+// The alert bit of the error byte.
+pub const ERROR_ALERT: u8 = 0x80;
+
 // A status to send: ID, error byte with its alert bit, data and the reply slot (the paper's turn number); or silence, which
 // is marked, all else being 0.
 pub struct Reply {
@@ -15,7 +24,7 @@ pub struct Reply {
     pub id: u8,
     pub error: u8,
     pub count: usize,
-    pub bytes: [u8; 8],
+    pub bytes: [u8; MAX_DATA],
     pub slot: usize,
 }
 
@@ -27,7 +36,7 @@ pub fn silence() -> Reply
         id: 0,
         error: 0,
         count: 0,
-        bytes: [0u8; 8],
+        bytes: [0u8; MAX_DATA],
         slot: 0,
     }
 }
@@ -39,7 +48,7 @@ pub fn error_byte(error: u8, hardware: u8) -> u8
     if hardware == 0 {
         return error;
     }
-    error % 128 + 128
+    error % ERROR_ALERT + ERROR_ALERT
 }
 
 // The byte count of the status, 0 for silence, or a reply that cannot be sent.
@@ -71,7 +80,7 @@ fn write_status(reply: Reply, out: &mut [u8]) -> Encoded
     let params = [reply.error, b[0], b[1], b[2], b[3], b[4], b[5], b[6], b[7]];
     let n = reply.count + 1;
     let id = reply.id;
-    encoder::encode(id, 0x55, &params[..n], out, 0)
+    encoder::encode(id, INST_STATUS, &params[..n], out, 0)
 }
 
 // The status packet at the start of out; silence writes nothing and has no bytes. Refused, in this order and silence too: an ID
@@ -80,13 +89,13 @@ pub fn send(reply: Reply, out: &mut [u8]) -> Written
     ensures { λ r. ⌜ writtenAnswer r ≡ statusAnswer reply (now (out .entry)) ⌝ }
     ensures { λ _. ⌜ now (out .exit) ≡ statusOut reply (now (out .entry)) ⌝ }
 {
-    if 252 < reply.id {
+    if MAX_ID < reply.id {
         return Written::BadId;
     }
-    if 8 < reply.count {
+    if MAX_DATA < reply.count {
         return Written::TooLong;
     }
-    if out.len() < 32 {
+    if out.len() < MIN_REPLY {
         return Written::NoRoom;
     }
     if !reply.speaks {

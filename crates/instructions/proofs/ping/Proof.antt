@@ -21,11 +21,17 @@ returns c =
 shared-slice-read-t7 : tie.Need-shared-slice-read-t7
 shared-slice-read-t7 c = search needs
 
+add-t4 : tie.Need-add-t4
+add-t4 c = search needs
+
 shared-slice-read-t9 : tie.Need-shared-slice-read-t9
 shared-slice-read-t9 c = search needs
 
 shared-slice-read-t11 : tie.Need-shared-slice-read-t11
 shared-slice-read-t11 c = search needs
+
+add-t4-2 : tie.Need-add-t4-2
+add-t4-2 c = search needs
 
 returns-2 : tie.Need-returns-2
 returns-2 c =
@@ -41,6 +47,8 @@ ping-spec =
     without-data-requires
     returns
     shared-slice-read-t7
+    add-t4
     shared-slice-read-t9
     shared-slice-read-t11
+    add-t4-2
     returns-2)

@@ -6,6 +6,9 @@ use Rattle.registers.proofs.Rows.{placeIn, row-from, none-from}
 use Rattle.registers.proofs.first_rom.Statement.{statement}
 use Rattle.registers.proofs.first_rom.Tie as tie
 
+add-if1 : tie.Need-add-if1
+add-if1 c = search needs
+
 read-only-requires : tie.Need-read-only-requires
 read-only-requires c κs = search needs
 
@@ -20,6 +23,9 @@ returns-2 : tie.Need-returns-2
 unfolding registers placeIn
 returns-2 c = c .undefined .ensures ∙ none-from 2 4 tt _ (omega arith) (omega arith)
 
+add-if3 : tie.Need-add-if3
+add-if3 c = search needs
+
 read-only-requires-2 : tie.Need-read-only-requires-2
 read-only-requires-2 c κs = search needs
 
@@ -27,12 +33,18 @@ returns-3 : tie.Need-returns-3
 unfolding registers placeIn
 returns-3 c = c .read-only2 .ensures ∙ row-from 1 6 1 (omega arith) tt _ (omega arith) (omega arith)
 
+add-if4 : tie.Need-add-if4
+add-if4 c = search needs
+
 in-rom-requires : tie.Need-in-rom-requires
 in-rom-requires c κs = search needs
 
 returns-4 : tie.Need-returns-4
 unfolding registers placeIn
 returns-4 c = c .in-rom .ensures ∙ row-from 2 7 1 (omega arith) tt _ (omega arith) (omega arith)
+
+add-if5 : tie.Need-add-if5
+add-if5 c = search needs
 
 in-rom-requires-2 : tie.Need-in-rom-requires-2
 in-rom-requires-2 c κs = search needs
@@ -52,14 +64,18 @@ pub first-rom-spec : {M : Type 1} → statement M
 first-rom-spec =
     tie.close
     (tie.spec
+    add-if1
     read-only-requires
     returns
     undefined-requires
     returns-2
+    add-if3
     read-only-requires-2
     returns-3
+    add-if4
     in-rom-requires
     returns-4
+    add-if5
     in-rom-requires-2
     returns-5
     undefined-requires-2

@@ -6,6 +6,9 @@ use Rattle.registers.proofs.Rows.{placeIn, row-from, none-from, none-pa
 use Rattle.registers.proofs.last_ram.Statement.{statement}
 use Rattle.registers.proofs.last_ram.Tie as tie
 
+add-if1 : tie.Need-add-if1
+add-if1 c = search needs
+
 in-ram-requires : tie.Need-in-ram-requires
 in-ram-requires c κs = search needs
 
@@ -20,6 +23,9 @@ returns-2 : tie.Need-returns-2
 unfolding registers placeIn
 returns-2 c = c .undefined .ensures ∙ none-from 108 8 tt _ (omega arith) (omega arith)
 
+add-if3 : tie.Need-add-if3
+add-if3 c = search needs
+
 in-ram-requires-2 : tie.Need-in-ram-requires-2
 in-ram-requires-2 c κs = search needs
 
@@ -33,6 +39,9 @@ undefined-requires-2 c κs = search needs
 returns-4 : tie.Need-returns-4
 unfolding registers placeIn
 returns-4 c = c .undefined2 .ensures ∙ none-from 120 12 tt _ (omega arith) (omega arith)
+
+add-if5 : tie.Need-add-if5
+add-if5 c = search needs
 
 read-only-requires : tie.Need-read-only-requires
 read-only-requires c κs = search needs
@@ -52,14 +61,17 @@ pub last-ram-spec : {M : Type 1} → statement M
 last-ram-spec =
     tie.close
     (tie.spec
+    add-if1
     in-ram-requires
     returns
     undefined-requires
     returns-2
+    add-if3
     in-ram-requires-2
     returns-3
     undefined-requires-2
     returns-4
+    add-if5
     read-only-requires
     returns-5
     undefined-requires-3

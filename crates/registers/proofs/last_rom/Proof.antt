@@ -6,6 +6,9 @@ use Rattle.registers.proofs.Rows.{placeIn, row-from, none-from}
 use Rattle.registers.proofs.last_rom.Statement.{statement}
 use Rattle.registers.proofs.last_rom.Tie as tie
 
+add-if1 : tie.Need-add-if1
+add-if1 c = search needs
+
 in-rom-requires : tie.Need-in-rom-requires
 in-rom-requires c κs = search needs
 
@@ -20,12 +23,18 @@ returns-2 : tie.Need-returns-2
 unfolding registers placeIn
 returns-2 c = c .undefined .ensures ∙ none-from 24 24 tt _ (omega arith) (omega arith)
 
+add-if3 : tie.Need-add-if3
+add-if3 c = search needs
+
 in-rom-requires-2 : tie.Need-in-rom-requires-2
 in-rom-requires-2 c κs = search needs
 
 returns-3 : tie.Need-returns-3
 unfolding registers placeIn
 returns-3 c = c .in-rom2 .ensures ∙ row-from 5 48 4 (omega arith) tt _ (omega arith) (omega arith)
+
+add-if4 : tie.Need-add-if4
+add-if4 c = search needs
 
 in-rom-requires-3 : tie.Need-in-rom-requires-3
 in-rom-requires-3 c κs = search needs
@@ -45,12 +54,15 @@ pub last-rom-spec : {M : Type 1} → statement M
 last-rom-spec =
     tie.close
     (tie.spec
+    add-if1
     in-rom-requires
     returns
     undefined-requires
     returns-2
+    add-if3
     in-rom-requires-2
     returns-3
+    add-if4
     in-rom-requires-3
     returns-4
     undefined-requires-2

@@ -11,23 +11,47 @@ returns c = refused _ _ (c .if1 .taken)
 slice-write-table : tie.Need-slice-write-table
 slice-write-table c = search needs
 
+add-table : tie.Need-add-table
+add-table c = search needs
+
 slice-write-table-2 : tie.Need-slice-write-table-2
 slice-write-table-2 c = search needs
+
+add-table-2 : tie.Need-add-table-2
+add-table-2 c = search needs
 
 slice-write-table-3 : tie.Need-slice-write-table-3
 slice-write-table-3 c = search needs
 
+add-table-3 : tie.Need-add-table-3
+add-table-3 c = search needs
+
 slice-write-table-4 : tie.Need-slice-write-table-4
 slice-write-table-4 c = search needs
+
+cast-table : tie.Need-cast-table
+cast-table c = search needs
 
 slice-write-table-5 : tie.Need-slice-write-table-5
 slice-write-table-5 c = simp length-set (omega arith)
 
+cast-table-2 : tie.Need-cast-table-2
+cast-table-2 c = search needs
+
+add-table-4 : tie.Need-add-table-4
+add-table-4 c = search needs
+
 slice-write-table-6 : tie.Need-slice-write-table-6
 slice-write-table-6 c = simp length-set (omega arith)
 
+add-table-5 : tie.Need-add-table-5
+add-table-5 c = search needs
+
 slice-write-table-7 : tie.Need-slice-write-table-7
 slice-write-table-7 c = simp length-set (omega arith)
+
+add-table-6 : tie.Need-add-table-6
+add-table-6 c = search needs
 
 slice-write-table-8 : tie.Need-slice-write-table-8
 slice-write-table-8 c = simp length-set (omega arith)
@@ -35,17 +59,26 @@ slice-write-table-8 c = simp length-set (omega arith)
 slice-write-table-9 : tie.Need-slice-write-table-9
 slice-write-table-9 c = simp length-set (omega arith)
 
+add-table-7 : tie.Need-add-table-7
+add-table-7 c = search needs
+
 slice-write-table-10 : tie.Need-slice-write-table-10
 slice-write-table-10 c = simp length-set (omega arith)
 
+add-table-8 : tie.Need-add-table-8
+add-table-8 c = search needs
+
 slice-write-table-11 : tie.Need-slice-write-table-11
 slice-write-table-11 c = simp length-set (omega arith)
+
+add-table-9 : tie.Need-add-table-9
+add-table-9 c = search needs
 
 slice-write-table-12 : tie.Need-slice-write-table-12
 slice-write-table-12 c = simp length-set (omega arith)
 
 same-length : tie.Need-same-length
-same-length c = search needs
+same-length c = simp length-set
 
 returns-2 : tie.Need-returns-2
 returns-2 c =
@@ -58,16 +91,27 @@ reset-but-id-and-baud-spec =
     (tie.spec
     returns
     slice-write-table
+    add-table
     slice-write-table-2
+    add-table-2
     slice-write-table-3
+    add-table-3
     slice-write-table-4
+    cast-table
     slice-write-table-5
+    cast-table-2
+    add-table-4
     slice-write-table-6
+    add-table-5
     slice-write-table-7
+    add-table-6
     slice-write-table-8
     slice-write-table-9
+    add-table-7
     slice-write-table-10
+    add-table-8
     slice-write-table-11
+    add-table-9
     slice-write-table-12
     same-length
     returns-2)

@@ -14,7 +14,9 @@ ghost use mathlib.Core.List.{[]};
 ghost use Prim.Native.Nat.{_≤_};
 ghost use lib.Dec.{leb};
 ghost use lib.ListN.{length};
+ghost use Rattle.registers.specs.Registers.{tableSize};
 ghost use Rattle.table_rules.specs.Outcomes.{refusalOf};
+ghost use Rattle.resets.specs.Resets.{resetRom, keeping};
 ghost use Rattle.instructions.specs.Registered.{dropped as Registered·dropped, registering as Registered·registering};
 ghost use Rattle.instructions.specs.Instructions.{errorOf, regWrite, factoryReset};
 ghost use Rattle.instructions.specs.Instructions.{ping as Instructions·ping};
@@ -214,6 +216,21 @@ pub fn reboot(table: &mut [u8], registered: RegisteredWrite) -> Done
     without_data(0, dropped())
 }
 
+// ROM is reset, and then as Reboot.
+fn reset_with(
+    table: &mut [u8],
+    registered: RegisteredWrite,
+    keeps_id: bool,
+    keeps_baud: bool,
+) -> Done
+    requires { ⌜ length (now table) ≡ tableSize ⌝ }
+    ensures { λ r. ⌜ r ≡ doneOf (Instructions·reboot (resetRom (keeping «keeps_id» «keeps_baud») (now (table .entry))) registered) ⌝ }
+    ensures { λ _. ⌜ now (table .exit) ≡ Instructions·reboot (resetRom (keeping «keeps_id» «keeps_baud») (now (table .entry))) registered .table ⌝ }
+{
+    resets::reset_rom(table, keeps_id, keeps_baud);
+    reboot(table, registered)
+}
+
 pub fn factory_reset(table: &mut [u8], registered: RegisteredWrite, option: u8) -> Done
     ensures { λ r. ⌜ r ≡ doneOf (sized (now (table .entry)) registered (factoryReset (now (table .entry)) registered option)) ⌝ }
     ensures { λ _. ⌜ now (table .exit) ≡ sized (now (table .entry)) registered (factoryReset (now (table .entry)) registered option) .table ⌝ }
@@ -221,19 +238,12 @@ pub fn factory_reset(table: &mut [u8], registered: RegisteredWrite, option: u8) 
     if table.len() != TABLE_BYTES {
         return without_data(NOT_A_TABLE, registered);
     }
-    if option == RESET_ALL {
-        resets::reset_all(table);
-        return reboot(table, registered);
+    match option {
+        RESET_ALL => reset_with(table, registered, false, false),
+        RESET_BUT_ID => reset_with(table, registered, true, false),
+        RESET_BUT_ID_AND_BAUD => reset_with(table, registered, true, true),
+        _ => without_data(ERROR_DATA_RANGE, registered),
     }
-    if option == RESET_BUT_ID {
-        resets::reset_but_id(table);
-        return reboot(table, registered);
-    }
-    if option == RESET_BUT_ID_AND_BAUD {
-        resets::reset_but_id_and_baud(table);
-        return reboot(table, registered);
-    }
-    without_data(ERROR_DATA_RANGE, registered)
 }
 
 pub fn ping(table: &[u8], registered: RegisteredWrite) -> Done

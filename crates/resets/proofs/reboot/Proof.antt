@@ -32,20 +32,11 @@ slice-read-d c = search needs
 slice-write-table : tie.Need-slice-write-table
 slice-write-table c = search needs
 
-add-table : tie.Need-add-table
-add-table c = search needs
-
 slice-write-table-2 : tie.Need-slice-write-table-2
 slice-write-table-2 c = search needs
 
-add-table-2 : tie.Need-add-table-2
-add-table-2 c = search needs
-
 slice-write-table-3 : tie.Need-slice-write-table-3
 slice-write-table-3 c = search needs
-
-add-table-3 : tie.Need-add-table-3
-add-table-3 c = search needs
 
 slice-write-table-4 : tie.Need-slice-write-table-4
 slice-write-table-4 c = search needs
@@ -56,11 +47,20 @@ slice-write-table-5 c = simp length-set (omega arith)
 slice-write-table-6 : tie.Need-slice-write-table-6
 slice-write-table-6 c = simp length-set (omega arith)
 
+add-table : tie.Need-add-table
+add-table c = search needs
+
 slice-write-table-7 : tie.Need-slice-write-table-7
 slice-write-table-7 c = simp length-set (omega arith)
 
+add-table-2 : tie.Need-add-table-2
+add-table-2 c = search needs
+
 slice-write-table-8 : tie.Need-slice-write-table-8
 slice-write-table-8 c = simp length-set (omega arith)
+
+add-table-3 : tie.Need-add-table-3
+add-table-3 c = search needs
 
 slice-write-table-9 : tie.Need-slice-write-table-9
 slice-write-table-9 c = simp length-set (omega arith)
@@ -108,16 +108,16 @@ reboot-spec =
     add-d
     slice-read-d
     slice-write-table
-    add-table
     slice-write-table-2
-    add-table-2
     slice-write-table-3
-    add-table-3
     slice-write-table-4
     slice-write-table-5
     slice-write-table-6
+    add-table
     slice-write-table-7
+    add-table-2
     slice-write-table-8
+    add-table-3
     slice-write-table-9
     slice-write-table-10
     add-table-4

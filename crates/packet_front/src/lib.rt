@@ -29,10 +29,7 @@ pub fn word(low: u8, high: u8) -> usize
 pub fn good_id(id: u8) -> bool
     ensures { λ r. ⌜ r ≡ goodId id ⌝ }
 {
-    if id <= MAX_ID {
-        return true;
-    }
-    id == BROADCAST_ID
+    id <= MAX_ID || id == BROADCAST_ID
 }
 
 // Byte i is `value`, if it is there.

@@ -197,10 +197,7 @@ fn heard_reboot(table: &mut [u8], registered: RegisteredWrite, all: bool, params
 fn resets_every_id(all: bool, option: u8) -> bool
     ensures { λ r. ⌜ r ≡ (all && eqb option 0xFF) ⌝ }
 {
-    if !all {
-        return false;
-    }
-    option == RESET_ALL
+    all && option == RESET_ALL
 }
 
 fn heard_factory_reset(

@@ -75,10 +75,7 @@ fn touched(start: usize, size: usize, address: usize, end: usize) -> bool
     requires { ⌜ start + size ≤ tableSize ⌝ }
     ensures { λ r. ⌜ r ≡ (ltb start end && ltb address (start + size)) ⌝ }
 {
-    if end <= start {
-        return false;
-    }
-    address < start + size
+    start < end && address < start + size
 }
 
 // They have all its bytes.
@@ -86,10 +83,7 @@ fn covered(start: usize, size: usize, address: usize, end: usize) -> bool
     requires { ⌜ start + size ≤ tableSize ⌝ }
     ensures { λ r. ⌜ r ≡ (leb address start && leb (start + size) end) ⌝ }
 {
-    if start < address {
-        return false;
-    }
-    start + size <= end
+    address <= start && start + size <= end
 }
 
 // The value that is written to the register, at k in the data, is in its range.

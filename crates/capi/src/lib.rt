@@ -1,5 +1,5 @@
-// What C calls. Each function hands on to a crate of the project and keeps that crate's promise, as numbers and byte slices;
-// include/mednukals.h declares and documents them. A `&[u8]` is a pointer and a length in C.
+// The functions that C calls. Each passes its arguments on to a crate beneath and makes that crate's promise in numbers and byte
+// slices; include/mednukals.h declares and documents them. A `&[u8]` is a pointer and a length in C.
 use instructions::RegisteredWrite;
 use numbers::DeviceNumbers;
 use numbers::StepNumbers;
@@ -92,8 +92,8 @@ pub extern "C" fn dxl_measure(table: &mut [u8], position: i32, hardware_error: u
     numbers::outcome(control_table::measure(table, position, hardware_error))
 }
 
-// A feeding call on a reader's record by its parts, the held bytes and their count. Demand 3 is promised of these calls, and
-// that the verdict sees a packet of which one byte or two neighbours were changed between length field and checksum.
+// A feeding call on a reader's record in parts, the held bytes and their count. It promises demand 3, and that a packet in which
+// one byte or two neighbours were changed between length field and checksum is a bad checksum.
 // [F1-F16 G5 K3 K7 N9 P11 Q1-Q14 V1-V12]
 #[no_mangle]
 pub extern "C" fn dxl_feed(
@@ -132,7 +132,7 @@ pub extern "C" fn dxl_gap(
     numbers::step(step)
 }
 
-// A feeding call on a reader's record, in place: its held bytes are lent on, and none is copied. [F1-F16 N9 Q1-Q14 V1-V12]
+// A feeding call on a reader's record, in place: its held bytes are passed on without a copy. [F1-F16 N9 Q1-Q14 V1-V12]
 #[no_mangle]
 pub extern "C" fn dxl_reader_feed<'r, 'c, 'p>(
     reader: &'r mut Reader,
@@ -188,7 +188,7 @@ fn id_by(kind: u8, id: u8) -> u8
     255
 }
 
-// Kind 1 is a packet, 2 a bad checksum. Of any other kind nothing was heard, as of what is sent to an ID that no device has.
+// Kind 1 is a packet, 2 a bad checksum. With any other kind nothing was heard: it counts as sent to an ID that no device has.
 // [D1-D37 D40-D42 G5 N5-N8 N10-N12 T1-T3 T6-T18]
 #[no_mangle]
 pub extern "C" fn dxl_device(
@@ -211,8 +211,8 @@ pub extern "C" fn dxl_device(
     numbers::response(device::hear(table, registered, heard, heard_id, body, reply))
 }
 
-// The device call on a packet as received, whose body goes to `body` without its stuffing. What is no well-formed packet is met with
-// silence. [D38-D42 G5 N3 N4]
+// The device call on a packet as received; its body is written to `body` without its stuffing. What is no well-formed packet is
+// met with silence. [D38-D42 G5 N3 N4]
 #[no_mangle]
 pub extern "C" fn dxl_exchange(
     table: &mut [u8],

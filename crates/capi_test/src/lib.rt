@@ -1,4 +1,4 @@
-// Exports that only the comparison tests and the benchmark call: parts that firmware has no use for by themselves.
+// Exports that only the comparison tests and the benchmark call: parts that firmware does not need by themselves.
 use numbers::StepNumbers;
 use packet::Verdict;
 use reader::Reader;
@@ -37,7 +37,7 @@ pub extern "C" fn dxl_test_crc16_small(start: u16, bytes: &[u8]) -> u16
     crc16_small::update(start, bytes)
 }
 
-// 1 where the body is well stuffed, otherwise 0.
+// 1 if the body is well stuffed, otherwise 0.
 #[no_mangle]
 pub extern "C" fn dxl_test_well_stuffed(body: &[u8]) -> u8
     ensures { λ r. ⌜ r ≡ testNumber (checked (now (body .entry))) ⌝ }
@@ -85,7 +85,7 @@ pub extern "C" fn dxl_test_verdict(segment: &[u8], offset: usize) -> VerdictNumb
     }
 }
 
-// What a feeding call by value gives: its answer as numbers, the packet's bytes followed by 0, and the record from now on.
+// What a feeding call by value returns: its step as numbers, the packet's bytes followed by 0, and the record from now on.
 #[repr(C)]
 pub struct FedNumbers {
     pub step: StepNumbers,
@@ -93,7 +93,7 @@ pub struct FedNumbers {
     pub reader: Reader,
 }
 
-// The feeding call by value, on a record that is made of the held bytes and their count.
+// The feeding call by value, on a record made of the held bytes and their count.
 #[no_mangle]
 pub extern "C" fn dxl_test_feed_value(held: &[u8; 1030], count: usize, chunk: &[u8]) -> FedNumbers
     ensures { λ r. ⌜ r .step ≡ stepNumbers (saidOn (lent (now (held .entry)) count) (Call·feed (now (chunk .entry)))) ⌝ }

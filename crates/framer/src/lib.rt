@@ -26,7 +26,7 @@ pub enum StepEvent {
     Refused,
 }
 
-// What a call answers: how many bytes it took, how many are held then, and its event.
+// What a call returns: how many bytes it took, how many are held now, and its event.
 pub struct Step {
     pub taken: usize,
     pub held: usize,
@@ -59,7 +59,7 @@ fn id_in(packet: &[u8]) -> u8
     packet[4]
 }
 
-// The event of what was seen of the bytes src; a packet's bytes go to the packet buffer, and its ID is read there.
+// The event for what was found in src. A packet's bytes are copied to the packet buffer, and its ID is read there.
 fn tell(src: &[u8], seen: Scanned, packet: &mut [u8]) -> StepEvent
     requires { ⌜ (onFrom seen ≤ length (now src)) × (sizeOf seen ≤ length (now packet)) × (length (now packet) ≡ 1031) ⌝ }
     ensures { λ r. ⌜ r ≡ eventWith (idOf (now (packet .exit))) (answerOf (now (src .entry)) seen) ⌝ }
@@ -77,7 +77,7 @@ fn tell(src: &[u8], seen: Scanned, packet: &mut [u8]) -> StepEvent
     }
 }
 
-// The event goes out, and the held bytes from where reading goes on stay.
+// Gives the event and keeps the held bytes from where reading goes on.
 fn deliver(held: &mut [u8], seen: Scanned, end: usize, taken: usize, packet: &mut [u8]) -> Step
     requires { ⌜ (onFrom seen ≤ end) × (end ≤ length (now held)) × (sizeOf seen ≤ length (now packet))
         × (length (now packet) ≡ 1031) ⌝ }
@@ -89,7 +89,7 @@ fn deliver(held: &mut [u8], seen: Scanned, end: usize, taken: usize, packet: &mu
     stepped(taken, end - on, event)
 }
 
-// The event goes out, and the chunk's bytes from where reading goes on are held. `before` bytes were taken before the chunk.
+// Gives the event and holds the chunk's bytes from where reading goes on. `before` bytes were taken before the chunk.
 fn deliver_chunk(
     held: &mut [u8],
     chunk: &[u8],
@@ -108,7 +108,7 @@ fn deliver_chunk(
     stepped(before + end, end - on, event)
 }
 
-// The window fills its buffer: with one byte more it is judged in the packet buffer. All of it but its first byte stays held.
+// The held bytes fill their buffer: with one byte more they are judged in the packet buffer. All but the first stay held.
 fn judge_longest(held: &mut [u8], byte: u8, packet: &mut [u8]) -> Verdict
     requires { ⌜ (0 < length (now held)) × (length (now packet) ≡ length (now held) + 1) ⌝ }
     ensures { λ r. ⌜ r ≡ answerFor (verdict (now (held .entry) ++ byte ∷ [])) (lacks (now (held .entry) ++ byte ∷ [])) ⌝ }
@@ -123,7 +123,7 @@ fn judge_longest(held: &mut [u8], byte: u8, packet: &mut [u8]) -> Verdict
     packet::judge(packet, 0)
 }
 
-// The chunk's bytes from `from` on, where none are held.
+// Reads the chunk from `from` on, where no bytes are held.
 fn read_chunk(held: &mut [u8], chunk: &[u8], from: usize, packet: &mut [u8]) -> Step
     requires { ⌜ (from ≤ length (now chunk)) × (length (now held) ≡ 1030) × (length (now packet) ≡ 1031) ⌝ }
     ensures { λ r. ⌜ Replied (afterTaking from (fed protocol2 [] (drop from (now (chunk .entry))))) r
@@ -134,7 +134,7 @@ fn read_chunk(held: &mut [u8], chunk: &[u8], from: usize, packet: &mut [u8]) -> 
     deliver_chunk(held, &chunk[from..], seen, ahead.end, from, packet)
 }
 
-// The held bytes first, then the chunk's. A byte is taken past a full buffer by each turn.
+// Reads the held bytes first, then the chunk. Each turn takes one byte past a full buffer.
 fn feed_slices(held: &mut [u8], count: usize, chunk: &[u8], packet: &mut [u8]) -> Step
     requires { ⌜ (count ≤ 1030) × (length (now held) ≡ 1030) × (length (now packet) ≡ 1031) ⌝ }
     ensures { λ r. ⌜ Replied (fed protocol2 (take count (now (held .entry))) (now (chunk .entry))) r
@@ -168,7 +168,7 @@ fn feed_slices(held: &mut [u8], count: usize, chunk: &[u8], packet: &mut [u8]) -
     }
 }
 
-// The held bytes as if the segment ended with them.
+// Reads the held bytes as if the segment ended with them.
 fn gap_slices(held: &mut [u8], count: usize, packet: &mut [u8]) -> Step
     requires { ⌜ (count ≤ 1030) × (length (now held) ≡ 1030) × (length (now packet) ≡ 1031) ⌝ }
     ensures { λ r. ⌜ Replied (gapped (first protocol2 closed (take count (now (held .entry))))) r
@@ -192,7 +192,7 @@ fn size_of(event: StepEvent) -> usize
     }
 }
 
-// What lies past the held bytes and past the packet's becomes 0.
+// Sets the bytes past the held ones, and past the packet's, to 0.
 fn clear_rest(held: &mut [u8], packet: &mut [u8], step: Step)
     ensures { λ _. ⌜ (now (held .exit)
         ≡ take (step .held) (now (held .entry)) ++ replicate (length (now (held .entry)) - step .held) 0)
@@ -205,9 +205,9 @@ fn clear_rest(held: &mut [u8], packet: &mut [u8], step: Step)
     buffers::clear(packet, size);
 }
 
-// A feeding call on the caller's held bytes, of which there are `count`, and packet buffer: the fewest bytes of the chunk that
-// decide an event are taken, or all of it. Feed the rest again until a call gives no event, also where the rest is empty: events
-// may lie in what is held. [F2-F10 F15 F16 K2-K4]
+// A feeding call on the caller's held bytes, of which there are `count`, and packet buffer. It takes the fewest bytes of the chunk
+// that decide an event, or all of it. Feed the rest again until a call gives no event, even if the rest is empty: events may lie
+// in the held bytes. [F2-F10 F15 F16 K2-K4]
 pub fn feed_in(held: &mut [u8; 1030], count: usize, chunk: &[u8], packet: &mut [u8; 1031]) -> Step
     ensures { λ r. ⌜ (r ≡ stepFor count (call protocol2 (take count (now (held .entry))) (Call·feed (now (chunk .entry)))))
         × (now (held .exit) ≡ heldFor count (now (held .entry)) (call protocol2 (take count (now (held .entry))) (Call·feed (now (chunk .entry)))))
@@ -221,7 +221,7 @@ pub fn feed_in(held: &mut [u8; 1030], count: usize, chunk: &[u8], packet: &mut [
     step
 }
 
-// A gap call, likewise: the next event as if the segment ended with what is held. Call it until it says that nothing is left.
+// A gap call, likewise: the next event as if the segment ended with the held bytes. Call it until nothing is left.
 // [F12-F16 K2-K4]
 pub fn gap_in(held: &mut [u8; 1030], count: usize, packet: &mut [u8; 1031]) -> Step
     ensures { λ r. ⌜ (r ≡ stepFor count (call protocol2 (take count (now (held .entry))) Call·gap))

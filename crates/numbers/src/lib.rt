@@ -1,5 +1,5 @@
-// Answers as C gets them: each answer of a crate beneath becomes a number, or a record of numbers. A function has the name of the
-// answer that it turns.
+// Results as C gets them: each result of a crate beneath becomes a number or a record of numbers. A function has the name of what
+// it converts.
 use device::Replied;
 use device::Response;
 use encoder::Encoded;
@@ -19,7 +19,7 @@ ghost use Rattle.exchange.specs.Exchange.{exchangedAnswer};
 ghost use Rattle.lists.specs.Answer.{count as Answer·count};
 ghost use Rattle.numbers.specs.Exported.{exported, exportedRefusal, stepNumbers, deviceNumbers};
 
-// What a feeding or gap call answers. kind 0: no event, of a gap call: nothing is left; 1: a packet of `count` bytes; 2: a bad
+// What a feeding or gap call returns. kind 0: no event, from a gap call: nothing is left; 1: a packet of `count` bytes; 2: a bad
 // checksum; 25: the reader's count is above 1,030. `id` is that of the packet or of the bad checksum.
 #[repr(C)]
 pub struct StepNumbers {
@@ -29,8 +29,8 @@ pub struct StepNumbers {
     pub id: u8,
 }
 
-// What the device answers: the status's byte count, 0 for silence, or minus the number of a refusal; the reply slot; and the
-// registered write from now on.
+// What a call of the device returns: the status's byte count, 0 for silence, or minus the number of a refusal; the reply slot; and
+// the registered write from now on.
 #[repr(C)]
 pub struct DeviceNumbers {
     pub count: i64,

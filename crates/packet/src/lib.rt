@@ -1,4 +1,4 @@
-// One packet of Protocol 2.0, as it is read: the verdict on the bytes from an offset on, and the body as a part of the packet.
+// Reading one packet of Protocol 2.0: the verdict on the bytes from an offset on, and the body as a part of the packet.
 use packet_front::Begun;
 use stuffing::Checked;
 use stuffing::Unstuffed;
@@ -24,7 +24,7 @@ pub enum Verdict {
     Nothing,
 }
 
-// The body, as a part of the packet: between the length field and the checksum; empty where there is no room for both. [S2 S7]
+// The body as a part of the packet, between length field and checksum; empty if there is no room for both. [S2 S7]
 pub fn body(packet: &[u8]) -> &[u8]
     ensures { λ r. ⌜ now r ≡ bodyOf (now (packet .entry)) ⌝ }
 {
@@ -35,7 +35,7 @@ pub fn body(packet: &[u8]) -> &[u8]
     }
 }
 
-// The packet's body without its stuffing at the start of out; refused as removal is. [N3 N4 N11 N12 N14 S7]
+// Writes the packet's body without its stuffing to the start of out; refused as `unstuff_into` is. [N3 N4 N11 N12 N14 S7]
 pub fn unstuff(packet: &[u8], out: &mut [u8]) -> Unstuffed
     ensures { λ r. ⌜ unstuffedAnswer r ≡ removalAnswer (bodyOf (now (packet .entry))) (now (out .entry)) ⌝ }
     ensures { λ _. ⌜ now (out .exit) ≡ removalOut (bodyOf (now (packet .entry))) (now (out .entry)) ⌝ }
@@ -53,7 +53,7 @@ pub fn checksum(rest: &[u8]) -> u16
     crc16::update(HEADER_SUM, rest)
 }
 
-// All bytes of a packet are there, and header, ID and length are right: the checksum first, then the stuffing.
+// The verdict if all bytes of a packet are there and header, ID and length are right: the checksum first, then the stuffing.
 fn judge_whole(packet: &[u8]) -> Verdict
     requires { ⌜ (9 ≤ length (now packet)) × (take 4 (now packet) ≡ header) ⌝ }
     ensures { λ r. ⌜ r ≡ wholeAnswer (now (packet .entry)) ⌝ }
@@ -82,7 +82,7 @@ fn judge_start(s: &[u8]) -> Verdict
 }
 
 // The verdict on the bytes of a segment from an offset on, while the segment is open; past its end there are none. The
-// checksum is computed once at most, and only where all bytes of the packet are there.
+// checksum is computed at most once, and only if all bytes of the packet are there.
 // [C4 M1 M2 P1-P5 P7-P10 S2 S4 S5 V3-V6 V8 V9 V11]
 pub fn judge(segment: &[u8], offset: usize) -> Verdict
     ensures { λ r. ⌜ r ≡ answerFor (verdict (drop offset (now (segment .entry)))) (lacks (drop offset (now (segment .entry)))) ⌝ }

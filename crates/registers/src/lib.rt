@@ -1,5 +1,5 @@
-// The registers of the control table: their numbers, the one that has a byte, and what a run of bytes permits. The proofs hold each
-// answer to the list of specs/Registers.antt.
+// The registers of the control table: their numbers, the one that has a byte, and what a run of bytes permits. The proofs compare
+// each result with the list of specs/Registers.antt.
 ghost use mathlib.Core.Path.{_≡_};
 ghost use Prim.Native.Nat.{_≤_, _<_};
 ghost use Rattle.registers.specs.Registers.{readOnly, readWrite, rom, ram, register, everyByte};
@@ -243,7 +243,7 @@ fn last_ram(a: usize) -> Row
     undefined()
 }
 
-// The register that has the byte at a; one that permits nothing where none has it. [T2]
+// The register that has the byte at a; if there is none, a row that permits nothing. [T2]
 pub fn register_at(a: usize) -> Row
     ensures { λ r. ⌜ r ≡ rowAt a ⌝ }
 {
@@ -259,8 +259,8 @@ pub fn register_at(a: usize) -> Row
     last_ram(a)
 }
 
-// Each of the n bytes from `address` on permits at least so much: register by register, since the bytes of one permit the same. Where
-// nothing is asked, bytes that no register has pass too. [T8 T16]
+// Whether each of the n bytes from `address` on permits at least `least`: register by register, since the bytes of one permit the
+// same. With `least` 0, undefined bytes pass too. [T8 T16]
 pub fn every_byte(least: u8, address: usize, n: usize) -> bool
     ensures { λ r. ⌜ r ≡ everyByte least address n ⌝ }
 {

@@ -1,4 +1,4 @@
-// The status: what a reply holds, and its packet.
+// The reply, and its status packet.
 use encoder::Encoded;
 use instructions::INST_STATUS;
 use packet_front::MAX_ID;
@@ -17,8 +17,8 @@ pub const MIN_REPLY: usize = 32;
 // The alert bit of the error byte.
 pub const ERROR_ALERT: u8 = 0x80;
 
-// A status to send: ID, error byte with its alert bit, data and the reply slot (the paper's turn number); or silence, which
-// is marked, all else being 0.
+// A status to send: ID, error byte with its alert bit, data and reply slot (the paper's turn number); or silence, where `speaks` is
+// false and all else 0.
 pub struct Reply {
     pub speaks: bool,
     pub id: u8,
@@ -41,7 +41,7 @@ pub fn silence() -> Reply
     }
 }
 
-// Bit 7, the alert, is set where the hardware error is not 0. [D29]
+// The error number, with bit 7, the alert, set if the hardware error is not 0. [D29]
 pub fn error_byte(error: u8, hardware: u8) -> u8
     ensures { λ r. ⌜ r ≡ errorByte error hardware ⌝ }
 {
@@ -70,7 +70,7 @@ fn as_written(encoded: Encoded) -> Written
     }
 }
 
-// The status packet at the start of out.
+// Writes the status packet to the start of out.
 fn write_status(reply: Reply, out: &mut [u8]) -> Encoded
     requires { ⌜ reply .count ≤ 8 ⌝ }
     ensures { λ r. ⌜ encodedAnswer r ≡ encodeAnswer (reply .id) (statusBody reply) (now (out .entry)) 0 ⌝ }
@@ -83,8 +83,8 @@ fn write_status(reply: Reply, out: &mut [u8]) -> Encoded
     encoder::encode(id, INST_STATUS, &params[..n], out, 0)
 }
 
-// The status packet at the start of out; silence writes nothing and has no bytes. Refused, in this order and silence too: an ID
-// above 252, more than 8 bytes of data, a buffer under 32 bytes. A refusal writes nothing. [D28 D35-D37 N1 N2 N8]
+// Writes the status packet to the start of out; silence writes nothing. Refused, in this order, even for silence: an ID above 252,
+// more than 8 bytes of data, a buffer under 32 bytes. A refusal writes nothing. [D28 D35-D37 N1 N2 N8]
 pub fn send(reply: Reply, out: &mut [u8]) -> Written
     ensures { λ r. ⌜ writtenAnswer r ≡ statusAnswer reply (now (out .entry)) ⌝ }
     ensures { λ _. ⌜ now (out .exit) ≡ statusOut reply (now (out .entry)) ⌝ }

@@ -17,7 +17,7 @@ use Rattle.instructions.proofs.Errors.{read-number, write-number}
 use Rattle.reactions.proofs.Every.{every}
 use Rattle.device.proofs.Replies.{to-whomever}
 use Rattle.instructions.specs.Instructions.{Effect, ping, read, write, regWrite, action}
-use Rattle.reactions.specs.Reactions.{Voice, silent, speaks, ownId, Reaction, reaction}
+use Rattle.reactions.specs.Reactions.{Voice, silent, speaks, ownId, Reaction}
 use Rattle.device.specs.Device.{hardwareErrorIn, replyBy, heeded, carryOut}
 use Rattle.status.specs.Status.{silence}
 use Rattle.instructions.specs.declared.RegisteredWrite.{RegisteredWrite}

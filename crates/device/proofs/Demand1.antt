@@ -1,7 +1,7 @@
 -- What a refusal leaves.
-use mathlib.Core.Path.{_≡_, refl, sym, ap, _∙_}
+use mathlib.Core.Path.{_≡_, refl}
 use mathlib.Core.Bool.{Bool, true, false, cond}
-use mathlib.Core.List.{List, []}
+use mathlib.Core.List.{List}
 use mathlib.Core.Option.{Option, none, some}
 use Prim.Native.Nat.{ℕ, _<_}
 use native.Mathlib.Omega.{arith}
@@ -16,9 +16,9 @@ use Rattle.reactions.specs.Reactions.{Voice, silent, speaks, Reaction, ownId}
 use Rattle.reactions.specs.Refused.{tableIfRefused, registeredIfRefused}
 use Rattle.reactions.proofs.Theorems.{refused as reaction-refused}
 use Rattle.device.specs.Device.{hardwareErrorIn, replyBy, heeded, carryOut}
-use Rattle.device.specs.Answers.{Answer, sent, refused, answeredBy, callRefusal, callAnswer}
+use Rattle.device.specs.Answers.{sent, refused, answeredBy, callRefusal, callAnswer}
 use Rattle.device.specs.Demand1.{LeftAlone, LeftByRefusal, Demand1}
-use Rattle.device.proofs.Calls.{Accepted, accepted}
+use Rattle.device.proofs.Calls.{accepted}
 use Rattle.device.proofs.Replies.{to-whomever}
 use Rattle.status.specs.declared.Reply.{Reply}
 use Rattle.instructions.specs.declared.RegisteredWrite.{RegisteredWrite}

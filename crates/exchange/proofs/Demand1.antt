@@ -1,11 +1,10 @@
 -- What a refusal leaves: of the removal, or as of the device call.
-use mathlib.Core.Path.{_≡_, refl, sym}
+use mathlib.Core.Path.{_≡_, refl}
 use mathlib.Core.List.{List}
 use mathlib.Core.Option.{Option, none, some}
-use Prim.Native.Nat.{ℕ, _<_}
+use Prim.Native.Nat.{ℕ}
 use native.Mathlib.Omega.{arith}
 use Rattle.device.specs.Answers.{Answer, sent, refused, callRefusal, callAnswer}
-use Rattle.device.specs.Demand1.{errorNumber}
 use Rattle.device.proofs.Demand1.{demand-1 as device-demand-1, refused-by}
 use Rattle.instructions.specs.declared.RegisteredWrite.{RegisteredWrite}
 use Rattle.reactions.specs.declared.Heard.the-variants.{Packet}

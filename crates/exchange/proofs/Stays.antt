@@ -1,6 +1,6 @@
 -- Every list of calls leaves an accepted table, and a registered write whose count is as good as the one that was lent last.
-use mathlib.Core.Path.{_≡_, refl, sym, ap, _∙_}
-use mathlib.Core.Bool.{Bool, true, false}
+use mathlib.Core.Path.{_≡_, refl, ap, _∙_}
+use mathlib.Core.Bool.{Bool}
 use mathlib.Core.List.{List, [], _∷_, List·Memᴰ, List·Memᴰ·head, List·Memᴰ·tail}
 use mathlib.Core.Option.{Option, none, some}
 use Prim.Native.Nat.{ℕ, _≤_}
@@ -17,7 +17,7 @@ use Rattle.device.proofs.Stays.{call-fit, call-count}
 use Rattle.instructions.specs.declared.RegisteredWrite.{RegisteredWrite}
 use Rattle.reactions.specs.declared.Heard.the-variants.{Packet}
 use Rattle.exchange.specs.Exchange.{heardOf, bodyRefusal, exchangeTable, exchangeRegistered}
-use Rattle.exchange.specs.Calls.{State, Call, fresh, measurement, device, exchange, lend, stateOf, after, afterAll, refusalIn}
+use Rattle.exchange.specs.Calls.{State, Call, fresh, measurement, device, exchange, lend, after, afterAll, refusalIn}
 use Rattle.exchange.specs.Stays.{lentBy, lastLent, StaysAccepted}
 
 -- ---- one call

@@ -2,14 +2,14 @@
 use mathlib.Core.Path.{_≡_, refl, sym, ap, _∙_}
 use mathlib.Core.Bool.{Bool, true, false}
 use mathlib.Core.List.{List, [], _∷_, _++_, append-assoc}
-use Prim.Native.Nat.{ℕ, suc, _+_, _-_, _≤_}
+use Prim.Native.Nat.{ℕ, suc, _+_, _-_}
 use native.Mathlib.Omega.{arith}
 use lib.Dec.{eqb}
 use lib.ListN.{length, take, getD, length-append, List·getD-append}
 use borrow.Author.Tests.{eqb-true}
 use Rattle.lists.proofs.Bools.{both-ways}
 use Rattle.lists.proofs.Parts.{last-two}
-use Rattle.reading.specs.Rules.{isBadChecksum, isWaiting}
+use Rattle.reading.specs.Rules.{isBadChecksum}
 use Rattle.crc.specs.Crc.{crcFrom}
 use Rattle.crc.proofs.Detects.{few-changed}
 use Rattle.packet_front.specs.Front.{word, idOf}

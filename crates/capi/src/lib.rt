@@ -79,7 +79,7 @@ pub extern "C" fn dxl_fresh(table: &mut [u8]) -> i64
     ensures { λ _. ⌜ now (table .exit) ≡ freshOut (now (table .entry)) ⌝ }
     ensures { λ _. ⌜ StaysAccepted ⌝ }
 {
-    numbers::outcome(control_table::fresh(table))
+    numbers::change(control_table::fresh(table))
 }
 
 // Present position and hardware error: 0, or minus 21. [D42 G5 N5 N13 T5]
@@ -89,7 +89,7 @@ pub extern "C" fn dxl_measure(table: &mut [u8], position: i32, hardware_error: u
     ensures { λ _. ⌜ now (table .exit) ≡ measureOut (now (table .entry)) position «hardware_error» ⌝ }
     ensures { λ _. ⌜ StaysAccepted ⌝ }
 {
-    numbers::outcome(control_table::measure(table, position, hardware_error))
+    numbers::change(control_table::measure(table, position, hardware_error))
 }
 
 // A feeding call on a reader's record in parts, the held bytes and their count. It promises demand 3, and that a packet in which

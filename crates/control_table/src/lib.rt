@@ -16,6 +16,7 @@ use registers::REG_MODEL_NUMBER;
 use registers::REG_PRESENT_POSITION;
 use registers::REG_STATUS_RETURN_LEVEL;
 use registers::TABLE_BYTES;
+use table_rules::Change;
 use table_rules::Outcome;
 ghost use mathlib.Core.Path.{_≡_};
 ghost use mathlib.Core.Option.{none};
@@ -23,7 +24,7 @@ ghost use Prim.Native.Nat.{_+_, _≤_};
 ghost use lib.ListN.{length, take, drop};
 ghost use Rattle.lists.specs.Write.{padded};
 ghost use Rattle.table_rules.specs.Rules.{readRule, writeRule};
-ghost use Rattle.table_rules.specs.Outcomes.{refusalOf, inTable};
+ghost use Rattle.table_rules.specs.Outcomes.{refusalOf, changeRefusal, inTable};
 ghost use Rattle.control_table.specs.Answers.{freshOut, measureOut, readBytes, writeOut};
 
 // The bytes that were read, with 0 after them, where the outcome is Done.
@@ -85,12 +86,12 @@ pub fn read(table: &[u8], address: u16, count: u16) -> Reading
 }
 
 // The table as it comes from the factory: each register has its fresh value, undefined bytes are 0. [N5 N12 N13 T4]
-pub fn fresh(table: &mut [u8]) -> Outcome
-    ensures { λ r. ⌜ refusalOf r ≡ inTable (now (table .entry)) none ⌝ }
+pub fn fresh(table: &mut [u8]) -> Change
+    ensures { λ r. ⌜ changeRefusal r ≡ inTable (now (table .entry)) none ⌝ }
     ensures { λ _. ⌜ now (table .exit) ≡ freshOut (now (table .entry)) ⌝ }
 {
     if table.len() != TABLE_BYTES {
-        return Outcome::NotTable;
+        return Change::NotTable;
     }
     buffers::clear(table, 0);
     table[REG_MODEL_NUMBER] = (FRESH_MODEL_NUMBER % 256) as u8;
@@ -101,16 +102,16 @@ pub fn fresh(table: &mut [u8]) -> Outcome
     table[REG_MAX_POSITION] = (FRESH_MAX_POSITION % 256) as u8;
     table[REG_MAX_POSITION + 1] = (FRESH_MAX_POSITION / 256) as u8;
     table[REG_STATUS_RETURN_LEVEL] = FRESH_STATUS_RETURN_LEVEL;
-    Outcome::Done
+    Change::Done
 }
 
 // The measurement call: present position and hardware error. [N5 N12 N13 T3 T5]
-pub fn measure(table: &mut [u8], position: i32, error: u8) -> Outcome
-    ensures { λ r. ⌜ refusalOf r ≡ inTable (now (table .entry)) none ⌝ }
+pub fn measure(table: &mut [u8], position: i32, error: u8) -> Change
+    ensures { λ r. ⌜ changeRefusal r ≡ inTable (now (table .entry)) none ⌝ }
     ensures { λ _. ⌜ now (table .exit) ≡ measureOut (now (table .entry)) position error ⌝ }
 {
     if table.len() != TABLE_BYTES {
-        return Outcome::NotTable;
+        return Change::NotTable;
     }
     let u = items::unsigned_of(position);
     table[REG_PRESENT_POSITION] = (u % 256) as u8;
@@ -118,5 +119,5 @@ pub fn measure(table: &mut [u8], position: i32, error: u8) -> Outcome
     table[REG_PRESENT_POSITION + 2] = (u / 256 / 256 % 256) as u8;
     table[REG_PRESENT_POSITION + 3] = (u / 256 / 256 / 256 % 256) as u8;
     table[REG_HARDWARE_ERROR] = error;
-    Outcome::Done
+    Change::Done
 }

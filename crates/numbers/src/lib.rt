@@ -9,11 +9,11 @@ use framer::Step;
 use framer::StepEvent;
 use instructions::RegisteredWrite;
 use stuffing::Unstuffed;
-use table_rules::Outcome;
+use table_rules::Change;
 ghost use mathlib.Core.Path.{_≡_};
 ghost use Rattle.stuffing.specs.Answers.{unstuffedAnswer};
 ghost use Rattle.encoder.specs.Encoding.{encodedAnswer};
-ghost use Rattle.table_rules.specs.Outcomes.{refusalOf};
+ghost use Rattle.table_rules.specs.Outcomes.{changeRefusal};
 ghost use Rattle.device.specs.Answers.{repliedAnswer};
 ghost use Rattle.exchange.specs.Exchange.{exchangedAnswer};
 ghost use Rattle.lists.specs.Answer.{count as Answer·count};
@@ -69,16 +69,12 @@ pub fn unstuffed(answer: Unstuffed) -> i64
     }
 }
 
-pub fn outcome(answer: Outcome) -> i64
-    ensures { λ r. ⌜ r ≡ exportedRefusal (refusalOf answer) ⌝ }
+pub fn change(answer: Change) -> i64
+    ensures { λ r. ⌜ r ≡ exportedRefusal (changeRefusal answer) ⌝ }
 {
     match answer {
-        Outcome::Done => 0,
-        Outcome::DataRange => -4,
-        Outcome::DataLength => -5,
-        Outcome::DataLimit => -6,
-        Outcome::NoAccess => -7,
-        Outcome::NotTable => -21,
+        Change::Done => 0,
+        Change::NotTable => -21,
     }
 }
 

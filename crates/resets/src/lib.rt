@@ -16,20 +16,20 @@ use registers::REG_REGISTERED_INSTRUCTION;
 use registers::REG_STATUS_RETURN_LEVEL;
 use registers::REG_TORQUE_ENABLE;
 use registers::TABLE_BYTES;
-use table_rules::Outcome;
+use table_rules::Change;
 ghost use mathlib.Core.Path.{_≡_};
 ghost use mathlib.Core.Bool.{cond};
 ghost use mathlib.Core.Option.{none};
-ghost use Rattle.table_rules.specs.Outcomes.{refusalOf, inTable, onTable};
+ghost use Rattle.table_rules.specs.Outcomes.{changeRefusal, inTable, onTable};
 ghost use Rattle.resets.specs.Resets.{rebooted, resetRom, keeping};
 
 // RAM items fresh, present position as it was, min position as the goal.
-pub fn reboot(table: &mut [u8]) -> Outcome
-    ensures { λ r. ⌜ refusalOf r ≡ inTable (now (table .entry)) none ⌝ }
+pub fn reboot(table: &mut [u8]) -> Change
+    ensures { λ r. ⌜ changeRefusal r ≡ inTable (now (table .entry)) none ⌝ }
     ensures { λ _. ⌜ now (table .exit) ≡ onTable (now (table .entry)) (rebooted (now (table .entry))) ⌝ }
 {
     if table.len() != TABLE_BYTES {
-        return Outcome::NotTable;
+        return Change::NotTable;
     }
     let a = table[REG_MIN_POSITION];
     let b = table[REG_MIN_POSITION + 1];
@@ -48,7 +48,7 @@ pub fn reboot(table: &mut [u8]) -> Outcome
     table[REG_GOAL_POSITION + 1] = b;
     table[REG_GOAL_POSITION + 2] = c;
     table[REG_GOAL_POSITION + 3] = d;
-    Outcome::Done
+    Change::Done
 }
 
 // The byte where it is kept, the fresh one where it is not.
@@ -59,12 +59,12 @@ fn kept_or(keeps: bool, byte: u8, fresh: u8) -> u8
 }
 
 // Factory Reset: homing offset and both limits fresh, and of ID and baud code what is not kept.
-pub fn reset_rom(table: &mut [u8], keeps_id: bool, keeps_baud: bool) -> Outcome
-    ensures { λ r. ⌜ refusalOf r ≡ inTable (now (table .entry)) none ⌝ }
+pub fn reset_rom(table: &mut [u8], keeps_id: bool, keeps_baud: bool) -> Change
+    ensures { λ r. ⌜ changeRefusal r ≡ inTable (now (table .entry)) none ⌝ }
     ensures { λ _. ⌜ now (table .exit) ≡ onTable (now (table .entry)) (resetRom (keeping «keeps_id» «keeps_baud») (now (table .entry))) ⌝ }
 {
     if table.len() != TABLE_BYTES {
-        return Outcome::NotTable;
+        return Change::NotTable;
     }
     table[REG_ID] = kept_or(keeps_id, table[REG_ID], FRESH_ID);
     table[REG_BAUD_CODE] = kept_or(keeps_baud, table[REG_BAUD_CODE], FRESH_BAUD_CODE);
@@ -80,5 +80,5 @@ pub fn reset_rom(table: &mut [u8], keeps_id: bool, keeps_baud: bool) -> Outcome
     table[REG_MIN_POSITION + 1] = 0;
     table[REG_MIN_POSITION + 2] = 0;
     table[REG_MIN_POSITION + 3] = 0;
-    Outcome::Done
+    Change::Done
 }

@@ -18,7 +18,7 @@ ghost use Rattle.table_rules.specs.Outcomes.{inTable};
 ghost use Rattle.control_table.specs.Answers.{freshOut, measureOut};
 ghost use Rattle.reading.specs.Calls.{feed as Call·feed, gap as Call·gap};
 ghost use Rattle.packet.specs.Burst.{BurstDetected};
-ghost use Rattle.reader.specs.Records.{saidOn, leftBy, lent, packetOn, ReaderPromises};
+ghost use Rattle.reader.specs.Records.{stepOn, leftBy, lent, packetOn, ReaderPromises};
 ghost use Rattle.device.specs.Answers.{callAnswer, callRegistered, callTable, callOut};
 ghost use Rattle.device.specs.Promises.{DevicePromises};
 ghost use Rattle.exchange.specs.Exchange.{exchangeAnswer, exchangeRegistered, exchangeTable, exchangeBody, exchangeOut};
@@ -26,7 +26,7 @@ ghost use Rattle.exchange.specs.Stays.{StaysAccepted};
 ghost use Rattle.exchange.specs.Promises.{ExchangePromises};
 ghost use Rattle.cases.specs.Cases.{CasesHold};
 ghost use Rattle.numbers.specs.Exported.{exported, exportedRefusal, stepNumbers, deviceNumbers};
-ghost use Rattle.capi.specs.Heard.{heardBy, idBy};
+ghost use Rattle.capi.specs.Heard.{heardBy, idOfKind};
 
 // The checksum of the bytes, going on from an earlier one; 0 starts a packet's. The laws of the sum are promised too.
 // [C1-C8 G5]
@@ -102,7 +102,7 @@ pub extern "C" fn dxl_feed(
     chunk: &[u8],
     packet: &mut [u8; 1031],
 ) -> StepNumbers
-    ensures { λ r. ⌜ r ≡ stepNumbers (saidOn (lent (now (held .entry)) (now (count .entry))) (Call·feed (now (chunk .entry)))) ⌝ }
+    ensures { λ r. ⌜ r ≡ stepNumbers (stepOn (lent (now (held .entry)) (now (count .entry))) (Call·feed (now (chunk .entry)))) ⌝ }
     ensures { λ _. ⌜ lent (now (held .exit)) (now (count .exit)) ≡ leftBy (lent (now (held .entry)) (now (count .entry))) (Call·feed (now (chunk .entry))) ⌝ }
     ensures { λ _. ⌜ now (packet .exit) ≡ packetOn (lent (now (held .entry)) (now (count .entry))) (Call·feed (now (chunk .entry))) (now (packet .entry)) ⌝ }
     ensures { λ _. ⌜ ReaderPromises ⌝ }
@@ -121,7 +121,7 @@ pub extern "C" fn dxl_gap(
     count: &mut usize,
     packet: &mut [u8; 1031],
 ) -> StepNumbers
-    ensures { λ r. ⌜ r ≡ stepNumbers (saidOn (lent (now (held .entry)) (now (count .entry))) Call·gap) ⌝ }
+    ensures { λ r. ⌜ r ≡ stepNumbers (stepOn (lent (now (held .entry)) (now (count .entry))) Call·gap) ⌝ }
     ensures { λ _. ⌜ lent (now (held .exit)) (now (count .exit)) ≡ leftBy (lent (now (held .entry)) (now (count .entry))) Call·gap ⌝ }
     ensures { λ _. ⌜ now (packet .exit) ≡ packetOn (lent (now (held .entry)) (now (count .entry))) Call·gap (now (packet .entry)) ⌝ }
     ensures { λ _. ⌜ ReaderPromises ⌝ }
@@ -139,7 +139,7 @@ pub extern "C" fn dxl_reader_feed<'r, 'c, 'p>(
     chunk: &'c [u8],
     packet: &'p mut [u8; 1031],
 ) -> StepNumbers
-    ensures { λ r. ⌜ (r ≡ stepNumbers (saidOn (now (reader .entry)) (Call·feed (now (chunk .entry)))))
+    ensures { λ r. ⌜ (r ≡ stepNumbers (stepOn (now (reader .entry)) (Call·feed (now (chunk .entry)))))
         × (now (reader .exit) ≡ leftBy (now (reader .entry)) (Call·feed (now (chunk .entry))))
         × (now (packet .exit) ≡ packetOn (now (reader .entry)) (Call·feed (now (chunk .entry))) (now (packet .entry)))
         × ReaderPromises ⌝ }
@@ -156,7 +156,7 @@ pub extern "C" fn dxl_reader_gap<'r, 'p>(
     reader: &'r mut Reader,
     packet: &'p mut [u8; 1031],
 ) -> StepNumbers
-    ensures { λ r. ⌜ (r ≡ stepNumbers (saidOn (now (reader .entry)) Call·gap))
+    ensures { λ r. ⌜ (r ≡ stepNumbers (stepOn (now (reader .entry)) Call·gap))
         × (now (reader .exit) ≡ leftBy (now (reader .entry)) Call·gap)
         × (now (packet .exit) ≡ packetOn (now (reader .entry)) Call·gap (now (packet .entry)))
         × ReaderPromises ⌝ }
@@ -176,8 +176,8 @@ fn heard_by(kind: u8) -> Heard
     Heard::BadChecksum
 }
 
-fn id_by(kind: u8, id: u8) -> u8
-    ensures { λ r. ⌜ r ≡ idBy kind id ⌝ }
+fn id_of_kind(kind: u8, id: u8) -> u8
+    ensures { λ r. ⌜ r ≡ idOfKind kind id ⌝ }
 {
     if kind == 1 {
         return id;
@@ -200,14 +200,14 @@ pub extern "C" fn dxl_device(
     reply: &mut [u8],
 ) -> DeviceNumbers
     ensures { λ r. ⌜ r ≡ deviceNumbers
-        (callAnswer (now (table .entry)) registered (heardBy kind) (idBy kind id) (now (body .entry)) (now (reply .entry)))
-        (callRegistered (now (table .entry)) registered (heardBy kind) (idBy kind id) (now (body .entry)) (now (reply .entry))) ⌝ }
-    ensures { λ _. ⌜ (now (table .exit) ≡ callTable (now (table .entry)) registered (heardBy kind) (idBy kind id) (now (body .entry)) (now (reply .entry)))
-        × (now (reply .exit) ≡ callOut (now (table .entry)) registered (heardBy kind) (idBy kind id) (now (body .entry)) (now (reply .entry))) ⌝ }
+        (callAnswer (now (table .entry)) registered (heardBy kind) (idOfKind kind id) (now (body .entry)) (now (reply .entry)))
+        (callRegistered (now (table .entry)) registered (heardBy kind) (idOfKind kind id) (now (body .entry)) (now (reply .entry))) ⌝ }
+    ensures { λ _. ⌜ (now (table .exit) ≡ callTable (now (table .entry)) registered (heardBy kind) (idOfKind kind id) (now (body .entry)) (now (reply .entry)))
+        × (now (reply .exit) ≡ callOut (now (table .entry)) registered (heardBy kind) (idOfKind kind id) (now (body .entry)) (now (reply .entry))) ⌝ }
     ensures { λ _. ⌜ DevicePromises × StaysAccepted ⌝ }
 {
     let heard = heard_by(kind);
-    let heard_id = id_by(kind, id);
+    let heard_id = id_of_kind(kind, id);
     numbers::response(device::hear(table, registered, heard, heard_id, body, reply))
 }
 

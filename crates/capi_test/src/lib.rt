@@ -1,6 +1,6 @@
 // Exports that only the comparison tests and the benchmark call: parts that firmware does not need by themselves.
 use numbers::StepNumbers;
-use packet::Verdict;
+use packet::Judgement;
 use reader::Reader;
 use stuffing::Checked;
 ghost use mathlib.Core.Path.{_≡_};
@@ -16,7 +16,7 @@ ghost use Rattle.reading.specs.Calls.{feed as Call·feed};
 ghost use Rattle.reading.specs.Progress.{Settles};
 ghost use Rattle.packet_front.specs.Begun.{lacks, settledBy};
 ghost use Rattle.packet.specs.Verdict.{verdict, answerFor, protocol2};
-ghost use Rattle.reader.specs.Records.{saidOn, leftBy, lent, packetOn, ReaderPromises};
+ghost use Rattle.reader.specs.Records.{stepOn, leftBy, lent, packetOn, ReaderPromises};
 ghost use Rattle.numbers.specs.Exported.{stepNumbers};
 ghost use Rattle.capi_test.specs.Numbers.{testNumber, verdictNumbers};
 
@@ -62,22 +62,22 @@ pub extern "C" fn dxl_test_verdict(segment: &[u8], offset: usize) -> VerdictNumb
     ensures { λ _. ⌜ Settles protocol2 settledBy ⌝ }
 {
     match packet::judge(segment, offset) {
-        Verdict::Nothing => VerdictNumbers {
+        Judgement::Nothing => VerdictNumbers {
             kind: 0,
             id: 0,
             count: 0,
         },
-        Verdict::Packet(n) => VerdictNumbers {
+        Judgement::Packet(n) => VerdictNumbers {
             kind: 1,
             id: 0,
             count: n,
         },
-        Verdict::BadChecksum(id) => VerdictNumbers {
+        Judgement::BadChecksum(id) => VerdictNumbers {
             kind: 2,
             id,
             count: 0,
         },
-        Verdict::Waiting(n) => VerdictNumbers {
+        Judgement::Waiting(n) => VerdictNumbers {
             kind: 3,
             id: 0,
             count: n,
@@ -96,7 +96,7 @@ pub struct FedNumbers {
 // The feeding call by value, on a record made of the held bytes and their count.
 #[no_mangle]
 pub extern "C" fn dxl_test_feed_value(held: &[u8; 1030], count: usize, chunk: &[u8]) -> FedNumbers
-    ensures { λ r. ⌜ r .step ≡ stepNumbers (saidOn (lent (now (held .entry)) count) (Call·feed (now (chunk .entry)))) ⌝ }
+    ensures { λ r. ⌜ r .step ≡ stepNumbers (stepOn (lent (now (held .entry)) count) (Call·feed (now (chunk .entry)))) ⌝ }
     ensures { λ r. ⌜ r .packet ≡ packetOn (lent (now (held .entry)) count) (Call·feed (now (chunk .entry))) (replicate 1031 0) ⌝ }
     ensures { λ r. ⌜ r .reader ≡ leftBy (lent (now (held .entry)) count) (Call·feed (now (chunk .entry))) ⌝ }
     ensures { λ _. ⌜ ReaderPromises ⌝ }

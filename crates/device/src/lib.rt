@@ -20,7 +20,7 @@ ghost use Rattle.status.specs.Sending.{writtenAnswer};
 ghost use Rattle.device.specs.Device.{carried, carryOut};
 ghost use Rattle.reactions.specs.Reactions.{reaction as Reactions·reaction};
 ghost use Rattle.device.specs.Answers.{repliedAnswer, withSlot, stateRefusal, callRefusal, answeredBy, callAnswer, callRegistered, callTable, callOut};
-ghost use Rattle.device.specs.Steps.{replyTo, carriedOf};
+ghost use Rattle.device.specs.Results.{replyTo, carriedOf};
 
 // ID and status return level are those before the instruction, the table is that after it.
 fn reply_to(table: &[u8], own: u8, level: u8, reacted: Reacted) -> Reply
@@ -52,7 +52,7 @@ pub struct CarriedOut {
 }
 
 // What was sent to the own ID, or to all devices.
-fn heed(
+fn execute(
     table: &mut [u8],
     registered: RegisteredWrite,
     heard: Heard,
@@ -87,10 +87,10 @@ fn carry_out(
     ensures { λ _. ⌜ now (table .exit) ≡ carryOut (now (table .entry)) registered heard id (now (body .entry)) .table ⌝ }
 {
     if id == table[REG_ID] {
-        return heed(table, registered, heard, false, body);
+        return execute(table, registered, heard, false, body);
     }
     if id == BROADCAST_ID {
-        return heed(table, registered, heard, true, body);
+        return execute(table, registered, heard, true, body);
     }
     CarriedOut {
         reply: status::silence(),

@@ -2,7 +2,7 @@
 use device::Replied;
 use device::Response;
 use instructions::RegisteredWrite;
-use packet::Verdict;
+use packet::Judgement;
 use reactions::Heard;
 use stuffing::Checked;
 ghost use mathlib.Core.Path.{_≡_};
@@ -27,7 +27,7 @@ const NO_ID: u8 = 255;
 fn id_heard(packet: &[u8]) -> u8
     ensures { λ r. ⌜ r ≡ idHeard (now (packet .entry)) ⌝ }
 {
-    let Verdict::Packet(n) = packet::judge(packet, 0) else {
+    let Judgement::Packet(n) = packet::judge(packet, 0) else {
         return NO_ID;
     };
     if n != packet.len() {

@@ -13,7 +13,7 @@ use Rattle.items.specs.Items.{itemBytes}
 use Rattle.instructions.specs.declared.RegisteredWrite.{RegisteredWrite}
 use Rattle.instructions.specs.Instructions.{Effect, refusing, reboot, factoryReset}
 use Rattle.instructions.specs.declared.Done.{Done}
-use Rattle.instructions.specs.Steps.{doneOf, sized}
+use Rattle.instructions.specs.Results.{doneOf, sized}
 use Rattle.instructions.proofs.Sized.{of-size, done}
 use Rattle.resets.specs.Resets.{resetRom, keepsNone, keepsId, keepsIdAndBaud}
 use Rattle.table_rules.specs.Outcomes.{onTable}

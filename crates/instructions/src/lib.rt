@@ -24,7 +24,7 @@ ghost use Rattle.instructions.specs.Instructions.{read as Instructions·
 ghost use Rattle.instructions.specs.Instructions.{write as Instructions·write};
 ghost use Rattle.instructions.specs.Instructions.{action as Instructions·action};
 ghost use Rattle.instructions.specs.Instructions.{reboot as Instructions·reboot};
-ghost use Rattle.instructions.specs.Steps.{doneWith, doneOf, sized};
+ghost use Rattle.instructions.specs.Results.{doneWith, doneOf, sized};
 
 // The instructions: the first byte of a body.
 pub const INST_PING: u8 = 0x01;

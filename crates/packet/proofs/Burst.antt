@@ -80,8 +80,8 @@ module _ (a d d′ z : List ℕ) (s : Spoiled a d d′ z) (f : WellFormed (a ++ 
       ruled-alone (a ++ (d′ ++ z)) front-good (simp length-append (omega (arith, s .behind))) same-size
       ∙ rw wrong (ap isBadChecksum same-id)
 
-  told : (x : List ℕ) → verdict ((a ++ (d′ ++ z)) ++ x) ≡ isBadChecksum (idOf (a ++ (d ++ z)))
-  told x = let b = bad in laws .stays (a ++ (d′ ++ z)) x (λ e. let n : _≡_ {A = ℕ} 0 1 = cc in absurd (omega arith)) ∙ b
+  reported : (x : List ℕ) → verdict ((a ++ (d′ ++ z)) ++ x) ≡ isBadChecksum (idOf (a ++ (d ++ z)))
+  reported x = let b = bad in laws .stays (a ++ (d′ ++ z)) x (λ e. let n : _≡_ {A = ℕ} 0 1 = cc in absurd (omega arith)) ∙ b
 
 pub burst-detected : BurstDetected
-burst-detected = record { refused = refused; told = λ a d d′ z x s f. told a d d′ z s f x }
+burst-detected = record { refused = refused; reported = λ a d d′ z x s f. reported a d d′ z s f x }

@@ -28,8 +28,8 @@ ghost use lib.ListN.{length};
 ghost use Rattle.registers.specs.Registers.{tableSize};
 ghost use Rattle.reactions.specs.Reactions.{silent, ownOnly, heardPing, heardRead, heardWrite, heardRegWrite, heardAction, heardReboot, heardFactoryReset, syncReadBy, syncWriteBy, heardSyncRead, heardSyncWrite, heardInstruction};
 ghost use Rattle.reactions.specs.Reactions.{reaction as Reactions·reaction};
-ghost use Rattle.instructions.specs.Steps.{doneWith};
-ghost use Rattle.reactions.specs.Steps.{reactedBy, reactedOf, sizedReaction};
+ghost use Rattle.instructions.specs.Results.{doneWith};
+ghost use Rattle.reactions.specs.Results.{reactedBy, reactedOf, sizedReaction};
 
 // The status return level from which on it is answered: Ping always, a read, everything else.
 const LEVEL_PING: u8 = 0;

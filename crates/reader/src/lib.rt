@@ -4,7 +4,7 @@ use framer::Step;
 ghost use mathlib.Core.Path.{_≡_};
 ghost use lib.ListN.{replicate};
 ghost use Rattle.reading.specs.Calls.{feed as Call·feed, gap as Call·gap};
-ghost use Rattle.reader.specs.Records.{saidOn, leftBy, packetOn, ReaderPromises};
+ghost use Rattle.reader.specs.Records.{stepOn, leftBy, packetOn, ReaderPromises};
 
 // The reader's record, which lives as long as the device: the held bytes stand at the start, and the rest is 0.
 #[repr(C)]
@@ -23,7 +23,7 @@ pub struct Fed {
 // A feeding call: takes the fewest bytes of the chunk that decide an event, or all of it. Feed the rest again until a call gives
 // no event, even if the rest is empty: events may lie in the held bytes. [F1-F16 K3 K7 Q1-Q14]
 pub fn feed(reader: Reader, chunk: &[u8]) -> Fed
-    ensures { λ r. ⌜ (r .step ≡ saidOn reader (Call·feed (now (chunk .entry))))
+    ensures { λ r. ⌜ (r .step ≡ stepOn reader (Call·feed (now (chunk .entry))))
         × (r .packet ≡ packetOn reader (Call·feed (now (chunk .entry))) (replicate 1031 0))
         × (r .reader ≡ leftBy reader (Call·feed (now (chunk .entry)))) ⌝ }
     ensures { λ _. ⌜ ReaderPromises ⌝ }
@@ -42,7 +42,7 @@ pub fn feed(reader: Reader, chunk: &[u8]) -> Fed
 
 // A gap call: the next event as if the segment ended with the held bytes. Call it until nothing is left. [F12-F16 Q1-Q14 V1]
 pub fn gap(reader: Reader) -> Fed
-    ensures { λ r. ⌜ (r .step ≡ saidOn reader Call·gap) × (r .packet ≡ packetOn reader Call·gap (replicate 1031 0))
+    ensures { λ r. ⌜ (r .step ≡ stepOn reader Call·gap) × (r .packet ≡ packetOn reader Call·gap (replicate 1031 0))
         × (r .reader ≡ leftBy reader Call·gap) ⌝ }
     ensures { λ _. ⌜ ReaderPromises ⌝ }
 {

@@ -18,7 +18,7 @@ use Rattle.encoder.specs.declared.Encoded.{Encoded}
 use Rattle.encoder.specs.declared.Encoded.the-variants.{Count, BadId, TooLong, NoRoom}
 use Rattle.status.specs.declared.Reply.{Reply}
 use Rattle.status.specs.Status.{statusBody, statusPacket}
-use Rattle.status.specs.Steps.{writtenBy}
+use Rattle.status.specs.Results.{writtenBy}
 use Rattle.status.specs.Sending.{writtenAnswer, statusRefusal}
 
 -- eight bytes one by one

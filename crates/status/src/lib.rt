@@ -8,7 +8,7 @@ ghost use Prim.Native.Nat.{_≤_};
 ghost use Rattle.encoder.specs.Encoding.{encodedAnswer, encodeAnswer, encodeOut};
 ghost use Rattle.status.specs.Status.{silence as Status·silence};
 ghost use Rattle.status.specs.Status.{errorByte, statusBody};
-ghost use Rattle.status.specs.Steps.{writtenBy};
+ghost use Rattle.status.specs.Results.{writtenBy};
 ghost use Rattle.status.specs.Sending.{writtenAnswer, statusAnswer, statusOut};
 
 // The shortest reply buffer: every status has room in it.

@@ -55,7 +55,7 @@ pub fn is_done(outcome: Outcome) -> bool
 }
 
 // The four bytes at k as a signed number.
-fn word_at(bytes: &[u8], k: usize) -> i32
+fn signed_at(bytes: &[u8], k: usize) -> i32
     requires { ⌜ k + 4 ≤ length (now bytes) ⌝ }
     ensures { λ r. ⌜ r ≡ signed (numberAt (now (bytes .entry)) k 4) ⌝ }
 {
@@ -68,12 +68,12 @@ fn word_after(table: &[u8], address: usize, bytes: &[u8], a: usize) -> i32
     ensures { λ r. ⌜ r ≡ signed (numberAt (stored (now (table .entry)) address (now (bytes .entry))) a 4) ⌝ }
 {
     if a < address {
-        return word_at(table, a);
+        return signed_at(table, a);
     }
     if a - address < bytes.len() {
-        return word_at(bytes, a - address);
+        return signed_at(bytes, a - address);
     }
-    word_at(table, a)
+    signed_at(table, a)
 }
 
 // The bytes from `address` up to `end` have a byte of the register of `size` bytes at `start`.
@@ -100,7 +100,7 @@ fn in_range(bytes: &[u8], k: usize, row: Row) -> bool
     let low = row.low;
     let high = row.high;
     if row.bytes == SIGNED_BYTES {
-        return items::within(word_at(bytes, k), low, high);
+        return items::within(signed_at(bytes, k), low, high);
     }
     items::within(bytes[k] as i32, low, high)
 }

@@ -2,7 +2,7 @@ use mathlib.Core.Path.{refl, ap}
 use mathlib.Core.List.{List}
 use Prim.Native.Nat.{ℕ}
 use Rattle.instructions.specs.Instructions.{ping}
-use Rattle.instructions.specs.Steps.{doneWith}
+use Rattle.instructions.specs.Results.{doneWith}
 use Rattle.instructions.proofs.Sized.{done, not-done}
 use Rattle.instructions.proofs.Options.{identity-bytes}
 use borrow.Author.Needs.{needs}

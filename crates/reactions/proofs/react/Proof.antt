@@ -2,7 +2,7 @@ use mathlib.Core.Path.{_≡_, refl, ap, _∙_}
 use mathlib.Core.List.{List}
 use Prim.Native.Nat.{ℕ}
 use Rattle.reactions.specs.Reactions.{Reaction, heardInstruction}
-use Rattle.reactions.specs.Steps.{reactedOf}
+use Rattle.reactions.specs.Results.{reactedOf}
 use Rattle.reactions.specs.declared.Reacted.{Reacted}
 use Rattle.reactions.proofs.Reactions.{by-number, ping-keeps, read-keeps, sync-read-keeps, undefined-instruction}
 use borrow.Author.Needs.{needs}

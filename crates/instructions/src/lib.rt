@@ -1,5 +1,10 @@
 // What each instruction does to the control table and the registered write. A table of another size is refused: nothing is done,
 // and NOT_A_TABLE stands in the place of the error number.
+use codes::ERROR_ACCESS;
+use codes::ERROR_DATA_LENGTH;
+use codes::ERROR_DATA_LIMIT;
+use codes::ERROR_DATA_RANGE;
+use codes::ERROR_INSTRUCTION;
 use registers::MAX_DATA;
 use registers::REG_FIRMWARE_VERSION;
 use registers::REG_MODEL_NUMBER;
@@ -25,40 +30,6 @@ ghost use Rattle.instructions.specs.Instructions.{write as Instructions�
 ghost use Rattle.instructions.specs.Instructions.{action as Instructions·action};
 ghost use Rattle.instructions.specs.Instructions.{reboot as Instructions·reboot};
 ghost use Rattle.instructions.specs.Results.{doneWith, doneOf, sized};
-
-// The instructions: the first byte of a body.
-pub const INST_PING: u8 = 0x01;
-
-pub const INST_READ: u8 = 0x02;
-
-pub const INST_WRITE: u8 = 0x03;
-
-pub const INST_REG_WRITE: u8 = 0x04;
-
-pub const INST_ACTION: u8 = 0x05;
-
-pub const INST_FACTORY_RESET: u8 = 0x06;
-
-pub const INST_REBOOT: u8 = 0x08;
-
-pub const INST_STATUS: u8 = 0x55;
-
-pub const INST_SYNC_READ: u8 = 0x82;
-
-pub const INST_SYNC_WRITE: u8 = 0x83;
-
-// The error numbers of a status.
-pub const ERROR_INSTRUCTION: u8 = 0x02;
-
-pub const ERROR_CHECKSUM: u8 = 0x03;
-
-pub const ERROR_DATA_RANGE: u8 = 0x04;
-
-pub const ERROR_DATA_LENGTH: u8 = 0x05;
-
-pub const ERROR_DATA_LIMIT: u8 = 0x06;
-
-pub const ERROR_ACCESS: u8 = 0x07;
 
 // What stands in the place of an error number where the table has another size.
 pub const NOT_A_TABLE: u8 = 21;

@@ -1,19 +1,19 @@
 // What the device makes of what it hears: which instruction is carried out, and how that is answered. A table of another size is
 // refused: nothing is done, NOT_A_TABLE stands in the place of the error number, and nothing is answered.
+use codes::ERROR_CHECKSUM;
+use codes::ERROR_DATA_LENGTH;
+use codes::ERROR_INSTRUCTION;
+use codes::INST_ACTION;
+use codes::INST_FACTORY_RESET;
+use codes::INST_PING;
+use codes::INST_READ;
+use codes::INST_REBOOT;
+use codes::INST_REG_WRITE;
+use codes::INST_STATUS;
+use codes::INST_SYNC_READ;
+use codes::INST_SYNC_WRITE;
+use codes::INST_WRITE;
 use instructions::Done;
-use instructions::ERROR_CHECKSUM;
-use instructions::ERROR_DATA_LENGTH;
-use instructions::ERROR_INSTRUCTION;
-use instructions::INST_ACTION;
-use instructions::INST_FACTORY_RESET;
-use instructions::INST_PING;
-use instructions::INST_READ;
-use instructions::INST_REBOOT;
-use instructions::INST_REG_WRITE;
-use instructions::INST_STATUS;
-use instructions::INST_SYNC_READ;
-use instructions::INST_SYNC_WRITE;
-use instructions::INST_WRITE;
 use instructions::NOT_A_TABLE;
 use instructions::RESET_ALL;
 use instructions::RegisteredWrite;

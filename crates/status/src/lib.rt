@@ -1,6 +1,6 @@
 // The reply, and its status packet.
+use codes::INST_STATUS;
 use encoder::Encoded;
-use instructions::INST_STATUS;
 use packet_front::MAX_ID;
 use registers::MAX_DATA;
 ghost use mathlib.Core.Path.{_≡_};

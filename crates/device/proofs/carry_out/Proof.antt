@@ -36,7 +36,7 @@ returns-2 c =
     let k = r .before .before in
     let a = k .before .before .before .before .before .args in
     let e = to-all (a .table .now) (a .registered) (a .heard) (a .id) (a .body .now) (k .before .if1 .left) (k .if2 .taken) in
-    (r .heed2 .ensures .0 ∙ ap carriedOf e, r .heed2 .ensures .1 ∙ ap (λ (x : Carried). x .table) e)
+    (r .execute2 .ensures .0 ∙ ap carriedOf e, r .execute2 .ensures .1 ∙ ap (λ (x : Carried). x .table) e)
 
 silence-requires : tie.Need-silence-requires
 silence-requires c κs = search needs

@@ -35,8 +35,8 @@ returns-2 c =
     let a = s .args in
     let w = whole-inside (a .address) _ (a .a) (s .pre .2) (c .before .before .if1 .left) (omega arith) in
     let e : a .a ≡ a .address + (a .a - a .address) = omega arith in
-    toZ-ofZ {w = w32} (record { sfits = c .word-at2 .ok })
-    ∙ c .word-at2 .ensures
+    toZ-ofZ {w = w32} (record { sfits = c .signed-at2 .ok })
+    ∙ c .signed-at2 .ensures
     ∙ ap signed (sym (ap (λ (n : ℕ). numberAt (stored (a .table .now) (a .address) (a .bytes .now)) n 4) e
     ∙ number-at (a .table .now) (a .address) (a .bytes .now) (s .pre .0) (a .a - a .address) 4 (omega arith)))
 
@@ -47,8 +47,8 @@ returns-3 : tie.Need-returns-3
 returns-3 c =
     let s = c .before .before .before .before .before in
     let a = s .args in
-    toZ-ofZ {w = w32} (record { sfits = c .word-at3 .ok })
-    ∙ c .word-at3 .ensures
+    toZ-ofZ {w = w32} (record { sfits = c .signed-at3 .ok })
+    ∙ c .signed-at3 .ensures
     ∙ ap signed (sym (number-after (a .table .now) (a .address) (a .bytes .now) (s .pre .0) (a .a) 4 (omega arith)))
 
 pub word-after-spec : {M : Type 1} → statement M

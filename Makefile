@@ -53,7 +53,7 @@ prove and test it
   make kit                 the tools that are needed, and the kit's version
   make format              the layout of the Rattle files
   make promises_test       docs/PROMISES.md and docs/BELIEVE.md beside the tree
-  make constants_test      the names for numbers in the header beside the definitions
+  make constants_test      the names for numbers in the header beside the definitions and the code
   make vectors_test        the input of the program vectors beside the published packets
   make make_test           these commands themselves
   make c_test              the archive from C: published packets, the loop that the header shows, a board with a UART
@@ -231,7 +231,7 @@ promises_test:
 
 constants_test:
 	@$(call need,python3)
-	@$(call step,check_constants,names for numbers in the header beside the definitions) python3 tests/check_constants.py include/mednukals.h
+	@$(call step,check_constants,names for numbers in the header beside the definitions and the code) python3 tests/check_constants.py include/mednukals.h
 
 make_test:
 	@$(call need,python3)

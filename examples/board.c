@@ -1,9 +1,9 @@
 /*
  * A board: the main loop that firmware writes around the library. Its line is a pseudo-terminal, whose name it prints;
- * examples/talk.py is a master that talks to it. Firmware brings its own line and clock in place of pty_line.c, and its arm.
+ * examples/talk.py is a master that talks to it. Firmware has its own line and clock in place of pty_line.c, and its own arm.
  *
- * The library finds the packets, keeps the control table and writes the status packets. What it leaves to the board is here: to
- * say when the line was silent, to wait for a reply slot, to measure, and to act on a refusal.
+ * The library finds the packets, keeps the control table and writes the status packets. The rest is here: to notice when the line
+ * was silent, to wait for a reply slot, to measure, and to act on a refusal.
  */
 #define _POSIX_C_SOURCE 200809L
 #include <errno.h>
@@ -22,13 +22,13 @@ enum { ENDED = 0, FAILED = 1, BAD_OPTION = 2, REFUSED = 3 };
 /* The arm moves by at most ARM_STEP in ARM_TICK microseconds. */
 enum { ARM_TICK = 10000, ARM_STEP = 32 };
 
-/* The options; times are in microseconds. In a slot fit the longest status, 21 bytes at 57,600 baud, and a gap. */
+/* The options; times are in microseconds. A slot holds the longest status, 21 bytes at 57,600 baud, and a gap. */
 static int64_t gap = 1500, slot_time = 6000;
 static int64_t seconds; /* 0: no end */
 static int64_t own_id = 1;
 static int tracing, self_test_only, help;
 
-/* What is lent to the library, as its header says. */
+/* What the library's calls use; the header says how. */
 static struct dxl_reader reader; /* all 0: a fresh one */
 static uint8_t packet[DXL_MAX_PACKET], body[DXL_MAX_BODY];
 static uint8_t table[DXL_TABLE_BYTES], reply[DXL_MIN_REPLY];
@@ -37,7 +37,7 @@ static struct dxl_registered registered;
 static struct line line;
 static int64_t last_byte; /* when bytes came last */
 
-/* The status that waits for its slot: the first bytes of reply, which the library leaves alone while it has nothing to say. */
+/* The status that waits for its slot: the first bytes of reply, which a call leaves alone while it has nothing to send. */
 static size_t waiting; /* how many; 0: none waits */
 static int64_t waiting_until;
 
@@ -71,8 +71,8 @@ static const char *meaning(int64_t refusal)
 }
 
 /*
- * The answer of a call that did not refuse. Nothing that comes over the line makes a call refuse here. A refusal means that this
- * program lent something unfit or that its memory was overwritten: a board would let go of the motor and start anew.
+ * Returns the result of a call that was not refused. Nothing that comes over the line gets a call refused here. A refusal means
+ * that this program passed something unfit or that its memory was overwritten: a board would let go of the motor and start anew.
  */
 static size_t accepted(const char *call, int64_t answer)
 {
@@ -121,8 +121,8 @@ static void send_waiting(void)
 }
 
 /*
- * Sends the first n bytes of reply when their slot comes. Slots are counted from the last byte heard: boards keep in step then,
- * though one hears a packet at its last byte and another, behind noise, only at the gap. What is due goes at once, before the
+ * Sends the first n bytes of reply when their slot comes. Slots are counted from the last byte heard: so boards keep in step,
+ * though one hears a packet at its last byte and another, behind noise, only at the gap. What is due goes out at once, before the
  * next event fills reply again. A status that waited until now is given up: the master has not waited for it, and by now its slot
  * may be another's.
  */
@@ -166,7 +166,7 @@ static void hear(struct dxl_step step)
         send_in_slot((size_t)answer.count, answer.slot);
 }
 
-/* Feeds until a call gives no event, also where no byte is left: more events may lie in the held bytes. */
+/* Feeds until a call gives no event, even if no byte is left: more events may lie in the held bytes. */
 static void bytes_came(const uint8_t *chunk, size_t n)
 {
     for (;;) {
@@ -211,7 +211,7 @@ static int32_t signed_at(size_t address)
     return u <= INT32_MAX ? (int32_t)u : -(int32_t)(UINT32_MAX - u) - 1;
 }
 
-/* Stands in for motor and sensor: towards the goal while torque is on, and the table learns where the arm is. */
+/* Stands in for motor and sensor: moves towards the goal while torque is on, and stores the position in the table. */
 static void move_arm(void)
 {
     int64_t way = (int64_t)signed_at(DXL_REG_GOAL_POSITION) - position;
@@ -226,7 +226,7 @@ static void move_arm(void)
 
 /* ---- the loop ---- */
 
-/* The segment ends here, unless bytes come earlier. Where none are held, a gap changes nothing. */
+/* When the segment ends, unless bytes come earlier. With no bytes held, a gap changes nothing. */
 static int64_t gap_end(void)
 {
     return reader.count > 0 ? last_byte + gap : LINE_NEVER;
@@ -238,7 +238,7 @@ static int64_t earlier(int64_t a, int64_t b)
 }
 
 /*
- * A gap is told only where the wait for it ended without a byte. The clock alone would not do: bytes may have come while this
+ * A gap is reported only if the wait for it ended without a byte. The clock alone would not do: bytes may have come while this
  * program was kept from running. A signal that comes just before the wait is seen at the arm's next tick.
  */
 static void run(int64_t end)
@@ -379,7 +379,7 @@ static int is_option(const char *word, const char *name)
     return strncmp(word, name, n) == 0 && (word[n] == '\0' || word[n] == '=');
 }
 
-/* How many words an option takes: 0 where it is none of these. */
+/* How many words an option takes: 0 if it is none of these. */
 static int take_switch(char **words)
 {
     for (size_t i = 0; i < sizeof SWITCHES / sizeof SWITCHES[0]; i++) {

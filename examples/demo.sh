@@ -1,6 +1,6 @@
 #!/bin/sh
 # Starts a board, lets talk.py talk to it and ends it: demo.sh BOARD
-# Nothing is left running, however this ends; were it killed itself, the board would end after a minute.
+# It leaves nothing running; if it is killed, the board ends after a minute.
 set -eu
 
 # Longer than on a wire: here a scheduler stands between the board and its line.
@@ -12,7 +12,7 @@ fail() {
     exit 1
 }
 
-# Ends the board and answers its exit code.
+# Ends the board and returns its exit code.
 end_board() {
     kill "$pid" 2>/dev/null || :
     code=0

@@ -1,5 +1,5 @@
 /*
- * The line of the example board, and its clock: a pseudo-terminal where a board has a UART and a timer. Firmware brings its own
+ * The line of the example board, and its clock: a pseudo-terminal where a real board has a UART and a timer. Firmware has its own
  * in place of these calls.
  */
 #ifndef PTY_LINE_H
@@ -17,10 +17,10 @@ struct line {
 /* A time that never comes. */
 #define LINE_NEVER INT64_MAX
 
-/* Microseconds by a clock that only goes on. */
+/* Microseconds by a clock that never goes back. */
 int64_t line_clock(void);
 
-/* Opens a line on which every byte goes as it is. Answers NULL, or what failed, with errno set. */
+/* Opens a line that passes every byte unchanged. Returns NULL, or what failed, with errno set. */
 const char *line_open(struct line *line);
 
 enum line_news {
@@ -33,12 +33,12 @@ enum line_news {
 /* Waits for bytes, until the time comes. */
 enum line_news line_wait(const struct line *line, int64_t until);
 
-/* Reads what is there, at most n bytes. Answers the count, which may be 0, or -1 with errno set. */
+/* Reads what is there, at most n bytes. Returns the count, which may be 0, or -1 with errno set. */
 int line_read(const struct line *line, uint8_t *bytes, size_t n);
 
 /*
- * Sends n bytes. Answers 0, or -1 with errno set: EAGAIN where the line has taken no byte for LINE_PATIENCE. A wire takes bytes
- * whether somebody listens or not; a pseudo-terminal that nobody reads is full in the end.
+ * Sends n bytes. Returns 0, or -1 with errno set: EAGAIN if the line has taken no byte for LINE_PATIENCE. A wire takes bytes
+ * whether somebody listens or not; a pseudo-terminal that nobody reads fills up.
  */
 int line_send(const struct line *line, const uint8_t *bytes, size_t n);
 

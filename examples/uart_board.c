@@ -10,7 +10,7 @@
 
 enum { GAP_MICROS = 1500, CHUNK = 64 };
 
-/* What is lent to the library, as its header says. */
+/* What the library's calls use; the header says how. */
 static struct dxl_reader reader;
 static uint8_t packet[DXL_MAX_PACKET], body[DXL_MAX_BODY];
 static uint8_t table[DXL_TABLE_BYTES], reply[DXL_MIN_REPLY];
@@ -31,7 +31,7 @@ static int echoing; /* what was sent last is still in the ring */
 
 /* ---- refusals ---- */
 
-/* Nothing that comes over the line makes a call refuse. A refusal means that memory was overwritten or a call is wrong. */
+/* Nothing that comes over the line gets a call refused. A refusal means that memory was overwritten or a call is wrong. */
 static size_t accepted(int64_t answer)
 {
     if (answer < 0)
@@ -48,7 +48,7 @@ static uint32_t baud(void)
     return bauds[table[DXL_REG_BAUD_CODE] & 7];
 }
 
-/* In a slot fit the longest status, 21 bytes with 10 bits each, a gap, and as much again for late turns of the loop. */
+/* A slot holds the longest status, 21 bytes with 10 bits each, a gap, and as much again for late turns of the loop. */
 static uint32_t slot_micros(void)
 {
     return 210u * 1000000u / baud() + 2 * GAP_MICROS;
@@ -80,7 +80,7 @@ static void save_rom(void)
     store_write(bytes);
 }
 
-/* Where the store is not as save_rom left it, the table keeps its fresh values. */
+/* If the store is not as save_rom left it, the table keeps its fresh values. */
 static void restore_rom(void)
 {
     uint8_t bytes[STORE_BYTES];
@@ -146,7 +146,7 @@ static void hear(struct dxl_step step)
     act_on_changes(before);
 }
 
-/* Until a call gives no event, also where no byte is left: more events may lie in the held bytes. */
+/* Feeds until a call gives no event, even if no byte is left: more events may lie in the held bytes. */
 static void bytes_came(const uint8_t *chunk, size_t n)
 {
     for (;;) {
@@ -172,8 +172,8 @@ static void line_was_silent(void)
 }
 
 /*
- * Copies what has come out of the ring: the DMA goes on writing there, and nobody may write what is lent to a call. Where the
- * loop was so late that the DMA has gone round, bytes are lost, and those before them are a segment of their own.
+ * Copies bytes out of the ring: the DMA goes on writing there, and nobody may write to memory that a call is using. If the loop
+ * was so late that the DMA has gone round, bytes are lost, and those before them are a segment of their own.
  */
 static size_t take_chunk(uint8_t chunk[CHUNK])
 {
@@ -191,7 +191,7 @@ static size_t take_chunk(uint8_t chunk[CHUNK])
     return n;
 }
 
-/* All bytes are taken, none has come since the line became idle, and that is long ago. */
+/* All bytes are taken, none has come since the line became idle, and that is longer ago than a gap. */
 static int gap_is_over(void)
 {
     uint32_t at = idle_at, since = idle_time;

@@ -1,6 +1,6 @@
 /*
- * A board without an operating system: its UART receives by DMA into a ring buffer. uart_board.c has the main loop around the
- * library; docs/INTEGRATING.md says why it is as it is.
+ * A board without an operating system, whose UART receives by DMA into a ring buffer. uart_board.c has the main loop around the
+ * library; docs/INTEGRATING.md explains it.
  */
 #ifndef UART_BOARD_H
 #define UART_BOARD_H

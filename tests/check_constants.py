@@ -1,8 +1,11 @@
-"""Holds the names for numbers in the header to the definitions: usage check_constants.py HEADER, in the repository's root
+"""Holds the names for numbers in the header to the definitions, and the constants of the code to the header: usage
+check_constants.py HEADER, in the repository's root
 
 Registers, with area, access and range in their comments: crates/registers/specs/Registers.antt. Instructions and the errors 02 and
 03: crates/reactions/specs/Reactions.antt. Errors 04 to 07: crates/table_rules/specs/Outcomes.antt. The alert:
 crates/status/specs/Status.antt. A definition may write a number or the name of one that is defined elsewhere under specs/.
+
+A constant of the code has the header's name without DXL_, and its number, and is said once.
 """
 import re
 import sys
@@ -16,6 +19,12 @@ OUTCOMES = Path("crates/table_rules/specs/Outcomes.antt")
 STATUS = Path("crates/status/specs/Status.antt")
 # Where a definition has another word than the header.
 WORDS = {"DEVICE_ID": "ID", "NO_ACCESS": "ACCESS"}
+# Names of the header for which the code may have no constant: it gives these numbers in one place, or has them as the length of an
+# array.
+NOT_IN_CODE = {"BAD_ID", "TOO_LONG", "NO_ROOM", "BAD_STUFFING", "BAD_TABLE_ID", "BAD_REGISTERED", "SHORT_REPLY", "BAD_READER",
+               "MAX_PACKET", "MAX_BODY", "MAX_HELD", "MAX_STATUS", "NO_EVENT", "PACKET", "BAD_CHECKSUM"}
+# A constant that begins so is in the header.
+GROUPS = ("REG_", "SIZE_", "FRESH_", "INST_", "ERROR_")
 
 
 def upper(name):
@@ -70,10 +79,42 @@ def errors():
             **values}
 
 
+def constants():
+    """Name -> number and file of each constant of the code that is no array."""
+    written = {}
+    for path in sorted(Path("crates").glob("*/src/**/*.rt")):
+        for name, value in re.findall(r"^(?:pub )?const (\w+): \w+ = (.*);$", path.read_text(encoding="utf-8"), flags=re.M):
+            written.setdefault(name, []).append((value, path))
+
+    def value_of(text):
+        text = text.partition(" as ")[0]
+        return int(text, 0) if re.fullmatch(r"-?\d\w*", text) else value_of(written[text][0][0])
+
+    return {name: [(value_of(value), path) for value, path in places] for name, places in written.items()}
+
+
+def of_the_code(there):
+    """What is wrong with the constants of the code beside the names of the header."""
+    names = {name.removeprefix("DXL_"): value for name, value in there.items()}
+    code = constants()
+    for name, places in sorted(code.items()):
+        if name not in names:
+            if name.startswith(GROUPS):
+                yield f"{name} of {places[0][1]} is not in the header"
+            continue
+        if len(places) > 1:
+            yield f"{name} is said in {' and in '.join(str(path) for _, path in places)}"
+        yield from (f"{name} is {value} in {path}, and {names[name]} in the header" for value, path in places if value != names[name])
+    for name, value in sorted(names.items()):
+        if name not in code and name not in NOT_IN_CODE and not (name.startswith("FRESH_") and value == 0):
+            yield f"the code has no constant {name}"
+
+
 def main(header):
     text = Path(header).read_text(encoding="utf-8")
     code = re.sub(r"/\*.*?\*/", "", text, flags=re.S)
-    there = {name: int(value, 0) for name, value in re.findall(r"\b(DXL_(?:REG|SIZE|FRESH|INST|ERROR)_\w+)\s*=\s*(\w+)", code)}
+    numbers = {name: int(value, 0) for name, value in re.findall(r"\b(DXL_\w+)\s*=\s*(\w+)", code)}
+    there = {name: value for name, value in numbers.items() if name.removeprefix("DXL_").startswith(GROUPS)}
     said = dict(re.findall(r"^ +(DXL_REG_\w+) = \d+, +/\* (.*) \*/$", text, flags=re.M))
     values, comments = registers()
     values.update(instructions())
@@ -86,7 +127,8 @@ def main(header):
                if values[name] != there[name]]
     faults += [f"{name} is {comments[name]}, and not {said.get(name)}" for name in sorted(comments) if comments[name] != said.get(name)]
     faults += [] if f"DXL_TABLE_BYTES = {table}," in text else [f"DXL_TABLE_BYTES is {table}"]
-    return report("constants", faults, f"{len(values)} names, each with the number that is defined")
+    faults += of_the_code(numbers)
+    return report("constants", faults, f"{len(values)} names, each with the number that is defined; the constants of the code are the same")
 
 
 if __name__ == "__main__":

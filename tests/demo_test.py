@@ -16,6 +16,8 @@ import tty
 import unittest
 from pathlib import Path
 
+import suite
+
 BOARD, REFUSING_BOARD = sys.argv[1:] if len(sys.argv) == 3 else ("", "")
 TALK = [sys.executable, "examples/talk.py"]
 DEMO = ["sh", "examples/demo.sh"]
@@ -394,16 +396,9 @@ def too_long(*_):
 
 
 def main():
-    if not BOARD:
-        print("usage: demo_test.py BOARD REFUSING_BOARD", file=sys.stderr)
-        return 2
     signal.signal(signal.SIGALRM, too_long)
     signal.alarm(WHOLE)
-    tests = unittest.defaultTestLoader.loadTestsFromModule(sys.modules["__main__"])
-    result = unittest.TextTestRunner(verbosity=0, failfast=True).run(tests)
-    if result.wasSuccessful():
-        print(f"demo: board and master, {result.testsRun} tests")
-    return 0 if result.wasSuccessful() else 1
+    return suite.run(usage=None if BOARD else "demo_test.py BOARD REFUSING_BOARD", done="demo: board and master")
 
 
 if __name__ == "__main__":

@@ -11,6 +11,8 @@ import textwrap
 import unittest
 from pathlib import Path
 
+import suite
+
 CC, ARCHIVE = sys.argv[1:] if len(sys.argv) == 3 else ("", "")
 PAGES = [Path("README.md"), Path("CHANGELOG.md"), *sorted(Path("docs").glob("*.md"))]
 SHOWN = [Path("examples/uart_board.c"), Path("examples/uart_board.h"), Path("tests/c/empty.cpp")]
@@ -65,14 +67,5 @@ class Documents(unittest.TestCase):
             self.assertRegex(programs[0], rf"/\* {re.escape(line.strip())}\b")
 
 
-def main():
-    if not CC:
-        print("usage: docs_test.py CC ARCHIVE", file=sys.stderr)
-        return 2
-    tests = unittest.defaultTestLoader.loadTestsFromModule(sys.modules["__main__"])
-    result = unittest.TextTestRunner(verbosity=0, failfast=True).run(tests)
-    return 0 if result.wasSuccessful() else 1
-
-
 if __name__ == "__main__":
-    sys.exit(main())
+    sys.exit(suite.run(usage=None if CC else "docs_test.py CC ARCHIVE"))

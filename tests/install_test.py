@@ -11,6 +11,8 @@ import tempfile
 import unittest
 from pathlib import Path
 
+import suite
+
 CC, ARCHIVE = sys.argv[1:] if len(sys.argv) == 3 else ("", "")
 HEADER = Path("include/mednukals.h")
 PATIENCE = 60  # seconds for one command
@@ -95,14 +97,5 @@ class Version(unittest.TestCase):
         self.assertEqual(headings[1:], sorted(headings[1:], key=lambda text: [int(n) for n in text.split(".")], reverse=True))
 
 
-def main():
-    if not CC:
-        print("usage: install_test.py CC ARCHIVE", file=sys.stderr)
-        return 2
-    tests = unittest.defaultTestLoader.loadTestsFromModule(sys.modules["__main__"])
-    result = unittest.TextTestRunner(verbosity=0, failfast=True).run(tests)
-    return 0 if result.wasSuccessful() else 1
-
-
 if __name__ == "__main__":
-    sys.exit(main())
+    sys.exit(suite.run(usage=None if CC else "install_test.py CC ARCHIVE"))

@@ -9,6 +9,8 @@ import tempfile
 import unittest
 from pathlib import Path
 
+import suite
+
 ROOT = Path.cwd()
 INSIDE = {"help", "fuzz_program", "replay_file"}  # targets that nobody asks for
 COLUMN = 27  # where the descriptions begin
@@ -147,11 +149,5 @@ class Gate(unittest.TestCase):
         self.assertNotIn("passed", output)
 
 
-def main():
-    tests = unittest.defaultTestLoader.loadTestsFromModule(sys.modules["__main__"])
-    result = unittest.TextTestRunner(verbosity=0, failfast=True).run(tests)
-    return 0 if result.wasSuccessful() else 1
-
-
 if __name__ == "__main__":
-    sys.exit(main())
+    sys.exit(suite.run())

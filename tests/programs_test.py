@@ -15,6 +15,8 @@ import tty
 import unittest
 from pathlib import Path
 
+import suite
+
 LINE, CHECKSUM = sys.argv[1:] if len(sys.argv) == 3 else ("", "")
 SCRIPT = "tools/run_program.sh"
 NOBODY = 65534
@@ -166,16 +168,5 @@ class Command(unittest.TestCase):
             return run("sh", SCRIPT, str(program), "end [0-9]+", "events in", "-")
 
 
-def main():
-    if not LINE:
-        print("usage: programs_test.py LINE CHECKSUM", file=sys.stderr)
-        return 2
-    tests = unittest.defaultTestLoader.loadTestsFromModule(sys.modules["__main__"])
-    result = unittest.TextTestRunner(verbosity=0, failfast=True).run(tests)
-    if result.wasSuccessful():
-        print(f"programs: line and checksum, {result.testsRun} tests")
-    return 0 if result.wasSuccessful() else 1
-
-
 if __name__ == "__main__":
-    sys.exit(main())
+    sys.exit(suite.run(usage=None if LINE else "programs_test.py LINE CHECKSUM", done="programs: line and checksum"))

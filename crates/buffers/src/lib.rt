@@ -1,4 +1,4 @@
-// Bytes moved within and between buffers, as far as there is room.
+// Moving bytes within and between buffers, as far as there is room.
 ghost use mathlib.Core.Path.{_≡_};
 ghost use mathlib.Core.List.{_++_};
 ghost use Prim.Native.Nat.{_-_, min};
@@ -16,8 +16,8 @@ fn fitting(size: usize, at: usize, n: usize) -> usize
     if room < n { room } else { n }
 }
 
-// The bytes of src go to buffer from `at` on, as many as there is room for. They are counted before the loop, which then has
-// one comparison for each of them.
+// Copies src to buffer from `at` on, as many bytes as there is room for. They are counted before the loop, so that each costs one
+// comparison.
 pub fn place(buffer: &mut [u8], at: usize, src: &[u8])
     ensures { λ _. ⌜ now (buffer .exit)
         ≡ placed (now (buffer .entry)) at (take (length (now (buffer .entry)) - at) (now (src .entry))) ⌝ }
@@ -30,7 +30,7 @@ pub fn place(buffer: &mut [u8], at: usize, src: &[u8])
     }
 }
 
-// The bytes from `from` up to `end` or the buffer's end go to the start, unless they stand there already.
+// Moves the bytes from `from` up to `end`, or up to the buffer's end, to its start.
 pub fn shift(buffer: &mut [u8], from: usize, end: usize)
     ensures { λ _. ⌜ now (buffer .exit) ≡ overwritten (now (buffer .entry)) (take (end - from) (drop from (now (buffer .entry)))) ⌝ }
 {
@@ -49,7 +49,7 @@ pub fn shift(buffer: &mut [u8], from: usize, end: usize)
     }
 }
 
-// All bytes from `from` on become 0.
+// Sets all bytes from `from` on to 0.
 pub fn clear(buffer: &mut [u8], from: usize)
     ensures { λ _. ⌜ now (buffer .exit) ≡ take from (now (buffer .entry)) ++ replicate (length (now (buffer .entry)) - from) 0 ⌝ }
 {

@@ -10,5 +10,5 @@ abbrev pub heardBy : ℕ → Heard
 heardBy kind = cond (eqb kind 1) Packet BadChecksum
 
 -- of a kind that is neither 1 nor 2 nothing was heard, as of what is sent to an ID that no device has
-abbrev pub idBy : ℕ → ℕ → ℕ
-idBy kind id = cond (eqb kind 1 || eqb kind 2) id 255
+abbrev pub idOfKind : ℕ → ℕ → ℕ
+idOfKind kind id = cond (eqb kind 1 || eqb kind 2) id 255

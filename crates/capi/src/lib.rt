@@ -1,5 +1,5 @@
-// What C calls. Each function hands on to a crate of the project and keeps that crate's promise, as numbers and byte slices;
-// include/mednukals.h declares and documents them. A `&[u8]` is a pointer and a length in C.
+// The functions that C calls. Each passes its arguments on to a crate beneath and makes that crate's promise in numbers and byte
+// slices; include/mednukals.h declares and documents them. A `&[u8]` is a pointer and a length in C.
 use instructions::RegisteredWrite;
 use numbers::DeviceNumbers;
 use numbers::StepNumbers;
@@ -18,7 +18,7 @@ ghost use Rattle.table_rules.specs.Outcomes.{inTable};
 ghost use Rattle.control_table.specs.Answers.{freshOut, measureOut};
 ghost use Rattle.reading.specs.Calls.{feed as Call·feed, gap as Call·gap};
 ghost use Rattle.packet.specs.Burst.{BurstDetected};
-ghost use Rattle.reader.specs.Records.{saidOn, leftBy, lent, packetOn, ReaderPromises};
+ghost use Rattle.reader.specs.Records.{stepOn, leftBy, lent, packetOn, ReaderPromises};
 ghost use Rattle.device.specs.Answers.{callAnswer, callRegistered, callTable, callOut};
 ghost use Rattle.device.specs.Promises.{DevicePromises};
 ghost use Rattle.exchange.specs.Exchange.{exchangeAnswer, exchangeRegistered, exchangeTable, exchangeBody, exchangeOut};
@@ -26,7 +26,7 @@ ghost use Rattle.exchange.specs.Stays.{StaysAccepted};
 ghost use Rattle.exchange.specs.Promises.{ExchangePromises};
 ghost use Rattle.cases.specs.Cases.{CasesHold};
 ghost use Rattle.numbers.specs.Exported.{exported, exportedRefusal, stepNumbers, deviceNumbers};
-ghost use Rattle.capi.specs.Heard.{heardBy, idBy};
+ghost use Rattle.capi.specs.Heard.{heardBy, idOfKind};
 
 // The checksum of the bytes, going on from an earlier one; 0 starts a packet's. The laws of the sum are promised too.
 // [C1-C8 G5]
@@ -79,7 +79,7 @@ pub extern "C" fn dxl_fresh(table: &mut [u8]) -> i64
     ensures { λ _. ⌜ now (table .exit) ≡ freshOut (now (table .entry)) ⌝ }
     ensures { λ _. ⌜ StaysAccepted ⌝ }
 {
-    numbers::outcome(control_table::fresh(table))
+    numbers::change(control_table::fresh(table))
 }
 
 // Present position and hardware error: 0, or minus 21. [D42 G5 N5 N13 T5]
@@ -89,11 +89,11 @@ pub extern "C" fn dxl_measure(table: &mut [u8], position: i32, hardware_error: u
     ensures { λ _. ⌜ now (table .exit) ≡ measureOut (now (table .entry)) position «hardware_error» ⌝ }
     ensures { λ _. ⌜ StaysAccepted ⌝ }
 {
-    numbers::outcome(control_table::measure(table, position, hardware_error))
+    numbers::change(control_table::measure(table, position, hardware_error))
 }
 
-// A feeding call on a reader's record by its parts, the held bytes and their count. Demand 3 is promised of these calls, and
-// that the verdict sees a packet of which one byte or two neighbours were changed between length field and checksum.
+// A feeding call on a reader's record in parts, the held bytes and their count. It promises demand 3, and that a packet in which
+// one byte or two neighbours were changed between length field and checksum is a bad checksum.
 // [F1-F16 G5 K3 K7 N9 P11 Q1-Q14 V1-V12]
 #[no_mangle]
 pub extern "C" fn dxl_feed(
@@ -102,7 +102,7 @@ pub extern "C" fn dxl_feed(
     chunk: &[u8],
     packet: &mut [u8; 1031],
 ) -> StepNumbers
-    ensures { λ r. ⌜ r ≡ stepNumbers (saidOn (lent (now (held .entry)) (now (count .entry))) (Call·feed (now (chunk .entry)))) ⌝ }
+    ensures { λ r. ⌜ r ≡ stepNumbers (stepOn (lent (now (held .entry)) (now (count .entry))) (Call·feed (now (chunk .entry)))) ⌝ }
     ensures { λ _. ⌜ lent (now (held .exit)) (now (count .exit)) ≡ leftBy (lent (now (held .entry)) (now (count .entry))) (Call·feed (now (chunk .entry))) ⌝ }
     ensures { λ _. ⌜ now (packet .exit) ≡ packetOn (lent (now (held .entry)) (now (count .entry))) (Call·feed (now (chunk .entry))) (now (packet .entry)) ⌝ }
     ensures { λ _. ⌜ ReaderPromises ⌝ }
@@ -121,7 +121,7 @@ pub extern "C" fn dxl_gap(
     count: &mut usize,
     packet: &mut [u8; 1031],
 ) -> StepNumbers
-    ensures { λ r. ⌜ r ≡ stepNumbers (saidOn (lent (now (held .entry)) (now (count .entry))) Call·gap) ⌝ }
+    ensures { λ r. ⌜ r ≡ stepNumbers (stepOn (lent (now (held .entry)) (now (count .entry))) Call·gap) ⌝ }
     ensures { λ _. ⌜ lent (now (held .exit)) (now (count .exit)) ≡ leftBy (lent (now (held .entry)) (now (count .entry))) Call·gap ⌝ }
     ensures { λ _. ⌜ now (packet .exit) ≡ packetOn (lent (now (held .entry)) (now (count .entry))) Call·gap (now (packet .entry)) ⌝ }
     ensures { λ _. ⌜ ReaderPromises ⌝ }
@@ -132,14 +132,14 @@ pub extern "C" fn dxl_gap(
     numbers::step(step)
 }
 
-// A feeding call on a reader's record, in place: its held bytes are lent on, and none is copied. [F1-F16 N9 Q1-Q14 V1-V12]
+// A feeding call on a reader's record, in place: its held bytes are passed on without a copy. [F1-F16 N9 Q1-Q14 V1-V12]
 #[no_mangle]
 pub extern "C" fn dxl_reader_feed<'r, 'c, 'p>(
     reader: &'r mut Reader,
     chunk: &'c [u8],
     packet: &'p mut [u8; 1031],
 ) -> StepNumbers
-    ensures { λ r. ⌜ (r ≡ stepNumbers (saidOn (now (reader .entry)) (Call·feed (now (chunk .entry)))))
+    ensures { λ r. ⌜ (r ≡ stepNumbers (stepOn (now (reader .entry)) (Call·feed (now (chunk .entry)))))
         × (now (reader .exit) ≡ leftBy (now (reader .entry)) (Call·feed (now (chunk .entry))))
         × (now (packet .exit) ≡ packetOn (now (reader .entry)) (Call·feed (now (chunk .entry))) (now (packet .entry)))
         × ReaderPromises ⌝ }
@@ -156,7 +156,7 @@ pub extern "C" fn dxl_reader_gap<'r, 'p>(
     reader: &'r mut Reader,
     packet: &'p mut [u8; 1031],
 ) -> StepNumbers
-    ensures { λ r. ⌜ (r ≡ stepNumbers (saidOn (now (reader .entry)) Call·gap))
+    ensures { λ r. ⌜ (r ≡ stepNumbers (stepOn (now (reader .entry)) Call·gap))
         × (now (reader .exit) ≡ leftBy (now (reader .entry)) Call·gap)
         × (now (packet .exit) ≡ packetOn (now (reader .entry)) Call·gap (now (packet .entry)))
         × ReaderPromises ⌝ }
@@ -176,8 +176,8 @@ fn heard_by(kind: u8) -> Heard
     Heard::BadChecksum
 }
 
-fn id_by(kind: u8, id: u8) -> u8
-    ensures { λ r. ⌜ r ≡ idBy kind id ⌝ }
+fn id_of_kind(kind: u8, id: u8) -> u8
+    ensures { λ r. ⌜ r ≡ idOfKind kind id ⌝ }
 {
     if kind == 1 {
         return id;
@@ -188,7 +188,7 @@ fn id_by(kind: u8, id: u8) -> u8
     255
 }
 
-// Kind 1 is a packet, 2 a bad checksum. Of any other kind nothing was heard, as of what is sent to an ID that no device has.
+// Kind 1 is a packet, 2 a bad checksum. With any other kind nothing was heard: it counts as sent to an ID that no device has.
 // [D1-D37 D40-D42 G5 N5-N8 N10-N12 T1-T3 T6-T18]
 #[no_mangle]
 pub extern "C" fn dxl_device(
@@ -200,19 +200,19 @@ pub extern "C" fn dxl_device(
     reply: &mut [u8],
 ) -> DeviceNumbers
     ensures { λ r. ⌜ r ≡ deviceNumbers
-        (callAnswer (now (table .entry)) registered (heardBy kind) (idBy kind id) (now (body .entry)) (now (reply .entry)))
-        (callRegistered (now (table .entry)) registered (heardBy kind) (idBy kind id) (now (body .entry)) (now (reply .entry))) ⌝ }
-    ensures { λ _. ⌜ (now (table .exit) ≡ callTable (now (table .entry)) registered (heardBy kind) (idBy kind id) (now (body .entry)) (now (reply .entry)))
-        × (now (reply .exit) ≡ callOut (now (table .entry)) registered (heardBy kind) (idBy kind id) (now (body .entry)) (now (reply .entry))) ⌝ }
+        (callAnswer (now (table .entry)) registered (heardBy kind) (idOfKind kind id) (now (body .entry)) (now (reply .entry)))
+        (callRegistered (now (table .entry)) registered (heardBy kind) (idOfKind kind id) (now (body .entry)) (now (reply .entry))) ⌝ }
+    ensures { λ _. ⌜ (now (table .exit) ≡ callTable (now (table .entry)) registered (heardBy kind) (idOfKind kind id) (now (body .entry)) (now (reply .entry)))
+        × (now (reply .exit) ≡ callOut (now (table .entry)) registered (heardBy kind) (idOfKind kind id) (now (body .entry)) (now (reply .entry))) ⌝ }
     ensures { λ _. ⌜ DevicePromises × StaysAccepted ⌝ }
 {
     let heard = heard_by(kind);
-    let heard_id = id_by(kind, id);
+    let heard_id = id_of_kind(kind, id);
     numbers::response(device::hear(table, registered, heard, heard_id, body, reply))
 }
 
-// The device call on a packet as received, whose body goes to `body` without its stuffing. What is no well-formed packet is met with
-// silence. [D38-D42 G5 N3 N4]
+// The device call on a packet as received; its body is written to `body` without its stuffing. What is no well-formed packet is
+// met with silence. [D38-D42 G5 N3 N4]
 #[no_mangle]
 pub extern "C" fn dxl_exchange(
     table: &mut [u8],

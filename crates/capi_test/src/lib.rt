@@ -1,6 +1,6 @@
-// Exports that only the comparison tests and the benchmark call: parts that firmware has no use for by themselves.
+// Exports that only the comparison tests and the benchmark call: parts that firmware does not need by themselves.
 use numbers::StepNumbers;
-use packet::Verdict;
+use packet::Judgement;
 use reader::Reader;
 use stuffing::Checked;
 ghost use mathlib.Core.Path.{_≡_};
@@ -16,7 +16,7 @@ ghost use Rattle.reading.specs.Calls.{feed as Call·feed};
 ghost use Rattle.reading.specs.Progress.{Settles};
 ghost use Rattle.packet_front.specs.Begun.{lacks, settledBy};
 ghost use Rattle.packet.specs.Verdict.{verdict, answerFor, protocol2};
-ghost use Rattle.reader.specs.Records.{saidOn, leftBy, lent, packetOn, ReaderPromises};
+ghost use Rattle.reader.specs.Records.{stepOn, leftBy, lent, packetOn, ReaderPromises};
 ghost use Rattle.numbers.specs.Exported.{stepNumbers};
 ghost use Rattle.capi_test.specs.Numbers.{testNumber, verdictNumbers};
 
@@ -37,7 +37,7 @@ pub extern "C" fn dxl_test_crc16_small(start: u16, bytes: &[u8]) -> u16
     crc16_small::update(start, bytes)
 }
 
-// 1 where the body is well stuffed, otherwise 0.
+// 1 if the body is well stuffed, otherwise 0.
 #[no_mangle]
 pub extern "C" fn dxl_test_well_stuffed(body: &[u8]) -> u8
     ensures { λ r. ⌜ r ≡ testNumber (checked (now (body .entry))) ⌝ }
@@ -62,22 +62,22 @@ pub extern "C" fn dxl_test_verdict(segment: &[u8], offset: usize) -> VerdictNumb
     ensures { λ _. ⌜ Settles protocol2 settledBy ⌝ }
 {
     match packet::judge(segment, offset) {
-        Verdict::Nothing => VerdictNumbers {
+        Judgement::Nothing => VerdictNumbers {
             kind: 0,
             id: 0,
             count: 0,
         },
-        Verdict::Packet(n) => VerdictNumbers {
+        Judgement::Packet(n) => VerdictNumbers {
             kind: 1,
             id: 0,
             count: n,
         },
-        Verdict::BadChecksum(id) => VerdictNumbers {
+        Judgement::BadChecksum(id) => VerdictNumbers {
             kind: 2,
             id,
             count: 0,
         },
-        Verdict::Waiting(n) => VerdictNumbers {
+        Judgement::Waiting(n) => VerdictNumbers {
             kind: 3,
             id: 0,
             count: n,
@@ -85,7 +85,7 @@ pub extern "C" fn dxl_test_verdict(segment: &[u8], offset: usize) -> VerdictNumb
     }
 }
 
-// What a feeding call by value gives: its answer as numbers, the packet's bytes followed by 0, and the record from now on.
+// What a feeding call by value returns: its step as numbers, the packet's bytes followed by 0, and the record from now on.
 #[repr(C)]
 pub struct FedNumbers {
     pub step: StepNumbers,
@@ -93,10 +93,10 @@ pub struct FedNumbers {
     pub reader: Reader,
 }
 
-// The feeding call by value, on a record that is made of the held bytes and their count.
+// The feeding call by value, on a record made of the held bytes and their count.
 #[no_mangle]
 pub extern "C" fn dxl_test_feed_value(held: &[u8; 1030], count: usize, chunk: &[u8]) -> FedNumbers
-    ensures { λ r. ⌜ r .step ≡ stepNumbers (saidOn (lent (now (held .entry)) count) (Call·feed (now (chunk .entry)))) ⌝ }
+    ensures { λ r. ⌜ r .step ≡ stepNumbers (stepOn (lent (now (held .entry)) count) (Call·feed (now (chunk .entry)))) ⌝ }
     ensures { λ r. ⌜ r .packet ≡ packetOn (lent (now (held .entry)) count) (Call·feed (now (chunk .entry))) (replicate 1031 0) ⌝ }
     ensures { λ r. ⌜ r .reader ≡ leftBy (lent (now (held .entry)) count) (Call·feed (now (chunk .entry))) ⌝ }
     ensures { λ _. ⌜ ReaderPromises ⌝ }

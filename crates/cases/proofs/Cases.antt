@@ -32,12 +32,12 @@ use Rattle.table_rules.specs.Rules.{everyTouched, limitsOrdered, goalWithin, wr
 use Rattle.instructions.specs.Instructions.{read, write, action}
 use Rattle.parameters.specs.Entries.{occurs, searchFrom}
 use Rattle.reactions.specs.Reactions.{heardInstruction}
-use Rattle.device.specs.Device.{heeded}
-use Rattle.device.specs.Answers.{Answer, sent, refused, stateRefusal, roomRefusal, callRefusal}
+use Rattle.device.specs.Device.{executed}
+use Rattle.device.specs.Answers.{DeviceAnswer, sent, refused, stateRefusal, roomRefusal, callRefusal}
 use Rattle.exchange.specs.Exchange.{idHeard}
 use Rattle.exchange.specs.Demand1.{packetError}
 use Rattle.instructions.specs.declared.RegisteredWrite.{RegisteredWrite}
-use Rattle.cases.specs.Exchanges.{Lent, answerTo, leftBy}
+use Rattle.cases.specs.Exchanges.{Lent, answerTo, leftAfter}
 use Rattle.cases.specs.Cases.{Case, packet, stuffing, exchange, refusal, apart, across, Claim, table, CasesHold}
 
 -- ---- equality as a test
@@ -81,13 +81,13 @@ same-registered v w e =
     ∙ ap₂ (λ (x : ℕ) (l : List ℕ). record { address = w .address; count = x; bytes = l })
     (eqb-true (v .count) (w .count) (and-left n b r)) (same-lists (v .bytes) (w .bytes) (and-right n b r))
 
-abbrev sameAnswer : Answer → Answer → Bool
+abbrev sameAnswer : DeviceAnswer → DeviceAnswer → Bool
 sameAnswer (sent n slot) (sent m place) = eqb n m && eqb slot place
 sameAnswer (sent n slot) (refused number) = false
 sameAnswer (refused number) (sent n slot) = false
 sameAnswer (refused number) (refused other) = eqb number other
 
-same-answer : (a b : Answer) → sameAnswer a b ≡ true → a ≡ b
+same-answer : (a b : DeviceAnswer) → sameAnswer a b ≡ true → a ≡ b
 same-answer (sent n slot) (sent m place) e =
     ap₂ sent (eqb-true n m (and-left (eqb n m) (eqb slot place) e)) (eqb-true slot place (and-right (eqb n m) (eqb slot place) e))
 same-answer (sent n slot) (refused number) e = let z : _≡_ {A = ℕ} 0 1 = cc in absurd (omega arith)
@@ -122,7 +122,7 @@ fails true e = let z : _≡_ {A = ℕ} 0 1 = cc in absurd (omega arith)
 abbrev right : Case → Bool
 right (packet id body bytes) = same (packetOf id body) bytes && isPacketOf (verdict bytes) (length bytes)
 right (stuffing body stuffed) = same (stuff body) stuffed && (wellStuffed stuffed && same (unstuff stuffed) body)
-right (exchange bytes before answer after) = sameAnswer (answerTo bytes before) answer && sameLent (leftBy bytes before) after
+right (exchange bytes before answer after) = sameAnswer (answerTo bytes before) answer && sameLent (leftAfter bytes before) after
 right (refusal bytes before number) = eqb (packetError (before .table) (before .registered) bytes) number
 right (apart noise beyond) = not (reachesAcross protocol2 noise beyond)
 right (across noise beyond) = reachesAcross protocol2 noise beyond
@@ -144,8 +144,8 @@ claimed (stuffing body stuffed) e =
     (same-lists (stuff body) stuffed (and-left a (b && c) e), and-left b c r, same-lists (unstuff stuffed) body (and-right b c r))
 claimed (exchange bytes before answer after) e =
     let a = sameAnswer (answerTo bytes before) answer in
-    let b = sameLent (leftBy bytes before) after in
-    (same-answer (answerTo bytes before) answer (and-left a b e), same-lent (leftBy bytes before) after (and-right a b e))
+    let b = sameLent (leftAfter bytes before) after in
+    (same-answer (answerTo bytes before) answer (and-left a b e), same-lent (leftAfter bytes before) after (and-right a b e))
 claimed (refusal bytes before number) e = eqb-true (packetError (before .table) (before .registered) bytes) number e
 claimed (apart noise beyond) e = across-decided protocol2 laws noise beyond .0 (fails (reachesAcross protocol2 noise beyond) e)
 claimed (across noise beyond) e =
@@ -163,5 +163,5 @@ each (d ∷ cs) e c m =
 
 -- the test is computed here
 pub cases-hold : CasesHold
-unfolding reachesAcross reduceIf shift shifts crcByte crcFrom stuffAfter wellAfter unstuffAfter lengthOf bodyOf checksumRight withChecksum packetOf frontAgrees lengthAgrees verdict registers permitsBy numberAt valueAt bytesOf put freshened everyByte everyTouched limitsOrdered goalWithin writeRule readRule read write action occurs searchFrom heardInstruction heeded stateRefusal roomRefusal callRefusal removalRefusal idHeard
+unfolding reachesAcross reduceIf shift shifts crcByte crcFrom stuffAfter wellAfter unstuffAfter lengthOf bodyOf checksumRight withChecksum packetOf frontAgrees lengthAgrees verdict registers permitsBy numberAt valueAt bytesOf put freshened everyByte everyTouched limitsOrdered goalWithin writeRule readRule read write action occurs searchFrom heardInstruction executed stateRefusal roomRefusal callRefusal removalRefusal idHeard
 cases-hold = each table refl

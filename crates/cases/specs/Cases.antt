@@ -14,9 +14,9 @@ use Rattle.registers.specs.Registers.{goalPosition}
 use Rattle.items.specs.Items.{put}
 use Rattle.control_table.specs.Fresh.{freshTable}
 use Rattle.instructions.specs.Registered.{dropped}
-use Rattle.device.specs.Answers.{Answer, sent, refused}
+use Rattle.device.specs.Answers.{DeviceAnswer, sent, refused}
 use Rattle.exchange.specs.Demand1.{packetError}
-use Rattle.cases.specs.Exchanges.{Lent, answerTo, leftBy, lent, left, at166, registeredTable, goalTooLarge, markedLimits}
+use Rattle.cases.specs.Exchanges.{Lent, answerTo, leftAfter, lending, left, at166, registeredTable, goalTooLarge, markedLimits}
 use Rattle.cases.specs.Exchanges.{pingWrongSum, pingWithParameter, lengthStatus, actionTo1, actionToAll, rangeStatus, syncReadPosition, readLimits, longestStatus}
 
 pub data Case : Type 0 where
@@ -25,7 +25,7 @@ pub data Case : Type 0 where
   -- a body, and its stuffed form
   stuffing : List ℕ → List ℕ → Case
   -- a packet as received, and what is lent to the call on it: its answer, and what it leaves
-  exchange : List ℕ → Lent → Answer → Lent → Case
+  exchange : List ℕ → Lent → DeviceAnswer → Lent → Case
   -- a packet as received, and what is lent: the error number by which demand 1 calls it refused, answered or not
   refusal : List ℕ → Lent → ℕ → Case
   -- noise, and the bytes beyond it: no packet reaches across the noise's end, as demand 3 supposes
@@ -37,7 +37,7 @@ pub data Case : Type 0 where
 abbrev pub Claim : Case → Type 0
 Claim (packet id body bytes) = (packetOf id body ≡ bytes) × (verdict bytes ≡ isPacket (length bytes)) × WellFormed bytes
 Claim (stuffing body stuffed) = (stuff body ≡ stuffed) × (wellStuffed stuffed ≡ true) × (unstuff stuffed ≡ body)
-Claim (exchange bytes before answer after) = (answerTo bytes before ≡ answer) × (leftBy bytes before ≡ after)
+Claim (exchange bytes before answer after) = (answerTo bytes before ≡ answer) × (leftAfter bytes before ≡ after)
 Claim (refusal bytes before number) = packetError (before .table) (before .registered) bytes ≡ number
 Claim (apart noise beyond) = NoneAcross protocol2 noise beyond
 Claim (across noise beyond) = ¬ NoneAcross protocol2 noise beyond
@@ -94,29 +94,29 @@ table =
     ∷ stuffing (0x03 ∷ 0xFF ∷ 0xFF ∷ 0xFD ∷ 0xFD ∷ []) (0x03 ∷ 0xFF ∷ 0xFF ∷ 0xFD ∷ 0xFD ∷ 0xFD ∷ [])
     ∷ stuffing (0x03 ∷ 0xFF ∷ 0xFF ∷ []) (0x03 ∷ 0xFF ∷ 0xFF ∷ [])
     -- what a fresh device does with these packets
-    ∷ exchange pingTo1 (lent freshTable dropped 2) (sent 14 0) (left freshTable dropped 2 (0x01 ∷ []) pingStatus)
-    ∷ exchange pingToAll (lent freshTable dropped 1) (sent 14 1) (left freshTable dropped 1 (0x01 ∷ []) pingStatus)
-    ∷ exchange readPosition (lent at166 dropped 5) (sent 15 0) (left at166 dropped 5 (0x02 ∷ 0x84 ∷ 0x00 ∷ 0x04 ∷ 0x00 ∷ []) readStatus)
-    ∷ exchange writeGoal (lent freshTable dropped 8) (sent 11 0)
+    ∷ exchange pingTo1 (lending freshTable dropped 2) (sent 14 0) (left freshTable dropped 2 (0x01 ∷ []) pingStatus)
+    ∷ exchange pingToAll (lending freshTable dropped 1) (sent 14 1) (left freshTable dropped 1 (0x01 ∷ []) pingStatus)
+    ∷ exchange readPosition (lending at166 dropped 5) (sent 15 0) (left at166 dropped 5 (0x02 ∷ 0x84 ∷ 0x00 ∷ 0x04 ∷ 0x00 ∷ []) readStatus)
+    ∷ exchange writeGoal (lending freshTable dropped 8) (sent 11 0)
     (left (put freshTable goalPosition 512) dropped 8 (0x03 ∷ 0x74 ∷ 0x00 ∷ 0x00 ∷ 0x02 ∷ 0x00 ∷ 0x00 ∷ []) writeStatus)
     -- the third of a Sync Read's list; the longest status
-    ∷ exchange syncReadPosition (lent at166 dropped 8) (sent 15 2)
+    ∷ exchange syncReadPosition (lending at166 dropped 8) (sent 15 2)
     (left at166 dropped 8 (0x82 ∷ 0x84 ∷ 0x00 ∷ 0x04 ∷ 0x00 ∷ 0x03 ∷ 0x02 ∷ 0x01 ∷ []) readStatus)
-    ∷ exchange readLimits (lent markedLimits dropped 5) (sent 21 0)
+    ∷ exchange readLimits (lending markedLimits dropped 5) (sent 21 0)
     (left markedLimits dropped 5 (0x02 ∷ 0x30 ∷ 0x00 ∷ 0x08 ∷ 0x00 ∷ []) longestStatus)
     -- a wrong checksum, and a byte beyond the packet: silence
-    ∷ exchange pingWrongSum (lent freshTable dropped 1) (sent 0 0) (left freshTable dropped 1 (0x01 ∷ []) [])
-    ∷ exchange (pingTo1 ++ 0x00 ∷ []) (lent freshTable dropped 3) (sent 0 0) (left freshTable dropped 3 (0x01 ∷ 0x19 ∷ []) [])
+    ∷ exchange pingWrongSum (lending freshTable dropped 1) (sent 0 0) (left freshTable dropped 1 (0x01 ∷ []) [])
+    ∷ exchange (pingTo1 ++ 0x00 ∷ []) (lending freshTable dropped 3) (sent 0 0) (left freshTable dropped 3 (0x01 ∷ 0x19 ∷ []) [])
     -- a refused Action drops the registered write, also where it is not answered; a refused Ping keeps it
-    ∷ exchange actionTo1 (lent registeredTable goalTooLarge 1) (sent 11 0) (left freshTable dropped 1 (0x05 ∷ []) rangeStatus)
-    ∷ exchange actionToAll (lent registeredTable goalTooLarge 1) (sent 0 0) (left freshTable dropped 1 (0x05 ∷ []) [])
-    ∷ exchange pingWithParameter (lent registeredTable goalTooLarge 2) (sent 11 0)
+    ∷ exchange actionTo1 (lending registeredTable goalTooLarge 1) (sent 11 0) (left freshTable dropped 1 (0x05 ∷ []) rangeStatus)
+    ∷ exchange actionToAll (lending registeredTable goalTooLarge 1) (sent 0 0) (left freshTable dropped 1 (0x05 ∷ []) [])
+    ∷ exchange pingWithParameter (lending registeredTable goalTooLarge 2) (sent 11 0)
     (left registeredTable goalTooLarge 2 (0x01 ∷ 0x00 ∷ []) lengthStatus)
-    ∷ refusal actionTo1 (lent registeredTable goalTooLarge 1) 0x04
-    ∷ refusal actionToAll (lent registeredTable goalTooLarge 1) 0x04
-    ∷ refusal pingWithParameter (lent registeredTable goalTooLarge 2) 0x05
+    ∷ refusal actionTo1 (lending registeredTable goalTooLarge 1) 0x04
+    ∷ refusal actionToAll (lending registeredTable goalTooLarge 1) 0x04
+    ∷ refusal pingWithParameter (lending registeredTable goalTooLarge 2) 0x05
     -- no room for the body
-    ∷ exchange pingTo1 (lent freshTable dropped 0) (refused 13) (lent freshTable dropped 0)
+    ∷ exchange pingTo1 (lending freshTable dropped 0) (refused 13) (lending freshTable dropped 0)
     -- noise that is a packet itself and ends right before one; a packet that ends with the first byte beyond the noise, and one
     -- that begins with the last byte of the noise
     ∷ apart pingTo1 pingStatus

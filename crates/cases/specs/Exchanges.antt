@@ -6,7 +6,7 @@ use lib.ListN.{length, replicate}
 use Rattle.registers.specs.Registers.{maxPosition, minPosition, registeredInstruction}
 use Rattle.items.specs.Items.{put}
 use Rattle.control_table.specs.Fresh.{freshTable, measured}
-use Rattle.device.specs.Answers.{Answer}
+use Rattle.device.specs.Answers.{DeviceAnswer}
 use Rattle.exchange.specs.Exchange.{exchangeAnswer, exchangeTable, exchangeRegistered, exchangeBody, exchangeOut}
 use Rattle.instructions.specs.declared.RegisteredWrite.{RegisteredWrite}
 
@@ -17,11 +17,11 @@ pub record Lent : Type 0 where
   pub body : List ℕ
   pub reply : List ℕ
 
-abbrev pub answerTo : List ℕ → Lent → Answer
+abbrev pub answerTo : List ℕ → Lent → DeviceAnswer
 answerTo packet l = exchangeAnswer (l .table) (l .registered) packet (l .body) (l .reply)
 
-abbrev pub leftBy : List ℕ → Lent → Lent
-leftBy packet l =
+abbrev pub leftAfter : List ℕ → Lent → Lent
+leftAfter packet l =
     record {
       table = exchangeTable (l .table) (l .registered) packet (l .body) (l .reply);
       registered = exchangeRegistered (l .table) (l .registered) packet (l .body) (l .reply);
@@ -30,8 +30,8 @@ leftBy packet l =
     }
 
 -- a body buffer of n bytes and a reply buffer of 32, all AA to begin with
-abbrev pub lent : List ℕ → RegisteredWrite → ℕ → Lent
-lent table w n = record { table = table; registered = w; body = replicate n 0xAA; reply = replicate 32 0xAA }
+abbrev pub lending : List ℕ → RegisteredWrite → ℕ → Lent
+lending table w n = record { table = table; registered = w; body = replicate n 0xAA; reply = replicate 32 0xAA }
 
 -- the same after a call: the unstuffed body and the status at their starts, and AA behind them
 abbrev pub left : List ℕ → RegisteredWrite → ℕ → List ℕ → List ℕ → Lent

@@ -1,6 +1,6 @@
 // Prints the checksum of standard input and the count of its bytes, as `CRC BYTES`: four hexadecimal digits and a decimal
-// number. The input may be of any length: it is read in parts, each going on from the checksum of those before it. Where a read
-// or a write fails, that is said on standard error, and no such line is printed.
+// number. The input may be of any length: it is read in parts, each going on from the checksum of those before it. If a read or a
+// write fails, it says so on standard error and does not print that line.
 use libc::STDERR_FILENO;
 use libc::STDOUT_FILENO;
 ghost use mathlib.Core.Path.{_≡_};
@@ -18,8 +18,7 @@ fn wide(x: u16) -> u64 {
     x as u64
 }
 
-// One part more: from the checksum of the parts so far to that of all of them joined. The count stays at the largest number
-// where it would pass it.
+// One part more: from the checksum of the parts so far to that of all of them joined. The count stops at the largest number.
 fn with_part(sum: Sum, part: &[u8]) -> Sum
     ensures { λ next. ⌜ ((parts : List ℕ) → sum .crc ≡ crcFrom 0 parts → next .crc ≡ crcFrom 0 (parts ++ now (part .entry))) ⌝ }
 {

@@ -6,10 +6,10 @@ use lib.ListN.{replicate}
 use Rattle.registers.specs.Registers.{Register, registers, tableSize, presentPosition, hardwareError}
 use Rattle.items.specs.Items.{unsigned, put}
 
--- the table with the fresh value of each register of a list [T4]
+-- the table with the fresh value of each register of a list, one after the other [T4]
 unfoldable pub freshened : List Register → List ℕ → List ℕ
 freshened [] table = table
-freshened (r ∷ rs) table = put (freshened rs table) r (r .fresh)
+freshened (r ∷ rs) table = freshened rs (put table r (r .fresh))
 
 -- undefined bytes are 0 [T4]
 abbrev pub freshTable : List ℕ

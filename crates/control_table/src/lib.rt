@@ -1,4 +1,22 @@
 // The control table: 136 bytes of registers. A write is judged whole before a byte of it is stored.
+use registers::FRESH_BAUD_CODE;
+use registers::FRESH_FIRMWARE_VERSION;
+use registers::FRESH_ID;
+use registers::FRESH_MAX_POSITION;
+use registers::FRESH_MODEL_NUMBER;
+use registers::FRESH_STATUS_RETURN_LEVEL;
+use registers::MAX_DATA;
+use registers::PERMITS_READ;
+use registers::REG_BAUD_CODE;
+use registers::REG_FIRMWARE_VERSION;
+use registers::REG_HARDWARE_ERROR;
+use registers::REG_ID;
+use registers::REG_MAX_POSITION;
+use registers::REG_MODEL_NUMBER;
+use registers::REG_PRESENT_POSITION;
+use registers::REG_STATUS_RETURN_LEVEL;
+use registers::TABLE_BYTES;
+use table_rules::Change;
 use table_rules::Outcome;
 ghost use mathlib.Core.Path.{_≡_};
 ghost use mathlib.Core.Option.{none};
@@ -6,13 +24,13 @@ ghost use Prim.Native.Nat.{_+_, _≤_};
 ghost use lib.ListN.{length, take, drop};
 ghost use Rattle.lists.specs.Write.{padded};
 ghost use Rattle.table_rules.specs.Rules.{readRule, writeRule};
-ghost use Rattle.table_rules.specs.Outcomes.{refusalOf, inTable};
+ghost use Rattle.table_rules.specs.Outcomes.{refusalOf, changeRefusal, inTable};
 ghost use Rattle.control_table.specs.Answers.{freshOut, measureOut, readBytes, writeOut};
 
 // The bytes that were read, with 0 after them, where the outcome is Done.
 pub struct Reading {
     pub outcome: Outcome,
-    pub bytes: [u8; 8],
+    pub bytes: [u8; MAX_DATA],
 }
 
 // The write: judged first, then stored whole. A refused one leaves every byte. [M5 N5 N12 T3 T6-T14]
@@ -29,7 +47,7 @@ pub fn write(table: &mut [u8], address: u16, bytes: &[u8]) -> Outcome
 }
 
 // n bytes of the table, with 0 after them.
-fn bytes_from(table: &[u8], at: usize, n: usize) -> [u8; 8]
+fn bytes_from(table: &[u8], at: usize, n: usize) -> [u8; MAX_DATA]
     requires { ⌜ (at + n ≤ length (now table)) × (n ≤ 8) ⌝ }
     ensures { λ r. ⌜ r ≡ padded 8 (take n (drop at (now (table .entry)))) ⌝ }
 {
@@ -41,24 +59,24 @@ pub fn read(table: &[u8], address: u16, count: u16) -> Reading
     ensures { λ r. ⌜ refusalOf (r .outcome) ≡ inTable (now (table .entry)) (readRule address count) ⌝ }
     ensures { λ r. ⌜ r .bytes ≡ readBytes (now (table .entry)) address count ⌝ }
 {
-    if table.len() != 136 {
+    if table.len() != TABLE_BYTES {
         return Reading {
             outcome: Outcome::NotTable,
-            bytes: [0u8; 8],
+            bytes: [0u8; MAX_DATA],
         };
     }
     if count == 0 {
         return Reading {
             outcome: Outcome::DataLength,
-            bytes: [0u8; 8],
+            bytes: [0u8; MAX_DATA],
         };
     }
     let at = address as usize;
     let n = count as usize;
-    if !registers::every_byte(1, at, n) {
+    if !registers::every_byte(PERMITS_READ, at, n) {
         return Reading {
             outcome: Outcome::NoAccess,
-            bytes: [0u8; 8],
+            bytes: [0u8; MAX_DATA],
         };
     }
     Reading {
@@ -68,38 +86,38 @@ pub fn read(table: &[u8], address: u16, count: u16) -> Reading
 }
 
 // The table as it comes from the factory: each register has its fresh value, undefined bytes are 0. [N5 N12 N13 T4]
-pub fn fresh(table: &mut [u8]) -> Outcome
-    ensures { λ r. ⌜ refusalOf r ≡ inTable (now (table .entry)) none ⌝ }
+pub fn fresh(table: &mut [u8]) -> Change
+    ensures { λ r. ⌜ changeRefusal r ≡ inTable (now (table .entry)) none ⌝ }
     ensures { λ _. ⌜ now (table .exit) ≡ freshOut (now (table .entry)) ⌝ }
 {
-    if table.len() != 136 {
-        return Outcome::NotTable;
+    if table.len() != TABLE_BYTES {
+        return Change::NotTable;
     }
     buffers::clear(table, 0);
-    table[0] = 6;
-    table[1] = 4;
-    table[6] = 38;
-    table[7] = 1;
-    table[8] = 1;
-    table[48] = 255;
-    table[49] = 15;
-    table[68] = 2;
-    Outcome::Done
+    table[REG_MODEL_NUMBER] = (FRESH_MODEL_NUMBER % 256) as u8;
+    table[REG_MODEL_NUMBER + 1] = (FRESH_MODEL_NUMBER / 256) as u8;
+    table[REG_FIRMWARE_VERSION] = FRESH_FIRMWARE_VERSION;
+    table[REG_ID] = FRESH_ID;
+    table[REG_BAUD_CODE] = FRESH_BAUD_CODE;
+    table[REG_MAX_POSITION] = (FRESH_MAX_POSITION % 256) as u8;
+    table[REG_MAX_POSITION + 1] = (FRESH_MAX_POSITION / 256) as u8;
+    table[REG_STATUS_RETURN_LEVEL] = FRESH_STATUS_RETURN_LEVEL;
+    Change::Done
 }
 
 // The measurement call: present position and hardware error. [N5 N12 N13 T3 T5]
-pub fn measure(table: &mut [u8], position: i32, error: u8) -> Outcome
-    ensures { λ r. ⌜ refusalOf r ≡ inTable (now (table .entry)) none ⌝ }
+pub fn measure(table: &mut [u8], position: i32, error: u8) -> Change
+    ensures { λ r. ⌜ changeRefusal r ≡ inTable (now (table .entry)) none ⌝ }
     ensures { λ _. ⌜ now (table .exit) ≡ measureOut (now (table .entry)) position error ⌝ }
 {
-    if table.len() != 136 {
-        return Outcome::NotTable;
+    if table.len() != TABLE_BYTES {
+        return Change::NotTable;
     }
     let u = items::unsigned_of(position);
-    table[132] = (u % 256) as u8;
-    table[133] = (u / 256 % 256) as u8;
-    table[134] = (u / 256 / 256 % 256) as u8;
-    table[135] = (u / 256 / 256 / 256 % 256) as u8;
-    table[70] = error;
-    Outcome::Done
+    table[REG_PRESENT_POSITION] = (u % 256) as u8;
+    table[REG_PRESENT_POSITION + 1] = (u / 256 % 256) as u8;
+    table[REG_PRESENT_POSITION + 2] = (u / 256 / 256 % 256) as u8;
+    table[REG_PRESENT_POSITION + 3] = (u / 256 / 256 / 256 % 256) as u8;
+    table[REG_HARDWARE_ERROR] = error;
+    Change::Done
 }

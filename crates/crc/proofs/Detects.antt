@@ -4,8 +4,8 @@ use mathlib.Core.List.{List, [], _∷_, _++_}
 use Prim.Native.Nat.{ℕ, zero, suc, _+_, _*_, _/_, _%_, _^_, _≤_, _<_}
 use native.Mathlib.Nat.{mod-eq-of-lt}
 use native.Mathlib.Omega.{arith}
-use lib.Bits.{bitXor, xor-mod, xor-self, xor-zero-r, xor-lt, xor-shifted}
-use lib.ListN.{length, getD, replicate}
+use lib.Bits.{bitXor, xor-mod, xor-self, xor-lt, xor-shifted}
+use lib.ListN.{length, replicate}
 use Rattle.lists.specs.Numbers.{Bytes}
 use Rattle.lists.proofs.Xor.{bit-lt, xor-assoc}
 use Rattle.crc.specs.Crc.{polynomial, reduceIf, shift, shifts, crcByte, crcFrom}

@@ -1,6 +1,6 @@
 -- Shifting is multiplying: k shifts of a register are its product with the register that k shifts make of 1.
-use mathlib.Core.Path.{_≡_, refl, sym, ap, ap₂, _∙_}
-use Prim.Native.Nat.{ℕ, zero, suc, _+_, _*_, _-_, _/_, _%_, _^_, _<_}
+use mathlib.Core.Path.{_≡_, sym, ap, ap₂, _∙_}
+use Prim.Native.Nat.{ℕ, zero, suc, _*_, _-_, _/_, _%_, _^_, _<_}
 use native.Mathlib.Nat.{zero-mul, one-mul, sub-zero, suc-sub-suc}
 use native.Mathlib.Omega.{arith}
 use lib.Pow.{split}

@@ -1,5 +1,4 @@
-// The checksum after bits were flipped, from the checksum before: without a pass over the bytes that stand before or behind
-// the flips.
+// The checksum after bits were flipped, from the checksum before, without a pass over the bytes before or behind the flips.
 ghost use mathlib.Core.Path.{_≡_};
 ghost use lib.ListN.{replicate};
 ghost use Rattle.crc.specs.Crc.{shift, crcFrom};
@@ -13,7 +12,7 @@ fn shifted(crc: u16) -> u16
     (crc << 1) ^ ((crc >> 15) * 0x8005)
 }
 
-// The product of two registers, bit by bit of the second.
+// The product of two registers as polynomials, by the bits of the second.
 fn times(a: u16, b: u16) -> u16
     ensures { λ r. ⌜ r ≡ product 16 a b ⌝ }
 {
@@ -30,8 +29,8 @@ fn times(a: u16, b: u16) -> u16
     sum
 }
 
-// The register after `count` bytes of 0. A byte is a factor of x^8, so the factor for all of them is a power of that, by
-// squaring: as many turns as `count` has binary digits.
+// The register after `count` bytes of 0. Each multiplies it by x^8, and the power for all of them is found by squaring, in as many
+// turns as `count` has binary digits.
 fn after_zeros(crc: u16, count: usize) -> u16
     ensures { λ r. ⌜ r ≡ crcFrom crc (replicate count 0) ⌝ }
 {
@@ -48,8 +47,8 @@ fn after_zeros(crc: u16, count: usize) -> u16
     sum
 }
 
-// The checksum of a packet, from `crc`, the checksum before its bits were flipped: `flips` has a 1 for each of them, and
-// `after` bytes of the packet follow those that it covers. [C9]
+// The checksum after bits were flipped, from `crc`, the one before: `flips` has a 1 for each flipped bit, and `after` bytes follow
+// those that it covers. [C9]
 pub fn flipped(crc: u16, flips: &[u8], after: usize) -> u16
     ensures { λ r. ⌜ r ≡ flippedSum crc (now (flips .entry)) after ⌝ }
 {

@@ -1,5 +1,4 @@
-// The checksum of Protocol 2.0 for boards with little flash: the same function as that of `crc16`, with the same promise, by a
-// table of sixteen numbers.
+// The checksum of Protocol 2.0 for boards with little flash: function and promise of `crc16`, with a table of sixteen numbers.
 mod table;
 
 use table::TABLE;
@@ -7,8 +6,8 @@ ghost use mathlib.Core.Path.{_≡_};
 ghost use Rattle.crc.specs.Crc.{crcFrom};
 ghost use Rattle.crc.specs.Laws.{SumLaws};
 
-// The register after the bytes, from start, which may be the sum of earlier bytes: the laws of the sum are promised too. Each
-// byte goes in by its halves, the high one first. [C1-C5 C7-C8 C10]
+// The register after the bytes, from start, which may be the checksum of earlier bytes; the laws of the sum are promised too. Each
+// byte enters in two halves, the high one first. [C1-C5 C7-C8 C10]
 pub fn update(start: u16, bytes: &[u8]) -> u16
     ensures { λ crc. ⌜ crc ≡ crcFrom start (now (bytes .entry)) ⌝ }
     ensures { λ _. ⌜ SumLaws ⌝ }

@@ -1,5 +1,5 @@
-// Entry i is the register after four shifts of i * 4096: what half a byte leaves, once it has met the four highest bits of the
-// register. The proof of `update` computes that rule at all 16 entries.
+// Entry i is the register after four shifts of i * 4096: what half a byte leaves once it has met the four highest bits of the
+// register. The proof of `update` tests that rule on all 16 entries.
 pub const TABLE: [u16; 16] = [
     0x0000,
     0x8005,

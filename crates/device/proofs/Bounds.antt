@@ -17,8 +17,8 @@ use Rattle.instructions.proofs.Errors.{read-number, write-number}
 use Rattle.reactions.proofs.Every.{every}
 use Rattle.device.proofs.Replies.{to-whomever}
 use Rattle.instructions.specs.Instructions.{Effect, ping, read, write, regWrite, action}
-use Rattle.reactions.specs.Reactions.{Voice, silent, speaks, ownId, Reaction, reaction}
-use Rattle.device.specs.Device.{hardwareErrorIn, replyBy, heeded, carryOut}
+use Rattle.reactions.specs.Reactions.{ReplyRule, silent, speaks, ownId, Reaction}
+use Rattle.device.specs.Device.{hardwareErrorIn, replyBy, executed, carryOut}
 use Rattle.status.specs.Status.{silence}
 use Rattle.instructions.specs.declared.RegisteredWrite.{RegisteredWrite}
 use Rattle.status.specs.declared.Reply.{Reply}
@@ -64,8 +64,8 @@ module _ (table : List ℕ) (w : RegisteredWrite) (sized : length table ≡ tabl
   unfolding action
   action-small = pick Small (eqb (w .count) 0) _ _ (none-small _ refl (omega arith)) (write-small _ _ _ _)
 
-  heeded-small : (heard : Heard) (id : ℕ) (body : List ℕ) → Small (heeded table w heard id body .effect)
-  heeded-small heard id body =
+  executed-small : (heard : Heard) (id : ℕ) (body : List ℕ) → Small (executed table w heard id body .effect)
+  executed-small heard id body =
       to-whomever table w heard id body (λ (r : Reaction). Small (r .effect))
       (λ all. every (λ acting. Small) table w (λ error le. none-small _ refl le) (none-small _ refl (omega arith)) ping-small read-small (write-small table w)
       reg-write-small action-small (none-small _ refl (omega arith))
@@ -86,13 +86,13 @@ module _ (table : List ℕ) (w : RegisteredWrite) (sized : length table ≡ tabl
     silence-sendable =
         record { known = omega arith; short = omega arith; numbered = omega arith; own-id = λ e. absurd (false≢true e) }
 
-    by-voice : (voice : Voice) (e : Effect) → Small e → Sendable (ownId table) (replyBy voice table e)
-    by-voice silent e s = silence-sendable
-    by-voice (speaks least slot) e s =
+    by-replying : (replying : ReplyRule) (e : Effect) → Small e → Sendable (ownId table) (replyBy replying table e)
+    by-replying silent e s = silence-sendable
+    by-replying (speaks least slot) e s =
         pick-sendable (leb least (getD table 68 0)) _ silence
         (record { known = own; short = s .few; numbered = alerted (eqb (hardwareErrorIn (e .table)) 0) (e .error) (s .at-most-7); own-id = λ h. refl })
         silence-sendable
 
     pub sendable : (heard : Heard) (id : ℕ) (body : List ℕ) → Sendable (ownId table) (carryOut table w heard id body .reply)
     sendable heard id body =
-        by-voice (heeded table w heard id body .voice) (heeded table w heard id body .effect) (heeded-small heard id body)
+        by-replying (executed table w heard id body .replying) (executed table w heard id body .effect) (executed-small heard id body)

@@ -1,7 +1,7 @@
 -- What a refusal leaves.
-use mathlib.Core.Path.{_≡_, refl, sym, ap, _∙_}
+use mathlib.Core.Path.{_≡_, refl}
 use mathlib.Core.Bool.{Bool, true, false, cond}
-use mathlib.Core.List.{List, []}
+use mathlib.Core.List.{List}
 use mathlib.Core.Option.{Option, none, some}
 use Prim.Native.Nat.{ℕ, _<_}
 use native.Mathlib.Omega.{arith}
@@ -12,13 +12,13 @@ use Rattle.stuffing.specs.Stuffing.{stuffAfter}
 use Rattle.encoder.specs.Writing.{withChecksum, packetOf}
 use Rattle.status.specs.Status.{silence, errorByte, status, replyBytes}
 use Rattle.instructions.specs.Instructions.{Effect}
-use Rattle.reactions.specs.Reactions.{Voice, silent, speaks, Reaction, ownId}
+use Rattle.reactions.specs.Reactions.{ReplyRule, silent, speaks, Reaction, ownId}
 use Rattle.reactions.specs.Refused.{tableIfRefused, registeredIfRefused}
 use Rattle.reactions.proofs.Theorems.{refused as reaction-refused}
-use Rattle.device.specs.Device.{hardwareErrorIn, replyBy, heeded, carryOut}
-use Rattle.device.specs.Answers.{Answer, sent, refused, answeredBy, callRefusal, callAnswer}
+use Rattle.device.specs.Device.{hardwareErrorIn, replyBy, executed, carryOut}
+use Rattle.device.specs.Answers.{sent, refused, answeredBy, callRefusal, callAnswer}
 use Rattle.device.specs.Demand1.{LeftAlone, LeftByRefusal, Demand1}
-use Rattle.device.proofs.Calls.{Accepted, accepted}
+use Rattle.device.proofs.Calls.{accepted}
 use Rattle.device.proofs.Replies.{to-whomever}
 use Rattle.status.specs.declared.Reply.{Reply}
 use Rattle.instructions.specs.declared.RegisteredWrite.{RegisteredWrite}
@@ -41,8 +41,8 @@ error-at : (id error : ℕ) (bytes : List ℕ) (slot : ℕ) (out : List ℕ) →
 unfolding packetOf withChecksum stuffAfter
 error-at id error bytes slot out = refl
 
-carries : (voice : Voice) (table : List ℕ) (e : Effect) (out : List ℕ) → 0 < length (replyBytes (replyBy voice table e))
-    → getD (overwritten out (replyBytes (replyBy voice table e))) 8 0 ≡ errorByte (e .error) (hardwareErrorIn (e .table))
+carries : (replying : ReplyRule) (table : List ℕ) (e : Effect) (out : List ℕ) → 0 < length (replyBytes (replyBy replying table e))
+    → getD (overwritten out (replyBytes (replyBy replying table e))) 8 0 ≡ errorByte (e .error) (hardwareErrorIn (e .table))
 carries silent table e out h = absurd (omega arith)
 carries (speaks least slot) table e out h = by-level (leb least (getD table 68 0)) h
   where
@@ -62,23 +62,23 @@ module _ (table : List ℕ) (w : RegisteredWrite) (heard : Heard) (id : ℕ) (bo
     passes : callRefusal table w out ≡ none
     passes = sent-by (callRefusal table w out) _ n slot e .0
 
-    left : ¬ (heeded table w heard id body .effect .error ≡ 0)
-        → (heeded table w heard id body .effect .table ≡ tableIfRefused table w heard body)
-        × (heeded table w heard id body .effect .registered ≡ registeredIfRefused w heard body)
+    left : ¬ (executed table w heard id body .effect .error ≡ 0)
+        → (executed table w heard id body .effect .table ≡ tableIfRefused table w heard body)
+        × (executed table w heard id body .effect .registered ≡ registeredIfRefused w heard body)
     left =
         to-whomever table w heard id body
         (λ (r : Reaction). ¬ (r .effect .error ≡ 0)
         → (r .effect .table ≡ tableIfRefused table w heard body) × (r .effect .registered ≡ registeredIfRefused w heard body))
         (λ all. reaction-refused table w (accepted table w out passes .sized) heard all body) (λ z. absurd (z refl))
 
-    refused-instruction : ¬ (heeded table w heard id body .effect .error ≡ 0) → LeftByRefusal table w heard id body out
+    refused-instruction : ¬ (executed table w heard id body .effect .error ≡ 0) → LeftByRefusal table w heard id body out
     refused-instruction z = let l = left z in record { left-table = rw passes (l .0); left-registered = rw passes (l .1) }
 
     in-status : 0 < n
         → getD (overwritten out (replyBytes (carryOut table w heard id body .reply))) 8 0
-        ≡ errorByte (heeded table w heard id body .effect .error) (hardwareErrorIn (heeded table w heard id body .effect .table))
+        ≡ errorByte (executed table w heard id body .effect .error) (hardwareErrorIn (executed table w heard id body .effect .table))
     in-status h =
-        carries (heeded table w heard id body .voice) table (heeded table w heard id body .effect) out
+        carries (executed table w heard id body .replying) table (executed table w heard id body .effect) out
         (omega (arith, sent-by (callRefusal table w out) _ n slot e .1))
 
 pub demand-1 : Demand1

@@ -6,42 +6,42 @@ use Prim.Native.Nat.{ℕ, _-_}
 use lib.Dec.{eqb}
 use lib.ListN.{getD}
 use borrow.Author.Tests.{eq-eqb, ne-eqb}
-use Rattle.reactions.specs.Reactions.{ownId, Voice, silent, speaks, reaction, Reaction, reacting, unchanged}
-use Rattle.device.specs.Device.{replyBy, Carried, carried, heeded, carryOut}
+use Rattle.reactions.specs.Reactions.{ownId, ReplyRule, silent, speaks, reaction, Reaction, reacting, unchanged}
+use Rattle.device.specs.Device.{replyBy, Carried, carried, executed, carryOut}
 use Rattle.reactions.specs.declared.Heard.{Heard}
-use Rattle.instructions.specs.Steps.{doneOf}
-use Rattle.reactions.specs.Steps.{reactedBy, reactedOf}
-use Rattle.device.specs.Steps.{replyTo}
+use Rattle.instructions.specs.Results.{doneOf}
+use Rattle.reactions.specs.Results.{reactedBy, reactedOf}
+use Rattle.device.specs.Results.{replyTo}
 use Rattle.status.specs.Status.{silence}
 use Rattle.instructions.specs.declared.RegisteredWrite.{RegisteredWrite}
 
 pub reply-of : (table : List ℕ) (q : Reaction)
-    → replyTo (q .effect .table) (getD table 7 0) (getD table 68 0) (reactedOf q) ≡ replyBy (q .voice) table (q .effect)
-reply-of table q = by-voice (q .voice)
+    → replyTo (q .effect .table) (getD table 7 0) (getD table 68 0) (reactedOf q) ≡ replyBy (q .replying) table (q .effect)
+reply-of table q = by-replying (q .replying)
   where
-    by-voice : (voice : Voice)
-        → replyTo (q .effect .table) (getD table 7 0) (getD table 68 0) (reactedBy voice (doneOf (q .effect))) ≡ replyBy voice table (q .effect)
-    by-voice silent = refl
-    by-voice (speaks least slot) = refl
+    by-replying : (replying : ReplyRule)
+        → replyTo (q .effect .table) (getD table 7 0) (getD table 68 0) (reactedBy replying (doneOf (q .effect))) ≡ replyBy replying table (q .effect)
+    by-replying silent = refl
+    by-replying (speaks least slot) = refl
 
 module _ (table : List ℕ) (w : RegisteredWrite) (heard : Heard) (id : ℕ) (body : List ℕ) where
   pub to-own : id ≡ getD table 7 0 → carried table (reaction heard false table w body) ≡ carryOut table w heard id body
-  unfolding heeded
+  unfolding executed
   to-own e = rw (eq-eqb id (getD table 7 0) e)
 
   pub to-all : (id ≡ getD table 7 0 → ⊥) → id ≡ 254 → carried table (reaction heard true table w body) ≡ carryOut table w heard id body
-  unfolding heeded
+  unfolding executed
   to-all n e = rw (ne-eqb id (getD table 7 0) n, eq-eqb id 254 e)
 
   pub to-another : (id ≡ getD table 7 0 → ⊥) → (id ≡ 254 → ⊥)
       → _≡_ {A = Carried} (record { table = table; registered = w; reply = silence }) (carryOut table w heard id body)
-  unfolding heeded
+  unfolding executed
   to-another n m = rw (ne-eqb id (getD table 7 0) n, ne-eqb id 254 m)
 
   -- what holds of each of the three holds of what is done
   pub to-whomever : (P : Reaction → Type 0) → ((all : Bool) → P (reaction heard all table w body)) → P (reacting (unchanged table w) silent)
-      → P (heeded table w heard id body)
-  unfolding heeded
+      → P (executed table w heard id body)
+  unfolding executed
   to-whomever P known other = pick (eqb id (ownId table)) _ _ (known false) (pick (eqb id 254) _ _ (known true) other)
     where
       pick : (b : Bool) (x y : Reaction) → P x → P y → P (cond b x y)

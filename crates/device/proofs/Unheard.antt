@@ -1,14 +1,12 @@
 -- What is sent to an ID that no device has.
-use mathlib.Core.Path.{_≡_, refl, sym, ap, _∙_}
+use mathlib.Core.Path.{_≡_, refl, sym, ap}
 use mathlib.Core.List.{List}
 use mathlib.Core.Option.{Option, none, some}
 use Prim.Native.Nat.{ℕ}
 use native.Mathlib.Omega.{arith}
-use Rattle.lists.specs.Answer.{unlessRefused}
 use Rattle.lists.specs.Write.{overwritten}
-use Rattle.instructions.specs.Registered.{keptBy}
 use Rattle.status.specs.Status.{silence, replyBytes}
-use Rattle.device.specs.Device.{Carried, carryOut}
+use Rattle.device.specs.Device.{Carried}
 use Rattle.device.specs.Answers.{callRefusal, answeredBy, callAnswer, callTable, callRegistered, callOut}
 use Rattle.device.proofs.Calls.{accepted}
 use Rattle.device.proofs.Replies.{to-another}

@@ -1,5 +1,5 @@
 -- The status that is written.
-use mathlib.Core.Path.{_≡_, refl, sym, ap, ap₂, subst, _∙_}
+use mathlib.Core.Path.{_≡_, refl, sym, ap, subst, _∙_}
 use mathlib.Core.Bool.{Bool, true, false, cond}
 use mathlib.Core.List.{List, []}
 use Prim.Native.Nat.{ℕ, _<_}
@@ -21,11 +21,11 @@ use Rattle.status.specs.declared.Reply.{Reply}
 
 -- silence has no bytes
 speaking : (r : Reply) → 0 < length (replyBytes r) → (r .speaks ≡ true) × (replyBytes r ≡ statusPacket r)
-speaking r h = by-voice (r .speaks) refl h
+speaking r h = by-replying (r .speaks) refl h
   where
-    by-voice : (b : Bool) → r .speaks ≡ b → 0 < length (cond b (statusPacket r) []) → (r .speaks ≡ true) × (replyBytes r ≡ statusPacket r)
-    by-voice true e l = (e, rw e)
-    by-voice false e l = absurd (omega arith)
+    by-replying : (b : Bool) → r .speaks ≡ b → 0 < length (cond b (statusPacket r) []) → (r .speaks ≡ true) × (replyBytes r ≡ statusPacket r)
+    by-replying true e l = (e, rw e)
+    by-replying false e l = absurd (omega arith)
 
 is-status : (own : ℕ) (r : Reply) → Sendable own r → 0 < length (replyBytes r) → IsStatus own (length (replyBytes r)) (replyBytes r)
 is-status own r g h =

@@ -4,7 +4,7 @@ use mathlib.Core.Option.{Option, none, some}
 use Prim.Native.Nat.{ℕ}
 use lib.Dec.{leb}
 use lib.ListN.{length}
-use Rattle.lists.specs.Answer.{Answer as Lists·Answer, count, refused as Lists·refused, firstFailing, unlessRefused}
+use Rattle.lists.specs.Answer.{Answer, count, refused as Lists·refused, firstFailing, unlessRefused}
 use Rattle.lists.specs.Write.{overwritten}
 use Rattle.table_rules.specs.Outcomes.{inTable}
 use Rattle.instructions.specs.Registered.{keptBy}
@@ -35,12 +35,12 @@ unfoldable pub callRefusal : List ℕ → RegisteredWrite → List ℕ → Optio
 callRefusal table w out = orElse (stateRefusal table w) (roomRefusal out)
 
 -- the status's byte count and the reply slot, both 0 when silent; or a refusal by its number
-pub data Answer : Type 0 where
-  sent : ℕ → ℕ → Answer
-  refused : ℕ → Answer
+pub data DeviceAnswer : Type 0 where
+  sent : ℕ → ℕ → DeviceAnswer
+  refused : ℕ → DeviceAnswer
 
 -- [K5 N6-N8]
-abbrev pub repliedAnswer : Replied → Answer
+abbrev pub repliedAnswer : Replied → DeviceAnswer
 repliedAnswer (Sent n slot) = sent n slot
 repliedAnswer NotTable = refused 21
 repliedAnswer BadId = refused 22
@@ -50,17 +50,17 @@ repliedAnswer BadReplyId = refused 11
 repliedAnswer LongReply = refused 12
 
 -- what the function that sends answers, with the reply slot [D35]
-abbrev pub withSlot : Lists·Answer → ℕ → Answer
+abbrev pub withSlot : Answer → ℕ → DeviceAnswer
 withSlot (count n) slot = sent n slot
 withSlot (Lists·refused number) slot = refused number
 
 -- [D35]
-abbrev pub answeredBy : Option ℕ → Reply → Answer
+abbrev pub answeredBy : Option ℕ → Reply → DeviceAnswer
 answeredBy none reply = sent (length (replyBytes reply)) (reply .slot)
 answeredBy (some number) reply = refused number
 
 module _ (table : List ℕ) (w : RegisteredWrite) (heard : Heard) (id : ℕ) (body out : List ℕ) where
-  abbrev pub callAnswer : Answer
+  abbrev pub callAnswer : DeviceAnswer
   callAnswer = answeredBy (callRefusal table w out) (carryOut table w heard id body .reply)
 
   abbrev pub callTable : List ℕ

@@ -11,13 +11,13 @@ use Rattle.instructions.specs.Instructions.{Effect}
 use Rattle.instructions.specs.declared.RegisteredWrite.{RegisteredWrite}
 use Rattle.status.specs.declared.Reply.{Reply}
 use Rattle.reactions.specs.declared.Heard.{Heard}
-use Rattle.reactions.specs.Reactions.{ownId, Voice, silent, speaks, Reaction, reacting, unchanged, reaction}
+use Rattle.reactions.specs.Reactions.{ownId, ReplyRule, silent, speaks, Reaction, reacting, unchanged, reaction}
 
 abbrev pub hardwareErrorIn : List ℕ → ℕ
 hardwareErrorIn table = getD table (hardwareError .address) 0
 
 -- ID and status return level are those before the instruction, the alert is that after it [D29 D30 D32]
-abbrev pub replyBy : Voice → List ℕ → Effect → Reply
+abbrev pub replyBy : ReplyRule → List ℕ → Effect → Reply
 replyBy silent table e = silence
 replyBy (speaks least slot) table e =
     cond (leb least (getD table (statusReturnLevel .address) 0))
@@ -30,14 +30,14 @@ pub record Carried : Type 0 where
 
 abbrev pub carried : List ℕ → Reaction → Carried
 carried table r =
-    record { table = r .effect .table; registered = r .effect .registered; reply = replyBy (r .voice) table (r .effect) }
+    record { table = r .effect .table; registered = r .effect .registered; reply = replyBy (r .replying) table (r .effect) }
 
 -- what is done with what was sent to the own ID, to all devices, or to another
-unfoldable pub heeded : List ℕ → RegisteredWrite → Heard → ℕ → List ℕ → Reaction
-heeded table w heard id body =
+unfoldable pub executed : List ℕ → RegisteredWrite → Heard → ℕ → List ℕ → Reaction
+executed table w heard id body =
     cond (eqb id (ownId table)) (reaction heard false table w body)
     (cond (eqb id 254) (reaction heard true table w body) (reacting (unchanged table w) silent))
 
 -- [D1 K9]
 abbrev pub carryOut : List ℕ → RegisteredWrite → Heard → ℕ → List ℕ → Carried
-carryOut table w heard id body = carried table (heeded table w heard id body)
+carryOut table w heard id body = carried table (executed table w heard id body)

@@ -1,6 +1,6 @@
 pub mod Device
 pub mod Answers
-pub mod Steps
+pub mod Results
 pub mod Demand1
 pub mod Written
 pub mod Promises

@@ -1,7 +1,15 @@
 // The device on the bus: what it hears is carried out, and answered in the caller's buffer.
+use instructions::MAX_REGISTERED;
 use instructions::RegisteredWrite;
+use packet_front::BROADCAST_ID;
+use packet_front::MAX_ID;
 use reactions::Heard;
 use reactions::Reacted;
+use registers::REG_HARDWARE_ERROR;
+use registers::REG_ID;
+use registers::REG_STATUS_RETURN_LEVEL;
+use registers::TABLE_BYTES;
+use status::MIN_REPLY;
 use status::Reply;
 use status::Written;
 ghost use mathlib.Core.Path.{_≡_};
@@ -12,7 +20,7 @@ ghost use Rattle.status.specs.Sending.{writtenAnswer};
 ghost use Rattle.device.specs.Device.{carried, carryOut};
 ghost use Rattle.reactions.specs.Reactions.{reaction as Reactions·reaction};
 ghost use Rattle.device.specs.Answers.{repliedAnswer, withSlot, stateRefusal, callRefusal, answeredBy, callAnswer, callRegistered, callTable, callOut};
-ghost use Rattle.device.specs.Steps.{replyTo, carriedOf};
+ghost use Rattle.device.specs.Results.{replyTo, carriedOf};
 
 // ID and status return level are those before the instruction, the table is that after it.
 fn reply_to(table: &[u8], own: u8, level: u8, reacted: Reacted) -> Reply
@@ -30,7 +38,7 @@ fn reply_to(table: &[u8], own: u8, level: u8, reacted: Reacted) -> Reply
     Reply {
         speaks: true,
         id: own,
-        error: status::error_byte(done.error, table[70]),
+        error: status::error_byte(done.error, table[REG_HARDWARE_ERROR]),
         count: done.count,
         bytes,
         slot: reacted.slot,
@@ -44,7 +52,7 @@ pub struct CarriedOut {
 }
 
 // What was sent to the own ID, or to all devices.
-fn heed(
+fn execute(
     table: &mut [u8],
     registered: RegisteredWrite,
     heard: Heard,
@@ -55,8 +63,8 @@ fn heed(
     ensures { λ r. ⌜ r ≡ carriedOf (carried (now (table .entry)) (Reactions·reaction heard all (now (table .entry)) registered (now (body .entry)))) ⌝ }
     ensures { λ _. ⌜ now (table .exit) ≡ Reactions·reaction heard all (now (table .entry)) registered (now (body .entry)) .effect .table ⌝ }
 {
-    let own = table[7];
-    let level = table[68];
+    let own = table[REG_ID];
+    let level = table[REG_STATUS_RETURN_LEVEL];
     let reacted = reactions::reaction(table, registered, heard, all, body);
     let done = reacted.done;
     let kept = done.registered;
@@ -78,11 +86,11 @@ fn carry_out(
     ensures { λ r. ⌜ r ≡ carriedOf (carryOut (now (table .entry)) registered heard id (now (body .entry))) ⌝ }
     ensures { λ _. ⌜ now (table .exit) ≡ carryOut (now (table .entry)) registered heard id (now (body .entry)) .table ⌝ }
 {
-    if id == table[7] {
-        return heed(table, registered, heard, false, body);
+    if id == table[REG_ID] {
+        return execute(table, registered, heard, false, body);
     }
-    if id == 254 {
-        return heed(table, registered, heard, true, body);
+    if id == BROADCAST_ID {
+        return execute(table, registered, heard, true, body);
     }
     CarriedOut {
         reply: status::silence(),
@@ -112,13 +120,13 @@ pub struct Response {
 pub fn state_refusal(table: &[u8], registered: RegisteredWrite) -> Replied
     ensures { λ r. ⌜ repliedAnswer r ≡ answeredBy (stateRefusal (now (table .entry)) registered) Status·silence ⌝ }
 {
-    if table.len() != 136 {
+    if table.len() != TABLE_BYTES {
         return Replied::NotTable;
     }
-    if 252 < table[7] {
+    if MAX_ID < table[REG_ID] {
         return Replied::BadId;
     }
-    if 8 < registered.count {
+    if MAX_REGISTERED < registered.count {
         return Replied::BadRegistered;
     }
     Replied::Sent(0, 0)
@@ -132,7 +140,7 @@ pub fn call_refusal(table: &[u8], registered: RegisteredWrite, out: &[u8]) -> Re
     let Replied::Sent(_, _) = replied else {
         return replied;
     };
-    if out.len() < 32 {
+    if out.len() < MIN_REPLY {
         return Replied::NoRoom;
     }
     Replied::Sent(0, 0)

@@ -4,7 +4,7 @@ use mathlib.Core.Bool.{true}
 use mathlib.Core.List.{List, [], _∷_, _++_, append-assoc}
 use Prim.Native.Nat.{ℕ, suc, _+_, _-_, _≤_, _<_}
 use native.Mathlib.Omega.{arith}
-use lib.ListN.{length, take, drop, getD, length-append, length-take, length-drop}
+use lib.ListN.{length, take, drop, getD, length-take, length-drop}
 use lib.Seq.{take-at, getD-drop}
 use borrow.Author.Tests.{eqb-true, eq-eqb}
 use Rattle.crc.specs.Crc.{crcFrom}

@@ -1,4 +1,4 @@
-// The encoder of Protocol 2.0: the packet of an ID, an instruction and parameters, written into the caller's buffer.
+// The encoder of Protocol 2.0: writes the packet of an ID, an instruction and parameters into the caller's buffer.
 use stuffing_writer::Length;
 ghost use mathlib.Core.Path.{_≡_};
 ghost use mathlib.Core.List.{_∷_};
@@ -18,7 +18,7 @@ pub enum Encoded {
     NoRoom,
 }
 
-// Header, ID and length field at the start of out, for a stuffed body of n bytes.
+// Writes header, ID and length field, for a stuffed body of n bytes, to the start of out.
 fn write_front(id: u8, n: usize, out: &mut [u8])
     requires { ⌜ (n ≤ 1022) × (7 ≤ length (now out)) ⌝ }
     ensures { λ _. ⌜ now (out .exit) ≡ overwritten (now (out .entry)) (front id n) ⌝ }
@@ -32,7 +32,7 @@ fn write_front(id: u8, n: usize, out: &mut [u8])
     out[6] = ((n + 2) / 256 % 256) as u8;
 }
 
-// The checksum of the first `end` bytes, which begin with the header, right after them.
+// Writes the checksum of the first `end` bytes, which begin with the header, right after them.
 fn write_checksum(out: &mut [u8], end: usize)
     requires { ⌜ (4 ≤ end) × (end + 2 ≤ length (now out)) × (take 4 (now out) ≡ header) ⌝ }
     ensures { λ _. ⌜ now (out .exit) ≡ overwritten (now (out .entry)) (withChecksum (take end (now (out .entry)))) ⌝ }
@@ -42,7 +42,7 @@ fn write_checksum(out: &mut [u8], end: usize)
     out[end + 1] = (crc / 256 % 256) as u8;
 }
 
-// The packet at the start of out, which has room for it; n is the stuffed body's byte count.
+// Writes the packet to the start of out, which has room for it; n is the stuffed body's byte count.
 fn write_packet(id: u8, instruction: u8, params: &[u8], n: usize, out: &mut [u8])
     requires { ⌜ (n ≡ length (stuff (instruction ∷ now params))) × (n ≤ 1022) × (n + 9 ≤ length (now out)) ⌝ }
     ensures { λ _. ⌜ now (out .exit) ≡ overwritten (now (out .entry)) (packetOf id (instruction ∷ now (params .entry))) ⌝ }
@@ -52,8 +52,8 @@ fn write_packet(id: u8, instruction: u8, params: &[u8], n: usize, out: &mut [u8]
     write_checksum(out, n + 7);
 }
 
-// The encoder: the packet with this ID, instruction and parameters goes to out from `at` on. Refused, in this order: an ID
-// that is not allowed, a length field past 1,024, no room from `at` on (`at` may lie past the end). A refusal writes nothing.
+// Writes the packet with this ID, instruction and parameters to out from `at` on. Refused, in this order: an ID that is not
+// allowed, a length field past 1,024, no room from `at` on (`at` may lie past the end). A refusal writes nothing.
 // [C4 E1-E9 N1 N2 N4 N10-N12 N14 P1-P9 S2]
 pub fn encode(id: u8, instruction: u8, params: &[u8], out: &mut [u8], at: usize) -> Encoded
     ensures { λ r. ⌜ encodedAnswer r ≡ encodeAnswer id (instruction ∷ now (params .entry)) (now (out .entry)) at ⌝ }

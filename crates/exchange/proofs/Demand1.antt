@@ -1,11 +1,10 @@
 -- What a refusal leaves: of the removal, or as of the device call.
-use mathlib.Core.Path.{_≡_, refl, sym}
+use mathlib.Core.Path.{_≡_, refl}
 use mathlib.Core.List.{List}
 use mathlib.Core.Option.{Option, none, some}
-use Prim.Native.Nat.{ℕ, _<_}
+use Prim.Native.Nat.{ℕ}
 use native.Mathlib.Omega.{arith}
-use Rattle.device.specs.Answers.{Answer, sent, refused, callRefusal, callAnswer}
-use Rattle.device.specs.Demand1.{errorNumber}
+use Rattle.device.specs.Answers.{DeviceAnswer, sent, refused, callRefusal, callAnswer}
 use Rattle.device.proofs.Demand1.{demand-1 as device-demand-1, refused-by}
 use Rattle.instructions.specs.declared.RegisteredWrite.{RegisteredWrite}
 use Rattle.reactions.specs.declared.Heard.the-variants.{Packet}
@@ -13,7 +12,7 @@ use Rattle.exchange.specs.Exchange.{heardOf, refusedOr, bodyRefusal, exc
 use Rattle.exchange.specs.Demand1.{packetError, LeftAlone, LeftByRefusal, Demand1}
 
 -- an answer that is no refusal is the device's
-pub passed-on : (r : Option ℕ) (a : Answer) (n slot : ℕ) → refusedOr r a ≡ sent n slot → (r ≡ none) × (a ≡ sent n slot)
+pub passed-on : (r : Option ℕ) (a : DeviceAnswer) (n slot : ℕ) → refusedOr r a ≡ sent n slot → (r ≡ none) × (a ≡ sent n slot)
 passed-on none a n slot e = (refl, e)
 passed-on (some number) a n slot e = let z : _≡_ {A = ℕ} 0 1 = cc in absurd (omega arith)
 

@@ -19,8 +19,8 @@ use Rattle.reading.specs.Rules.{Verdict, isPacket, isBadChecksum, isWaiting, is
 use Rattle.packet_front.specs.Front.{idOf}
 use Rattle.packet.specs.Packet.{bodyOf, WellFormed}
 use Rattle.packet.specs.Verdict.{verdict, answerFor}
-use Rattle.packet.specs.declared.Verdict.{Verdict as Judged}
-use Rattle.packet.specs.declared.Verdict.the-variants.{Packet as Judged·Packet}
+use Rattle.packet.specs.declared.Judgement.{Judgement}
+use Rattle.packet.specs.declared.Judgement.the-variants.{Packet as Judgement·Packet}
 use Rattle.packet.proofs.Laws.{laws}
 use Rattle.exchange.specs.Exchange.{idBy, idHeard, Message, heardOf}
 
@@ -62,17 +62,17 @@ module _ (packet : List ℕ) where
       by-verdict isNothing e = heard-other _ e (λ n i. let z : _≡_ {A = ℕ} 0 1 = cc in absurd (omega arith))
 
   -- the verdict, by the code's answer
-  module _ (r : Judged) (k : ℕ) (e : r ≡ answerFor (verdict packet) k) where
-    pub told-packet : (n : ℕ) → r ≡ Judged·Packet n → verdict packet ≡ isPacket n
+  module _ (r : Judgement) (k : ℕ) (e : r ≡ answerFor (verdict packet) k) where
+    pub told-packet : (n : ℕ) → r ≡ Judgement·Packet n → verdict packet ≡ isPacket n
     told-packet n i = by-verdict (verdict packet) (sym i ∙ e)
       where
-        by-verdict : (v : Verdict) → Judged·Packet n ≡ answerFor v k → v ≡ isPacket n
+        by-verdict : (v : Verdict) → Judgement·Packet n ≡ answerFor v k → v ≡ isPacket n
         by-verdict (isPacket m) a = cc
         by-verdict (isBadChecksum id) a = let z : _≡_ {A = ℕ} 0 1 = cc in absurd (omega arith)
         by-verdict isWaiting a = let z : _≡_ {A = ℕ} 0 1 = cc in absurd (omega arith)
         by-verdict isNothing a = let z : _≡_ {A = ℕ} 0 1 = cc in absurd (omega arith)
 
-    pub told-other : ((n : ℕ) → r ≡ Judged·Packet n → ⊥) → idHeard packet ≡ 255
+    pub told-other : ((n : ℕ) → r ≡ Judgement·Packet n → ⊥) → idHeard packet ≡ 255
     told-other other = heard-other (verdict packet) refl (λ n i. other n (e ∙ ap (λ (v : Verdict). answerFor v k) i))
 
 -- ---- the removal of the stuffing

@@ -1,6 +1,6 @@
 -- Every list of calls leaves an accepted table, and a registered write whose count is as good as the one that was lent last.
-use mathlib.Core.Path.{_≡_, refl, sym, ap, _∙_}
-use mathlib.Core.Bool.{Bool, true, false}
+use mathlib.Core.Path.{_≡_, refl, ap, _∙_}
+use mathlib.Core.Bool.{Bool}
 use mathlib.Core.List.{List, [], _∷_, List·Memᴰ, List·Memᴰ·head, List·Memᴰ·tail}
 use mathlib.Core.Option.{Option, none, some}
 use Prim.Native.Nat.{ℕ, _≤_}
@@ -17,7 +17,7 @@ use Rattle.device.proofs.Stays.{call-fit, call-count}
 use Rattle.instructions.specs.declared.RegisteredWrite.{RegisteredWrite}
 use Rattle.reactions.specs.declared.Heard.the-variants.{Packet}
 use Rattle.exchange.specs.Exchange.{heardOf, bodyRefusal, exchangeTable, exchangeRegistered}
-use Rattle.exchange.specs.Calls.{State, Call, fresh, measurement, device, exchange, lend, stateOf, after, afterAll, refusalIn}
+use Rattle.exchange.specs.Calls.{State, DeviceCall, fresh, measurement, device, exchange, lend, afterCall, afterAll, refusalIn}
 use Rattle.exchange.specs.Stays.{lentBy, lastLent, StaysAccepted}
 
 -- ---- one call
@@ -37,7 +37,7 @@ module _ (table : List ℕ) (w : RegisteredWrite) (f : FitTable table) (packet b
       by-refusal none e = rw e (call-count table w f Packet (heardOf packet .id) (heardOf packet .body) out)
       by-refusal (some number) e = rw e refl
 
-after-fit : (s : State) → FitTable (s .table) → (call : Call) → FitTable (after s call .table)
+after-fit : (s : State) → FitTable (s .table) → (call : DeviceCall) → FitTable (afterCall s call .table)
 after-fit s f fresh = fresh-fit (s .table) f
 after-fit s f (measurement position error) = measure-fit (s .table) f position error
 after-fit s f (device heard id body out) = call-fit (s .table) (s .registered) f heard id body out
@@ -45,8 +45,8 @@ after-fit s f (exchange packet body out) = exchange-fit (s .table) (s .registere
 after-fit s f (lend w) = f
 
 -- the count is as good as that of the registered write that was lent last
-after-count : (s : State) → FitTable (s .table) → (w : RegisteredWrite) → leb (s .registered .count) 8 ≡ leb (w .count) 8 → (call : Call)
-    → leb (after s call .registered .count) 8 ≡ leb (lentBy w call .count) 8
+after-count : (s : State) → FitTable (s .table) → (w : RegisteredWrite) → leb (s .registered .count) 8 ≡ leb (w .count) 8 → (call : DeviceCall)
+    → leb (afterCall s call .registered .count) 8 ≡ leb (lentBy w call .count) 8
 after-count s f w e fresh = e
 after-count s f w e (measurement position error) = e
 after-count s f w e (device heard id body out) = call-count (s .table) (s .registered) f heard id body out ∙ e
@@ -59,25 +59,25 @@ fit-refusal : (s : State) → FitTable (s .table) → refusalIn s ≡ firstFaili
 unfolding stateRefusal
 fit-refusal s f = rw (eq-eqb (length (s .table)) tableSize (f .sized), le-leb (ownId (s .table)) 252 (f .known))
 
-refusal-after : (calls : List Call) (s : State) → FitTable (s .table) → (w : RegisteredWrite) → leb (s .registered .count) 8 ≡ leb (w .count) 8
+refusal-after : (calls : List DeviceCall) (s : State) → FitTable (s .table) → (w : RegisteredWrite) → leb (s .registered .count) 8 ≡ leb (w .count) 8
     → refusalIn (afterAll s calls) ≡ firstFailing ((leb (lastLent w calls .count) 8, 23) ∷ [])
 refusal-after [] s f w e = fit-refusal s f ∙ ap (λ (b : Bool). firstFailing ((b, 23) ∷ [])) e
-refusal-after (call ∷ calls) s f w e = refusal-after calls (after s call) (after-fit s f call) (lentBy w call) (after-count s f w e call)
+refusal-after (call ∷ calls) s f w e = refusal-after calls (afterCall s call) (after-fit s f call) (lentBy w call) (after-count s f w e call)
 
 -- the one that was lent last is one of those lent
-last-short : (calls : List Call) (w : RegisteredWrite) → w .count ≤ 8 → ((v : RegisteredWrite) → List·Memᴰ (lend v) calls → v .count ≤ 8)
+last-short : (calls : List DeviceCall) (w : RegisteredWrite) → w .count ≤ 8 → ((v : RegisteredWrite) → List·Memᴰ (lend v) calls → v .count ≤ 8)
     → lastLent w calls .count ≤ 8
 last-short [] w short each = short
 last-short (call ∷ calls) w short each = last-short calls (lentBy w call) (by-call call each) (λ v m. each v (List·Memᴰ·tail m))
   where
-    by-call : (call : Call) → ((v : RegisteredWrite) → List·Memᴰ (lend v) (call ∷ calls) → v .count ≤ 8) → lentBy w call .count ≤ 8
+    by-call : (call : DeviceCall) → ((v : RegisteredWrite) → List·Memᴰ (lend v) (call ∷ calls) → v .count ≤ 8) → lentBy w call .count ≤ 8
     by-call fresh each = short
     by-call (measurement position error) each = short
     by-call (device heard id body out) each = short
     by-call (exchange packet body out) each = short
     by-call (lend new) each = each new (List·Memᴰ·head refl)
 
-by-lent : (s : State) (calls : List Call) → refusalIn s ≡ none
+by-lent : (s : State) (calls : List DeviceCall) → refusalIn s ≡ none
     → refusalIn (afterAll s calls) ≡ firstFailing ((leb (lastLent (s .registered) calls .count) 8, 23) ∷ [])
 by-lent s calls e =
     let a = state-accepted (s .table) (s .registered) e in

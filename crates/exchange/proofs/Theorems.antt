@@ -1,23 +1,17 @@
 -- Only well-formed packets are heard, and so are those that are written.
-use mathlib.Core.Path.{_≡_, refl, sym, ap, ap₂, subst, _∙_}
-use mathlib.Core.Bool.{true}
+use mathlib.Core.Path.{_≡_, refl}
 use mathlib.Core.Option.{Option, none, some}
 use mathlib.Core.List.{List}
-use Prim.Native.Nat.{ℕ, _+_, _≤_, _<_}
+use Prim.Native.Nat.{ℕ, _≤_}
 use lib.ListN.{length}
 use borrow.Author.Tests.{le-leb}
-use Rattle.stuffing.specs.Stuffing.{stuff, unstuff}
+use Rattle.stuffing.specs.Stuffing.{unstuff}
 use Rattle.stuffing.specs.Answers.{removalRefusal}
-use Rattle.packet_front.specs.Front.{goodId, idOf}
 use Rattle.packet.specs.Packet.{bodyOf, WellFormed}
-use Rattle.encoder.specs.Writing.{packetOf}
-use Rattle.encoder.proofs.RoundTrip.{round-trip}
-use Rattle.device.specs.Answers.{callAnswer}
 use Rattle.device.proofs.Unheard.{unheard}
-use Rattle.device.proofs.Unheard.{Unheard as Device·Unheard}
 use Rattle.instructions.specs.declared.RegisteredWrite.{RegisteredWrite}
 use Rattle.reactions.specs.declared.Heard.the-variants.{Packet}
-use Rattle.exchange.specs.Exchange.{idHeard, Message, heardOf, exchangeAnswer}
+use Rattle.exchange.specs.Exchange.{heardOf}
 use Rattle.exchange.specs.OnlyPackets.{Unheard, HeardOut, OnlyPackets}
 use Rattle.exchange.proofs.Hearing.{heard-packet, heard-nobody}
 
@@ -57,12 +51,3 @@ module _ (table : List ℕ) (w : RegisteredWrite) (packet body out : List ℕ) w
 
 pub only-packets : OnlyPackets
 only-packets = record { packets = heard-out; others = not-heard }
-
--- a packet that the encoder would write is answered as its ID and body are, where there is room for the body
-pub packet-answered : (id : ℕ) (sent : List ℕ) → goodId id ≡ true → 0 < length sent → length (stuff sent) + 2 ≤ 1024
-    → (table : List ℕ) (w : RegisteredWrite) (body out : List ℕ) → length sent ≤ length body
-    → exchangeAnswer table w (packetOf id sent) body out ≡ callAnswer table w Packet id sent out
-packet-answered id sent good full long table w body out room =
-    let same = round-trip .same-body id sent in
-    heard-out table w (packetOf id sent) body out (round-trip .well-formed id sent good full long) (rw same room) .answers
-    ∙ ap₂ (λ (i : ℕ) (b : List ℕ). callAnswer table w Packet i b out) (round-trip .same-id id sent) same

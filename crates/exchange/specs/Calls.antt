@@ -14,32 +14,32 @@ pub record State : Type 0 where
   pub registered : RegisteredWrite
 
 -- a call, with all that it is given beside them
-pub data Call : Type 0 where
-  fresh : Call
+pub data DeviceCall : Type 0 where
+  fresh : DeviceCall
   -- position and hardware error
-  measurement : ℤ → ℕ → Call
+  measurement : ℤ → ℕ → DeviceCall
   -- what was heard, its ID and its body; the reply buffer
-  device : Heard → ℕ → List ℕ → List ℕ → Call
+  device : Heard → ℕ → List ℕ → List ℕ → DeviceCall
   -- a packet as received; the body buffer and the reply buffer
-  exchange : List ℕ → List ℕ → List ℕ → Call
+  exchange : List ℕ → List ℕ → List ℕ → DeviceCall
   -- no call of ours: from here on the caller lends another registered write
-  lend : RegisteredWrite → Call
+  lend : RegisteredWrite → DeviceCall
 
 abbrev pub stateOf : List ℕ → RegisteredWrite → State
 stateOf table w = record { table = table; registered = w }
 
-abbrev pub after : State → Call → State
-after s fresh = stateOf (freshOut (s .table)) (s .registered)
-after s (measurement position error) = stateOf (measureOut (s .table) position error) (s .registered)
-after s (device heard id body out) =
+abbrev pub afterCall : State → DeviceCall → State
+afterCall s fresh = stateOf (freshOut (s .table)) (s .registered)
+afterCall s (measurement position error) = stateOf (measureOut (s .table) position error) (s .registered)
+afterCall s (device heard id body out) =
     stateOf (callTable (s .table) (s .registered) heard id body out) (callRegistered (s .table) (s .registered) heard id body out)
-after s (exchange packet body out) =
+afterCall s (exchange packet body out) =
     stateOf (exchangeTable (s .table) (s .registered) packet body out) (exchangeRegistered (s .table) (s .registered) packet body out)
-after s (lend w) = stateOf (s .table) w
+afterCall s (lend w) = stateOf (s .table) w
 
-abbrev pub afterAll : State → List Call → State
+abbrev pub afterAll : State → List DeviceCall → State
 afterAll s [] = s
-afterAll s (call ∷ calls) = afterAll (after s call) calls
+afterAll s (call ∷ calls) = afterAll (afterCall s call) calls
 
 -- 21 to 23, by the state
 abbrev pub refusalIn : State → Option ℕ

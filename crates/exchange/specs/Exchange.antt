@@ -14,7 +14,7 @@ use Rattle.packet_front.specs.Front.{idOf}
 use Rattle.packet.specs.Packet.{bodyOf}
 use Rattle.packet.specs.Verdict.{verdict}
 use Rattle.instructions.specs.Registered.{keptBy}
-use Rattle.device.specs.Answers.{Answer, refused, repliedAnswer, orElse, callRefusal, callAnswer, callTable, callRegistered, callOut}
+use Rattle.device.specs.Answers.{DeviceAnswer, refused, repliedAnswer, orElse, callRefusal, callAnswer, callTable, callRegistered, callOut}
 use Rattle.instructions.specs.declared.RegisteredWrite.{RegisteredWrite}
 use Rattle.reactions.specs.declared.Heard.the-variants.{Packet}
 use Rattle.exchange.specs.declared.Exchanged.{Exchanged}
@@ -41,13 +41,13 @@ abbrev pub heardOf : List ℕ → Message
 heardOf packet = record { id = idHeard packet; body = unstuff (bodyOf packet) }
 
 -- a refusal by its number [K5 N3 N4]
-abbrev pub exchangedAnswer : Exchanged → Answer
+abbrev pub exchangedAnswer : Exchanged → DeviceAnswer
 exchangedAnswer (Device replied) = repliedAnswer replied
 exchangedAnswer BadStuffing = refused 14
 exchangedAnswer NoRoom = refused 13
 
 -- a refusal, or else the device's answer
-abbrev pub refusedOr : Option ℕ → Answer → Answer
+abbrev pub refusedOr : Option ℕ → DeviceAnswer → DeviceAnswer
 refusedOr none answer = answer
 refusedOr (some number) answer = refused number
 
@@ -61,7 +61,7 @@ module _ (table : List ℕ) (w : RegisteredWrite) (packet body out : List ℕ) w
   abbrev pub exchangeRefusal : Option ℕ
   exchangeRefusal = orElse bodyRefusal (callRefusal table w out)
 
-  abbrev pub exchangeAnswer : Answer
+  abbrev pub exchangeAnswer : DeviceAnswer
   exchangeAnswer = refusedOr bodyRefusal (callAnswer table w Packet (heardOf packet .id) (heardOf packet .body) out)
 
   abbrev pub exchangeTable : List ℕ

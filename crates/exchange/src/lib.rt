@@ -2,13 +2,13 @@
 use device::Replied;
 use device::Response;
 use instructions::RegisteredWrite;
-use packet::Verdict;
+use packet::Judgement;
 use reactions::Heard;
 use stuffing::Checked;
 ghost use mathlib.Core.Path.{_≡_};
 ghost use Rattle.exchange.specs.Exchange.{idHeard, exchangedAnswer, exchangeAnswer, exchangeRegistered, exchangeTable, exchangeBody, exchangeOut};
 
-// The device's answer, or a packet that it cannot be given: its body is not well stuffed, or has no room without its stuffing.
+// The device's answer, or why it does not get the packet: the body is not well stuffed, or has no room when unstuffed.
 pub enum Exchanged {
     Device(Replied),
     BadStuffing,
@@ -20,21 +20,24 @@ pub struct Answered {
     pub registered: RegisteredWrite,
 }
 
-// The packet's ID. Where the bytes are not one well-formed packet and no more, 255, which no device has.
+// An ID that no device has.
+const NO_ID: u8 = 255;
+
+// The packet's ID, or NO_ID if the bytes are not exactly one well-formed packet.
 fn id_heard(packet: &[u8]) -> u8
     ensures { λ r. ⌜ r ≡ idHeard (now (packet .entry)) ⌝ }
 {
-    let Verdict::Packet(n) = packet::judge(packet, 0) else {
-        return 255;
+    let Judgement::Packet(n) = packet::judge(packet, 0) else {
+        return NO_ID;
     };
     if n != packet.len() {
-        return 255;
+        return NO_ID;
     }
     packet[4]
 }
 
-// The packet's body goes to the body buffer without its stuffing, and the device hears it. Faults of the caller come first, in
-// the order of their tests here, and change nothing: not the body buffer either, which is written when all tests are passed.
+// Writes the packet's body without its stuffing to the body buffer, and lets the device hear it. Faults of the caller come first,
+// in the order of their tests here, and change nothing: the body buffer is written when all tests are passed.
 // [D38 D39 N3 N4 N6-N8 N10-N12 N14]
 pub fn answer(
     table: &mut [u8],

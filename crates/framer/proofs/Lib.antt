@@ -1,4 +1,4 @@
-pub mod Replies
+pub mod Deliveries
 pub mod Turns
 pub mod Answers
 pub mod Longest

@@ -6,9 +6,9 @@ use native.Mathlib.Omega.{arith}
 use lib.ListN.{length, take, drop, getD, length-append, length-drop}
 use lib.Seq.{length-take-le, take-all, drop-cons, drop-drop, drop-length}
 use Rattle.reading.specs.Rules.{Rules, Laws, isPacket, isBadChecksum, isWaiting, isNothing}
-use Rattle.reading.specs.Rules.{Verdict as Ruling}
+use Rattle.reading.specs.Rules.{Verdict}
 use Rattle.reading.specs.Reading.{packet, badChecksum, open′, closed}
-use Rattle.reading.specs.Calls.{event, first, Reply, fed, gapped, feed, call}
+use Rattle.reading.specs.Calls.{event, first, CallResult, fed, gapped, feed, call}
 use Rattle.reading.specs.Progress.{afterTaking, Reached}
 use Rattle.reading.proofs.Held.{held-bound}
 use Rattle.reading.proofs.Progress.{first-at, last-byte, silent-patient, reached-more, reached-event, reached-nothing}
@@ -19,8 +19,8 @@ use Rattle.windows.specs.declared.Stop.the-variants.{Done, Passed, Full}
 use Rattle.packet_front.specs.Front.{idOf}
 use Rattle.framer.specs.declared.Step.{Step}
 use Rattle.framer.specs.declared.StepEvent.the-variants.{Packet as Gave·Packet, BadChecksum as Gave·BadChecksum, Silent}
-use Rattle.windows.specs.Scan.{onFrom, sizeOf, Waits, Seen, replyOf, Ends, Stops, Filled}
-use Rattle.framer.specs.Replied.{Replied}
+use Rattle.windows.specs.Scan.{onFrom, sizeSeen, Waits, Seen, resultOf, Ends, Stops, Filled}
+use Rattle.framer.specs.Delivered.{Delivered}
 use Rattle.windows.proofs.Windows.{stops-take}
 
 pub room-for : (n m k : ℕ) → n ≤ m → k ≡ m → n ≤ k
@@ -54,20 +54,20 @@ module _ (R : Rules) (L : Laws R) where
     ends-left l =
         let k = held-bound R L h (feed c) l in
         let e : length (fed R h c .held) ≡ end - onFrom v =
-        ap (λ (r : Reply). length (r .held)) (w .fed-is) ∙ length-drop (onFrom v) (take end src)
+        ap (λ (r : CallResult). length (r .held)) (w .fed-is) ∙ length-drop (onFrom v) (take end src)
         ∙ ap (λ (m : ℕ). m - onFrom v) (length-take-le end src within) in
         omega arith
 
   pub ends-after : (h c s : List ℕ) (before n : ℕ) (v : Scanned) → Ends R h c s n v
-      → afterTaking before (fed R h c) ≡ replyOf s (before + n) v
+      → afterTaking before (fed R h c) ≡ resultOf s (before + n) v
   ends-after h c s before n v w = ap (afterTaking before) (w .fed-is)
 
   pub ends-fed : (h₀ c₀ h s : List ℕ) (taken n : ℕ) (v : Scanned) → Reached R h₀ c₀ h taken → Ends R h (drop taken c₀) s n v
-      → fed R h₀ c₀ ≡ replyOf s (taken + n) v
+      → fed R h₀ c₀ ≡ resultOf s (taken + n) v
   ends-fed h₀ c₀ h s taken n v a w = a .same ∙ ends-after h (drop taken c₀) s taken n v w
 
   pub ends-rest : (chunk s : List ℕ) (from n : ℕ) (v : Scanned) → Ends R [] (rest chunk from) s n v
-      → afterTaking from (fed R [] (drop from chunk)) ≡ replyOf s (from + n) v
+      → afterTaking from (fed R [] (drop from chunk)) ≡ resultOf s (from + n) v
   ends-rest chunk s from n v w = ends-after [] (drop from chunk) s from n v (rw (rest-is chunk from) at w)
 
   -- nothing is left of the held bytes
@@ -77,14 +77,14 @@ module _ (R : Rules) (L : Laws R) where
 
   -- a gap call whose scan found nothing
   pub gap-nothing : (s held bytes : List ℕ) (at : ℕ) (step : Step) → Waits R closed s 0 at
-      → step ≡ record { taken = 0; held = 0; event = Silent } → Replied (gapped (first R closed s)) step held bytes
+      → step ≡ record { taken = 0; held = 0; event = Silent } → Delivered (gapped (first R closed s)) step held bytes
   gap-nothing s held bytes at step w e =
       rw (w .first-is, e)
       (record { taken-is = refl; event-is = refl; count-is = refl; held-is = refl; bytes-are = refl })
 
   -- and one whose scan found an event
   pub gap-decided : (s : List ℕ) (v : Scanned) → ((at : ℕ) → v ≡ Waiting at → ⊥) → Seen R closed s 0 v
-      → (onFrom v ≤ length s) × (sizeOf v ≤ R .longest) × (gapped (first R closed s) ≡ replyOf s 0 v)
+      → (onFrom v ≤ length s) × (sizeSeen v ≤ R .longest) × (gapped (first R closed s) ≡ resultOf s 0 v)
   gap-decided s (Packet at n) w d = (d .fits, omega (arith, d .short), ap gapped (d .first-is))
   gap-decided s (BadChecksum at id) w d = (d .fits, omega arith, ap gapped (d .first-is))
   gap-decided s (Waiting at) w d = absurd (w at refl)
@@ -129,7 +129,7 @@ module _ (R : Rules) (L : Laws R) where
 
     pub full-packet : (n id : ℕ) (r : Step) (held′ bytes : List ℕ) → R .verdict more ≡ isPacket n
         → r ≡ record { taken = next + 1; held = 0; event = Gave·Packet id n } → id ≡ idOf bytes → bytes ≡ more
-        → Replied (fed R h₀ c₀) r held′ bytes
+        → Delivered (fed R h₀ c₀) r held′ bytes
     full-packet n id r held′ bytes e i d j =
         let m : n ≡ suc (length held) = last-byte R L held held (getD c₀ next 0) n (w .waits) e in
         let l : n ≡ length more = omega (arith, more-length) in
@@ -148,7 +148,7 @@ module _ (R : Rules) (L : Laws R) where
 
     pub full-bad : (id n : ℕ) (r : Step) (held′ bytes : List ℕ) → R .verdict more ≡ isBadChecksum id
         → r ≡ record { taken = next + 1; held = n; event = Gave·BadChecksum id } → n ≡ length held → held′ ≡ drop 1 more
-        → Replied (fed R h₀ c₀) r held′ bytes
+        → Delivered (fed R h₀ c₀) r held′ bytes
     full-bad id n r held′ bytes e i m j =
         let f : first R open′ more ≡ event (badChecksum id) (drop 1 more) =
         first-at R open′ more (isBadChecksum id) (omega (arith, more-length)) e in
@@ -168,7 +168,7 @@ module _ (R : Rules) (L : Laws R) where
         → Reached R h₀ c₀ (take n held′) (next + 1)
     full-other n held′ p q m j = by (R .verdict more) refl
       where
-        by : (v : Ruling) → R .verdict more ≡ v → Reached R h₀ c₀ (take n held′) (next + 1)
+        by : (v : Verdict) → R .verdict more ≡ v → Reached R h₀ c₀ (take n held′) (next + 1)
         by (isPacket size) e = absurd (p size e)
         by (isBadChecksum id) e = absurd (q id e)
         by isWaiting e = absurd (omega (arith, L .room more e, L .lacking more e, more-length))

@@ -1,2 +1,2 @@
-pub mod Answer
-pub mod Replied
+pub mod Results
+pub mod Delivered

@@ -1,5 +1,5 @@
 // The reader's feeding and gap calls, in place on the caller's held bytes and packet buffer.
-use packet::Verdict;
+use packet::Judgement;
 use windows::Scanned;
 use windows::Stop;
 ghost use mathlib.Core.Path.{_≡_};
@@ -13,9 +13,9 @@ ghost use Rattle.reading.specs.Progress.{afterTaking};
 ghost use Rattle.packet_front.specs.Front.{idOf};
 ghost use Rattle.packet_front.specs.Begun.{lacks};
 ghost use Rattle.packet.specs.Verdict.{protocol2, answerFor, verdict};
-ghost use Rattle.windows.specs.Scan.{onFrom, sizeOf, answerOf, replyOf};
-ghost use Rattle.framer.specs.Answer.{bytesOf, stepFor, heldFor, packetFor};
-ghost use Rattle.framer.specs.Replied.{eventWith, sizeIn, Replied};
+ghost use Rattle.windows.specs.Scan.{onFrom, sizeSeen, answerOf, resultOf};
+ghost use Rattle.framer.specs.Results.{packetBytes, stepFor, heldFor, packetFor};
+ghost use Rattle.framer.specs.Delivered.{eventWith, sizeIn, Delivered};
 
 // The event of a call: a packet with its ID and its byte count, a bad checksum with its ID, none (of a gap call: nothing is
 // left), or the refusal of a count of held bytes above 1,030.
@@ -26,7 +26,7 @@ pub enum StepEvent {
     Refused,
 }
 
-// What a call answers: how many bytes it took, how many are held then, and its event.
+// What a call returns: how many bytes it took, how many are held now, and its event.
 pub struct Step {
     pub taken: usize,
     pub held: usize,
@@ -59,12 +59,12 @@ fn id_in(packet: &[u8]) -> u8
     packet[4]
 }
 
-// The event of what was seen of the bytes src; a packet's bytes go to the packet buffer, and its ID is read there.
-fn tell(src: &[u8], seen: Scanned, packet: &mut [u8]) -> StepEvent
-    requires { ⌜ (onFrom seen ≤ length (now src)) × (sizeOf seen ≤ length (now packet)) × (length (now packet) ≡ 1031) ⌝ }
+// The event for what was found in src. A packet's bytes are copied to the packet buffer, and its ID is read there.
+fn report(src: &[u8], seen: Scanned, packet: &mut [u8]) -> StepEvent
+    requires { ⌜ (onFrom seen ≤ length (now src)) × (sizeSeen seen ≤ length (now packet)) × (length (now packet) ≡ 1031) ⌝ }
     ensures { λ r. ⌜ r ≡ eventWith (idOf (now (packet .exit))) (answerOf (now (src .entry)) seen) ⌝ }
-    ensures { λ _. ⌜ take (length (bytesOf (answerOf (now (src .entry)) seen))) (now (packet .exit))
-        ≡ bytesOf (answerOf (now (src .entry)) seen) ⌝ }
+    ensures { λ _. ⌜ take (length (packetBytes (answerOf (now (src .entry)) seen))) (now (packet .exit))
+        ≡ packetBytes (answerOf (now (src .entry)) seen) ⌝ }
 {
     match seen {
         Scanned::Packet { at, count } => {
@@ -77,19 +77,19 @@ fn tell(src: &[u8], seen: Scanned, packet: &mut [u8]) -> StepEvent
     }
 }
 
-// The event goes out, and the held bytes from where reading goes on stay.
+// Gives the event and keeps the held bytes from where reading goes on.
 fn deliver(held: &mut [u8], seen: Scanned, end: usize, taken: usize, packet: &mut [u8]) -> Step
-    requires { ⌜ (onFrom seen ≤ end) × (end ≤ length (now held)) × (sizeOf seen ≤ length (now packet))
+    requires { ⌜ (onFrom seen ≤ end) × (end ≤ length (now held)) × (sizeSeen seen ≤ length (now packet))
         × (length (now packet) ≡ 1031) ⌝ }
-    ensures { λ r. ⌜ Replied (replyOf (take end (now (held .entry))) taken seen) r (now (held .exit)) (now (packet .exit)) ⌝ }
+    ensures { λ r. ⌜ Delivered (resultOf (take end (now (held .entry))) taken seen) r (now (held .exit)) (now (packet .exit)) ⌝ }
 {
-    let event = tell(held, seen, packet);
+    let event = report(held, seen, packet);
     let on = on_from(seen);
     buffers::shift(held, on, end);
     stepped(taken, end - on, event)
 }
 
-// The event goes out, and the chunk's bytes from where reading goes on are held. `before` bytes were taken before the chunk.
+// Gives the event and holds the chunk's bytes from where reading goes on. `before` bytes were taken before the chunk.
 fn deliver_chunk(
     held: &mut [u8],
     chunk: &[u8],
@@ -99,17 +99,17 @@ fn deliver_chunk(
     packet: &mut [u8],
 ) -> Step
     requires { ⌜ (onFrom seen ≤ end) × (end ≤ length (now chunk)) × (end - onFrom seen ≤ length (now held))
-        × (sizeOf seen ≤ length (now packet)) × (length (now packet) ≡ 1031) × (before + end < 2 ^ 64) ⌝ }
-    ensures { λ r. ⌜ Replied (replyOf (take end (now (chunk .entry))) (before + end) seen) r (now (held .exit)) (now (packet .exit)) ⌝ }
+        × (sizeSeen seen ≤ length (now packet)) × (length (now packet) ≡ 1031) × (before + end < 2 ^ 64) ⌝ }
+    ensures { λ r. ⌜ Delivered (resultOf (take end (now (chunk .entry))) (before + end) seen) r (now (held .exit)) (now (packet .exit)) ⌝ }
 {
-    let event = tell(chunk, seen, packet);
+    let event = report(chunk, seen, packet);
     let on = on_from(seen);
     buffers::place(held, 0, &chunk[on..end]);
     stepped(before + end, end - on, event)
 }
 
-// The window fills its buffer: with one byte more it is judged in the packet buffer. All of it but its first byte stays held.
-fn judge_longest(held: &mut [u8], byte: u8, packet: &mut [u8]) -> Verdict
+// The held bytes fill their buffer: with one byte more they are judged in the packet buffer. All but the first stay held.
+fn judge_longest(held: &mut [u8], byte: u8, packet: &mut [u8]) -> Judgement
     requires { ⌜ (0 < length (now held)) × (length (now packet) ≡ length (now held) + 1) ⌝ }
     ensures { λ r. ⌜ r ≡ answerFor (verdict (now (held .entry) ++ byte ∷ [])) (lacks (now (held .entry) ++ byte ∷ [])) ⌝ }
     ensures { λ _. ⌜ (now (packet .exit) ≡ now (held .entry) ++ byte ∷ [])
@@ -123,10 +123,10 @@ fn judge_longest(held: &mut [u8], byte: u8, packet: &mut [u8]) -> Verdict
     packet::judge(packet, 0)
 }
 
-// The chunk's bytes from `from` on, where none are held.
+// Reads the chunk from `from` on, where no bytes are held.
 fn read_chunk(held: &mut [u8], chunk: &[u8], from: usize, packet: &mut [u8]) -> Step
     requires { ⌜ (from ≤ length (now chunk)) × (length (now held) ≡ 1030) × (length (now packet) ≡ 1031) ⌝ }
-    ensures { λ r. ⌜ Replied (afterTaking from (fed protocol2 [] (drop from (now (chunk .entry))))) r
+    ensures { λ r. ⌜ Delivered (afterTaking from (fed protocol2 [] (drop from (now (chunk .entry))))) r
         (now (held .exit)) (now (packet .exit)) ⌝ }
 {
     let ahead = windows::advance(&chunk[from..]);
@@ -134,10 +134,10 @@ fn read_chunk(held: &mut [u8], chunk: &[u8], from: usize, packet: &mut [u8]) -> 
     deliver_chunk(held, &chunk[from..], seen, ahead.end, from, packet)
 }
 
-// The held bytes first, then the chunk's. A byte is taken past a full buffer by each turn.
+// Reads the held bytes first, then the chunk. Each turn takes one byte past a full buffer.
 fn feed_slices(held: &mut [u8], count: usize, chunk: &[u8], packet: &mut [u8]) -> Step
     requires { ⌜ (count ≤ 1030) × (length (now held) ≡ 1030) × (length (now packet) ≡ 1031) ⌝ }
-    ensures { λ r. ⌜ Replied (fed protocol2 (take count (now (held .entry))) (now (chunk .entry))) r
+    ensures { λ r. ⌜ Delivered (fed protocol2 (take count (now (held .entry))) (now (chunk .entry))) r
         (now (held .exit)) (now (packet .exit)) ⌝ }
 {
     let mut n = count;
@@ -158,20 +158,20 @@ fn feed_slices(held: &mut [u8], count: usize, chunk: &[u8], packet: &mut [u8]) -
         taken += 1;
         n = held.len();
         match judge_longest(held, byte, packet) {
-            Verdict::Packet(size) => {
+            Judgement::Packet(size) => {
                 let id = id_in(packet);
                 return stepped(taken, 0, StepEvent::Packet { id, size });
             }
-            Verdict::BadChecksum(id) => return stepped(taken, n, StepEvent::BadChecksum { id }),
+            Judgement::BadChecksum(id) => return stepped(taken, n, StepEvent::BadChecksum { id }),
             _ => {}
         }
     }
 }
 
-// The held bytes as if the segment ended with them.
+// Reads the held bytes as if the segment ended with them.
 fn gap_slices(held: &mut [u8], count: usize, packet: &mut [u8]) -> Step
     requires { ⌜ (count ≤ 1030) × (length (now held) ≡ 1030) × (length (now packet) ≡ 1031) ⌝ }
-    ensures { λ r. ⌜ Replied (gapped (first protocol2 closed (take count (now (held .entry))))) r
+    ensures { λ r. ⌜ Delivered (gapped (first protocol2 closed (take count (now (held .entry))))) r
         (now (held .exit)) (now (packet .exit)) ⌝ }
 {
     let seen = windows::scan_closed(&held[..count]);
@@ -192,7 +192,7 @@ fn size_of(event: StepEvent) -> usize
     }
 }
 
-// What lies past the held bytes and past the packet's becomes 0.
+// Sets the bytes past the held ones, and past the packet's, to 0.
 fn clear_rest(held: &mut [u8], packet: &mut [u8], step: Step)
     ensures { λ _. ⌜ (now (held .exit)
         ≡ take (step .held) (now (held .entry)) ++ replicate (length (now (held .entry)) - step .held) 0)
@@ -205,9 +205,9 @@ fn clear_rest(held: &mut [u8], packet: &mut [u8], step: Step)
     buffers::clear(packet, size);
 }
 
-// A feeding call on the caller's held bytes, of which there are `count`, and packet buffer: the fewest bytes of the chunk that
-// decide an event are taken, or all of it. Feed the rest again until a call gives no event, also where the rest is empty: events
-// may lie in what is held. [F2-F10 F15 F16 K2-K4]
+// A feeding call on the caller's held bytes, of which there are `count`, and packet buffer. It takes the fewest bytes of the chunk
+// that decide an event, or all of it. Feed the rest again until a call gives no event, even if the rest is empty: events may lie
+// in the held bytes. [F2-F10 F15 F16 K2-K4]
 pub fn feed_in(held: &mut [u8; 1030], count: usize, chunk: &[u8], packet: &mut [u8; 1031]) -> Step
     ensures { λ r. ⌜ (r ≡ stepFor count (call protocol2 (take count (now (held .entry))) (Call·feed (now (chunk .entry)))))
         × (now (held .exit) ≡ heldFor count (now (held .entry)) (call protocol2 (take count (now (held .entry))) (Call·feed (now (chunk .entry)))))
@@ -221,7 +221,7 @@ pub fn feed_in(held: &mut [u8; 1030], count: usize, chunk: &[u8], packet: &mut [
     step
 }
 
-// A gap call, likewise: the next event as if the segment ended with what is held. Call it until it says that nothing is left.
+// A gap call, likewise: the next event as if the segment ended with the held bytes. Call it until nothing is left.
 // [F12-F16 K2-K4]
 pub fn gap_in(held: &mut [u8; 1030], count: usize, packet: &mut [u8; 1031]) -> Step
     ensures { λ r. ⌜ (r ≡ stepFor count (call protocol2 (take count (now (held .entry))) Call·gap))

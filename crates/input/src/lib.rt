@@ -1,4 +1,4 @@
-// Standard input, with a read that fails told apart from the end of the input.
+// Standard input, where a failed read is told from the end of the input.
 use libc::STDIN_FILENO;
 ghost use Rattle.io.specs.Counts.{Counts};
 

@@ -12,7 +12,7 @@ use Rattle.registers.specs.Registers.{tableSize, registeredInstruction}
 use Rattle.control_table.proofs.Put.{put-byte}
 use Rattle.instructions.specs.Registered.{dropped}
 use Rattle.instructions.specs.Instructions.{write, action}
-use Rattle.instructions.specs.Steps.{sized}
+use Rattle.instructions.specs.Results.{sized}
 use Rattle.instructions.proofs.Sized.{of-size}
 use Rattle.instructions.specs.declared.RegisteredWrite.{RegisteredWrite}
 

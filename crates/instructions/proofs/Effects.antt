@@ -20,7 +20,7 @@ use Rattle.control_table.proofs.Theorems.{read-inside}
 use Rattle.control_table.proofs.Put.{put-byte}
 use Rattle.instructions.specs.Registered.{registering}
 use Rattle.instructions.specs.Instructions.{Effect, errorOf, read, write, regWrite}
-use Rattle.instructions.specs.Steps.{doneWith, doneOf, sized}
+use Rattle.instructions.specs.Results.{doneWith, doneOf, sized}
 use Rattle.instructions.proofs.Sized.{of-size, by-size}
 use Rattle.instructions.specs.declared.Done.{Done as DoneRecord}
 use Rattle.instructions.specs.declared.RegisteredWrite.{RegisteredWrite}

@@ -124,20 +124,21 @@ put-fit table f r e =
     let low = leb-true (getD (bytesOf (r .bytes) (r .fresh)) (7 - r .address) 0) 252 good in
     omega (arith, rw seven at own))
 
-freshened-fit : (table : List ℕ) → FitTable table → (test : Register → Bool) (rs : List Register) → allFine rs ≡ true
+freshened-fit : (test : Register → Bool) (rs : List Register) → allFine rs ≡ true → (table : List ℕ) → FitTable table
     → FitTable (freshened (only test rs) table)
 unfolding freshened
-freshened-fit table f test [] e = f
-freshened-fit table f test (r ∷ rs) e =
-    by-test (freshened-fit table f test rs (and-right (fine r) (allFine rs) e)) (and-left (fine r) (allFine rs) e) (test r)
+freshened-fit test [] e table f = f
+freshened-fit test (r ∷ rs) e table f =
+    by-test (freshened-fit test rs (and-right (fine r) (allFine rs) e)) (and-left (fine r) (allFine rs) e) (test r)
   where
-    by-test : FitTable (freshened (only test rs) table) → fine r ≡ true → (b : Bool) → FitTable (freshened (cond b (r ∷ only test rs) (only test rs)) table)
-    by-test rest good true = put-fit (freshened (only test rs) table) rest r good
-    by-test rest good false = rest
+    by-test : ((t : List ℕ) → FitTable t → FitTable (freshened (only test rs) t)) → fine r ≡ true → (b : Bool)
+        → FitTable (freshened (cond b (r ∷ only test rs) (only test rs)) table)
+    by-test rest good true = rest (put table r (r .fresh)) (put-fit table f r good)
+    by-test rest good false = rest table f
 
 registers-fit : (table : List ℕ) → FitTable table → (test : Register → Bool) → FitTable (freshened (only test registers) table)
 unfolding registers bytesOf
-registers-fit table f test = freshened-fit table f test registers refl
+registers-fit table f test = freshened-fit test registers refl table f
 
 rebooted-fit : (table : List ℕ) → FitTable table → FitTable (rebooted table)
 unfolding rebooted
@@ -157,7 +158,7 @@ zeros-fit = record { sized = refl; known = omega arith }
 module _ (table : List ℕ) (f : FitTable table) where
   pub fresh-fit : FitTable (freshOut table)
   unfolding registers bytesOf
-  fresh-fit = rw (eq-eqb (length table) tableSize (f .sized)) (freshened-fit (replicate tableSize 0) zeros-fit (λ r. true) registers refl)
+  fresh-fit = rw (eq-eqb (length table) tableSize (f .sized)) (freshened-fit (λ r. true) registers refl (replicate tableSize 0) zeros-fit)
 
   pub measure-fit : (position : ℤ) (error : ℕ) → FitTable (measureOut table position error)
   measure-fit position error =

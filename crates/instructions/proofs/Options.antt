@@ -12,8 +12,9 @@ use Rattle.registers.specs.Registers.{Register, tableSize, modelNumber, firmwar
 use Rattle.items.specs.Items.{itemBytes}
 use Rattle.instructions.specs.declared.RegisteredWrite.{RegisteredWrite}
 use Rattle.instructions.specs.Instructions.{Effect, refusing, reboot, factoryReset}
-use Rattle.instructions.specs.Steps.{sized}
-use Rattle.instructions.proofs.Sized.{of-size}
+use Rattle.instructions.specs.declared.Done.{Done}
+use Rattle.instructions.specs.Results.{doneOf, sized}
+use Rattle.instructions.proofs.Sized.{of-size, done}
 use Rattle.resets.specs.Resets.{resetRom, keepsNone, keepsId, keepsIdAndBaud}
 use Rattle.table_rules.specs.Outcomes.{onTable}
 use Rattle.table_rules.proofs.Size.{on-table}
@@ -28,26 +29,30 @@ identity-bytes table sized =
 -- the options of Factory Reset
 module _ (table : List ℕ) (w : RegisteredWrite) (s : length table ≡ tableSize) where
   -- as Reboot goes on, on the table that a reset has left
-  then-reboot : (new left : List ℕ) → length left ≡ length table → left ≡ onTable table new → sized left w (reboot left w) ≡ reboot new w
-  then-reboot new left l e = of-size left w (reboot left w) (l ∙ s) ∙ ap (λ (t : List ℕ). reboot t w) (e ∙ on-table table s new)
+  pub then-reboot : (new left : List ℕ) → length left ≡ length table → left ≡ onTable table new → (r : Done) (t : List ℕ)
+      → r ≡ doneOf (sized left w (reboot left w)) → t ≡ sized left w (reboot left w) .table
+      → (r ≡ doneOf (reboot new w)) × (t ≡ reboot new w .table)
+  then-reboot new left l e r t a b =
+      let p = of-size left w (reboot left w) (l ∙ s) ∙ ap (λ (x : List ℕ). reboot x w) (e ∙ on-table table s new) in
+      (a ∙ ap doneOf p, b ∙ ap (λ (f : Effect). f .table) p)
 
-  module _ (option : ℕ) (left : List ℕ) (l : length left ≡ length table) where
-    pub option-all : option ≡ 0xFF → left ≡ onTable table (resetRom keepsNone table) → sized left w (reboot left w) ≡ factoryReset table w option
+  -- the two promises of `factory_reset`, by the effect that the code shows
+  module _ (option : ℕ) (r : Done) (t : List ℕ) where
+    abbrev Promised : Type 0
+    Promised = (r ≡ doneOf (sized table w (factoryReset table w option))) × (t ≡ sized table w (factoryReset table w option) .table)
+
+    shown : (e : Effect) → e ≡ factoryReset table w option → r ≡ doneOf e → t ≡ e .table → Promised
+    shown e p a b = done table w (factoryReset table w option) r t s (a ∙ ap doneOf p) (b ∙ ap (λ (f : Effect). f .table) p)
+
+    -- an option that is known, by the number of its clause
+    pub option-is : (number : ℕ) (e : Effect) → e ≡ factoryReset table w number → option ≡ number → r ≡ doneOf e → t ≡ e .table → Promised
+    option-is number e is o = shown e (is ∙ ap (factoryReset table w) (sym o))
+
+    pub option-other : (option ≡ 0xFF → ⊥) → (option ≡ 0x01 → ⊥) → (option ≡ 0x02 → ⊥) → r ≡ doneOf (refusing table w 0x04) → t ≡ table
+        → Promised
     unfolding factoryReset
-    option-all o e = rw o (then-reboot _ left l e)
-
-    pub option-id : option ≡ 0x01 → left ≡ onTable table (resetRom keepsId table) → sized left w (reboot left w) ≡ factoryReset table w option
-    unfolding factoryReset
-    option-id o e = rw o (then-reboot _ left l e)
-
-    pub option-baud : option ≡ 0x02 → left ≡ onTable table (resetRom keepsIdAndBaud table) → sized left w (reboot left w) ≡ factoryReset table w option
-    unfolding factoryReset
-    option-baud o e = rw o (then-reboot _ left l e)
-
-  pub option-other : (option : ℕ) → (option ≡ 0xFF → ⊥) → (option ≡ 0x01 → ⊥) → (option ≡ 0x02 → ⊥)
-      → refusing table w 0x04 ≡ factoryReset table w option
-  unfolding factoryReset
-  option-other option a b c = rw (ne-eqb option 0xFF a, ne-eqb option 0x01 b, ne-eqb option 0x02 c)
+    option-other a b c =
+        shown (refusing table w 0x04) (rw (ne-eqb option 0xFF a, ne-eqb option 0x01 b, ne-eqb option 0x02 c))
 
 -- what holds of either effect holds of the one that a test picks
 module _ (P : Effect → Type 0) where

@@ -9,7 +9,7 @@ use lib.ListN.{length}
 use borrow.Author.Tests.{eq-eqb, ne-eqb, eqb-true, eqb-false}
 use Rattle.registers.specs.Registers.{tableSize}
 use Rattle.instructions.specs.Instructions.{Effect, refusing}
-use Rattle.instructions.specs.Steps.{doneWith, doneOf, effectUnless, sized}
+use Rattle.instructions.specs.Results.{doneWith, doneOf, effectUnless, sized}
 use Rattle.instructions.specs.declared.Done.{Done}
 use Rattle.instructions.specs.declared.RegisteredWrite.{RegisteredWrite}
 

@@ -1,3 +1,3 @@
 pub mod Registered
 pub mod Instructions
-pub mod Steps
+pub mod Results

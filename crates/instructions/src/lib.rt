@@ -1,5 +1,17 @@
 // What each instruction does to the control table and the registered write. A table of another size is refused: nothing is done,
-// and 21 stands in the place of the error number.
+// and NOT_A_TABLE stands in the place of the error number.
+use codes::ERROR_ACCESS;
+use codes::ERROR_DATA_LENGTH;
+use codes::ERROR_DATA_LIMIT;
+use codes::ERROR_DATA_RANGE;
+use codes::ERROR_INSTRUCTION;
+use registers::MAX_DATA;
+use registers::REG_FIRMWARE_VERSION;
+use registers::REG_MODEL_NUMBER;
+use registers::REG_REGISTERED_INSTRUCTION;
+use registers::SIZE_FIRMWARE_VERSION;
+use registers::SIZE_MODEL_NUMBER;
+use registers::TABLE_BYTES;
 use table_rules::Outcome;
 ghost use mathlib.Core.Path.{_≡_};
 ghost use mathlib.Core.Bool.{cond};
@@ -7,7 +19,9 @@ ghost use mathlib.Core.List.{[]};
 ghost use Prim.Native.Nat.{_≤_};
 ghost use lib.Dec.{leb};
 ghost use lib.ListN.{length};
+ghost use Rattle.registers.specs.Registers.{tableSize};
 ghost use Rattle.table_rules.specs.Outcomes.{refusalOf};
+ghost use Rattle.resets.specs.Resets.{resetRom, keeping};
 ghost use Rattle.instructions.specs.Registered.{dropped as Registered·dropped, registering as Registered·registering};
 ghost use Rattle.instructions.specs.Instructions.{errorOf, regWrite, factoryReset};
 ghost use Rattle.instructions.specs.Instructions.{ping as Instructions·ping};
@@ -15,21 +29,34 @@ ghost use Rattle.instructions.specs.Instructions.{read as Instructions·
 ghost use Rattle.instructions.specs.Instructions.{write as Instructions·write};
 ghost use Rattle.instructions.specs.Instructions.{action as Instructions·action};
 ghost use Rattle.instructions.specs.Instructions.{reboot as Instructions·reboot};
-ghost use Rattle.instructions.specs.Steps.{doneWith, doneOf, sized};
+ghost use Rattle.instructions.specs.Results.{doneWith, doneOf, sized};
+
+// What stands in the place of an error number where the table has another size.
+pub const NOT_A_TABLE: u8 = 21;
+
+// The options of Factory Reset.
+pub const RESET_ALL: u8 = 0xFF;
+
+pub const RESET_BUT_ID: u8 = 0x01;
+
+pub const RESET_BUT_ID_AND_BAUD: u8 = 0x02;
+
+// The most bytes of a registered write, as its count has them.
+pub const MAX_REGISTERED: u8 = MAX_DATA as u8;
 
 // A write that waits for Action (the paper's held turn): count 0 means none.
 #[repr(C)]
 pub struct RegisteredWrite {
     pub address: u16,
     pub count: u8,
-    pub bytes: [u8; 8],
+    pub bytes: [u8; MAX_DATA],
 }
 
 // What an instruction did, but for the table: the error number of the status (0 for none), its data, the registered write.
 pub struct Done {
     pub error: u8,
     pub count: usize,
-    pub bytes: [u8; 8],
+    pub bytes: [u8; MAX_DATA],
     pub registered: RegisteredWrite,
 }
 
@@ -40,7 +67,7 @@ pub fn dropped() -> RegisteredWrite
     RegisteredWrite {
         address: 0,
         count: 0,
-        bytes: [0u8; 8],
+        bytes: [0u8; MAX_DATA],
     }
 }
 
@@ -62,7 +89,7 @@ pub fn without_data(error: u8, registered: RegisteredWrite) -> Done
     Done {
         error,
         count: 0,
-        bytes: [0u8; 8],
+        bytes: [0u8; MAX_DATA],
         registered,
     }
 }
@@ -73,11 +100,11 @@ fn error_of(outcome: Outcome) -> u8
 {
     match outcome {
         Outcome::Done => 0,
-        Outcome::DataRange => 4,
-        Outcome::DataLength => 5,
-        Outcome::DataLimit => 6,
-        Outcome::NoAccess => 7,
-        Outcome::NotTable => 21,
+        Outcome::DataRange => ERROR_DATA_RANGE,
+        Outcome::DataLength => ERROR_DATA_LENGTH,
+        Outcome::DataLimit => ERROR_DATA_LIMIT,
+        Outcome::NoAccess => ERROR_ACCESS,
+        Outcome::NotTable => NOT_A_TABLE,
     }
 }
 
@@ -116,7 +143,7 @@ pub fn reg_write(table: &mut [u8], registered: RegisteredWrite, address: u16, by
         return without_data(error_of(outcome), registered);
     }
     let kept = registering(&table[..], address, bytes);
-    table[69] = 1;
+    table[REG_REGISTERED_INSTRUCTION] = 1;
     without_data(0, kept)
 }
 
@@ -124,10 +151,10 @@ pub fn reg_write(table: &mut [u8], registered: RegisteredWrite, address: u16, by
 fn byte_count(count: u8) -> usize
     ensures { λ r. ⌜ r ≡ cond (leb count 8) count 8 ⌝ }
 {
-    if count <= 8 {
+    if count <= MAX_REGISTERED {
         return count as usize;
     }
-    8
+    MAX_DATA
 }
 
 // The registered write is dropped, and then judged on the table as it is now.
@@ -135,13 +162,13 @@ pub fn action(table: &mut [u8], registered: RegisteredWrite) -> Done
     ensures { λ r. ⌜ r ≡ doneOf (sized (now (table .entry)) registered (Instructions·action (now (table .entry)) registered)) ⌝ }
     ensures { λ _. ⌜ now (table .exit) ≡ sized (now (table .entry)) registered (Instructions·action (now (table .entry)) registered) .table ⌝ }
 {
-    if table.len() != 136 {
-        return without_data(21, registered);
+    if table.len() != TABLE_BYTES {
+        return without_data(NOT_A_TABLE, registered);
     }
     if registered.count == 0 {
-        return without_data(2, registered);
+        return without_data(ERROR_INSTRUCTION, registered);
     }
-    table[69] = 0;
+    table[REG_REGISTERED_INSTRUCTION] = 0;
     let n = byte_count(registered.count);
     let held = registered.bytes;
     let address = registered.address;
@@ -153,45 +180,62 @@ pub fn reboot(table: &mut [u8], registered: RegisteredWrite) -> Done
     ensures { λ r. ⌜ r ≡ doneOf (sized (now (table .entry)) registered (Instructions·reboot (now (table .entry)) registered)) ⌝ }
     ensures { λ _. ⌜ now (table .exit) ≡ sized (now (table .entry)) registered (Instructions·reboot (now (table .entry)) registered) .table ⌝ }
 {
-    if table.len() != 136 {
-        return without_data(21, registered);
+    if table.len() != TABLE_BYTES {
+        return without_data(NOT_A_TABLE, registered);
     }
     resets::reboot(table);
     without_data(0, dropped())
+}
+
+// ROM is reset, and then as Reboot.
+fn reset_with(
+    table: &mut [u8],
+    registered: RegisteredWrite,
+    keeps_id: bool,
+    keeps_baud: bool,
+) -> Done
+    requires { ⌜ length (now table) ≡ tableSize ⌝ }
+    ensures { λ r. ⌜ r ≡ doneOf (Instructions·reboot (resetRom (keeping «keeps_id» «keeps_baud») (now (table .entry))) registered) ⌝ }
+    ensures { λ _. ⌜ now (table .exit) ≡ Instructions·reboot (resetRom (keeping «keeps_id» «keeps_baud») (now (table .entry))) registered .table ⌝ }
+{
+    resets::reset_rom(table, keeps_id, keeps_baud);
+    reboot(table, registered)
 }
 
 pub fn factory_reset(table: &mut [u8], registered: RegisteredWrite, option: u8) -> Done
     ensures { λ r. ⌜ r ≡ doneOf (sized (now (table .entry)) registered (factoryReset (now (table .entry)) registered option)) ⌝ }
     ensures { λ _. ⌜ now (table .exit) ≡ sized (now (table .entry)) registered (factoryReset (now (table .entry)) registered option) .table ⌝ }
 {
-    if table.len() != 136 {
-        return without_data(21, registered);
+    if table.len() != TABLE_BYTES {
+        return without_data(NOT_A_TABLE, registered);
     }
-    if option == 0xFF {
-        resets::reset_all(table);
-        return reboot(table, registered);
+    match option {
+        RESET_ALL => reset_with(table, registered, false, false),
+        RESET_BUT_ID => reset_with(table, registered, true, false),
+        RESET_BUT_ID_AND_BAUD => reset_with(table, registered, true, true),
+        _ => without_data(ERROR_DATA_RANGE, registered),
     }
-    if option == 1 {
-        resets::reset_but_id(table);
-        return reboot(table, registered);
-    }
-    if option == 2 {
-        resets::reset_but_id_and_baud(table);
-        return reboot(table, registered);
-    }
-    without_data(4, registered)
 }
 
 pub fn ping(table: &[u8], registered: RegisteredWrite) -> Done
     ensures { λ r. ⌜ r ≡ doneOf (sized (now (table .entry)) registered (Instructions·ping (now (table .entry)) registered)) ⌝ }
 {
-    if table.len() != 136 {
-        return without_data(21, registered);
+    if table.len() != TABLE_BYTES {
+        return without_data(NOT_A_TABLE, registered);
     }
-    let bytes = [table[0], table[1], table[6], 0, 0, 0, 0, 0];
+    let bytes = [
+        table[REG_MODEL_NUMBER],
+        table[REG_MODEL_NUMBER + 1],
+        table[REG_FIRMWARE_VERSION],
+        0,
+        0,
+        0,
+        0,
+        0,
+    ];
     Done {
         error: 0,
-        count: 3,
+        count: SIZE_MODEL_NUMBER + SIZE_FIRMWARE_VERSION,
         bytes,
         registered,
     }

@@ -1,9 +1,12 @@
-// The numbers in a control table: four bytes as a signed number, the way back, and the test of a range.
+// Numbers in a control table: four bytes as a signed number, the way back, and the test of a range.
 ghost use mathlib.Core.Path.{_≡_};
 ghost use mathlib.Core.List.{[], _∷_};
 ghost use Rattle.registers.specs.Registers.{readWrite};
 ghost use Rattle.lists.specs.Numbers.{numberAt};
 ghost use Rattle.items.specs.Items.{signed, unsigned, inRange};
+
+// An item of so many bytes is a signed number, any other is not.
+pub const SIGNED_BYTES: usize = 4;
 
 // Four bytes, lowest first, as a signed number in two's complement. [T3]
 pub fn signed_of(a: u8, b: u8, c: u8, d: u8) -> i32
@@ -17,7 +20,7 @@ pub fn signed_of(a: u8, b: u8, c: u8, d: u8) -> i32
     -1 - m
 }
 
-// The word of 32 bits that stands for a signed number. [T3]
+// A signed number as 32 bits in two's complement. [T3]
 pub fn unsigned_of(value: i32) -> u32
     ensures { λ r. ⌜ r ≡ unsigned value ⌝ }
 {
@@ -28,7 +31,7 @@ pub fn unsigned_of(value: i32) -> u32
     value as u32
 }
 
-// The value is in the range, its ends included.
+// Whether the value is in the range, its ends included.
 pub fn within(value: i32, low: i32, high: i32) -> bool
     ensures { λ r. ⌜ r ≡ inRange (readWrite low high) value ⌝ }
 {

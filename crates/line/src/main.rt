@@ -1,6 +1,6 @@
 // Reads standard input, up to 65,536 bytes of it, as one segment and prints what the reader hears: `packet ID INSTRUCTION
 // COUNT`, with the count of unstuffed parameters, or `crc ID`, a line for each event, and last `end BYTES`, the bytes read.
-// Where a read or a write fails, that is said on standard error, and `end BYTES` is not printed.
+// If a read or a write fails, it says so on standard error and does not print `end BYTES`.
 use framer::StepEvent;
 use libc::STDERR_FILENO;
 use libc::STDOUT_FILENO;
@@ -11,7 +11,7 @@ fn wide(x: u8) -> u64 {
     x as u64
 }
 
-// This and the next functions answer whether all of it was written.
+// This and the next functions return whether all of it was written.
 fn print_text(text: &[u8]) -> bool {
     io::write_all(STDOUT_FILENO, text)
 }
@@ -36,7 +36,7 @@ fn print_end(bytes: u64) -> bool {
     print_text(b"end") && print_number(bytes) && print_text(b"\n")
 }
 
-// What became of an answer: there was no event, its line was printed, or its line was not all written.
+// What became of a call's result: there was no event, its line was printed, or its line was not all written.
 enum Printed {
     Nothing,
     Line,
@@ -117,7 +117,7 @@ fn feed_all(held: &mut [u8; 1030], segment: &[u8], found: &mut [u8; 1031]) -> Fe
     }
 }
 
-// Ends the segment: gap calls until nothing is left. Answers whether all lines were written.
+// Ends the segment: gap calls until nothing is left. Returns whether all lines were written.
 fn finish(held: &mut [u8; 1030], from: usize, found: &mut [u8; 1031]) -> bool {
     let mut count = from;
     let mut left: u64 = 18446744073709551615;
@@ -135,7 +135,7 @@ fn finish(held: &mut [u8; 1030], from: usize, found: &mut [u8; 1031]) -> bool {
     false
 }
 
-// Answers whether all of it was written.
+// Returns whether all of it was written.
 fn print_segment(segment: &[u8]) -> bool {
     let mut held = [0u8; 1030];
     let mut found = [0u8; 1031];

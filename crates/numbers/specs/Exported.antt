@@ -6,7 +6,7 @@ use Rattle.lists.specs.Answer.{Answer, count, refused}
 use Rattle.framer.specs.declared.Step.{Step}
 use Rattle.framer.specs.declared.StepEvent.{StepEvent}
 use Rattle.framer.specs.declared.StepEvent.the-variants.{Packet, BadChecksum, Silent, Refused}
-use Rattle.device.specs.Answers.{sent, Answer as Device·Answer, refused as Device·refused}
+use Rattle.device.specs.Answers.{sent, DeviceAnswer, refused as Device·refused}
 use Rattle.instructions.specs.declared.RegisteredWrite.{RegisteredWrite}
 use Rattle.numbers.specs.declared.StepNumbers.{StepNumbers}
 use Rattle.numbers.specs.declared.DeviceNumbers.{DeviceNumbers}
@@ -34,6 +34,6 @@ abbrev pub stepNumbers : Step → StepNumbers
 stepNumbers s = eventNumbers (s .taken) (s .event)
 
 -- the device's answer and the registered write that it leaves [G5]
-abbrev pub deviceNumbers : Device·Answer → RegisteredWrite → DeviceNumbers
+abbrev pub deviceNumbers : DeviceAnswer → RegisteredWrite → DeviceNumbers
 deviceNumbers (sent n slot) w = record { count = exported (count n); slot = slot; registered = w }
 deviceNumbers (Device·refused number) w = record { count = negℤ (pos number); slot = 0; registered = w }

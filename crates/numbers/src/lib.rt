@@ -1,5 +1,5 @@
-// Answers as C gets them: each answer of a crate beneath becomes a number, or a record of numbers. A function has the name of the
-// answer that it turns.
+// Results as C gets them: each result of a crate beneath becomes a number or a record of numbers. A function has the name of what
+// it converts.
 use device::Replied;
 use device::Response;
 use encoder::Encoded;
@@ -9,17 +9,17 @@ use framer::Step;
 use framer::StepEvent;
 use instructions::RegisteredWrite;
 use stuffing::Unstuffed;
-use table_rules::Outcome;
+use table_rules::Change;
 ghost use mathlib.Core.Path.{_≡_};
 ghost use Rattle.stuffing.specs.Answers.{unstuffedAnswer};
 ghost use Rattle.encoder.specs.Encoding.{encodedAnswer};
-ghost use Rattle.table_rules.specs.Outcomes.{refusalOf};
+ghost use Rattle.table_rules.specs.Outcomes.{changeRefusal};
 ghost use Rattle.device.specs.Answers.{repliedAnswer};
 ghost use Rattle.exchange.specs.Exchange.{exchangedAnswer};
 ghost use Rattle.lists.specs.Answer.{count as Answer·count};
 ghost use Rattle.numbers.specs.Exported.{exported, exportedRefusal, stepNumbers, deviceNumbers};
 
-// What a feeding or gap call answers. kind 0: no event, of a gap call: nothing is left; 1: a packet of `count` bytes; 2: a bad
+// What a feeding or gap call returns. kind 0: no event, from a gap call: nothing is left; 1: a packet of `count` bytes; 2: a bad
 // checksum; 25: the reader's count is above 1,030. `id` is that of the packet or of the bad checksum.
 #[repr(C)]
 pub struct StepNumbers {
@@ -29,8 +29,8 @@ pub struct StepNumbers {
     pub id: u8,
 }
 
-// What the device answers: the status's byte count, 0 for silence, or minus the number of a refusal; the reply slot; and the
-// registered write from now on.
+// What a call of the device returns: the status's byte count, 0 for silence, or minus the number of a refusal; the reply slot; and
+// the registered write from now on.
 #[repr(C)]
 pub struct DeviceNumbers {
     pub count: i64,
@@ -69,16 +69,12 @@ pub fn unstuffed(answer: Unstuffed) -> i64
     }
 }
 
-pub fn outcome(answer: Outcome) -> i64
-    ensures { λ r. ⌜ r ≡ exportedRefusal (refusalOf answer) ⌝ }
+pub fn change(answer: Change) -> i64
+    ensures { λ r. ⌜ r ≡ exportedRefusal (changeRefusal answer) ⌝ }
 {
     match answer {
-        Outcome::Done => 0,
-        Outcome::DataRange => -4,
-        Outcome::DataLength => -5,
-        Outcome::DataLimit => -6,
-        Outcome::NoAccess => -7,
-        Outcome::NotTable => -21,
+        Change::Done => 0,
+        Change::NotTable => -21,
     }
 }
 

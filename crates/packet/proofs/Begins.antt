@@ -7,7 +7,6 @@ use lib.ListN.{take}
 use Rattle.reading.specs.Across.{NoneWithout}
 use Rattle.reading.proofs.Across.{none-without}
 use Rattle.packet_front.specs.Front.{header}
-use Rattle.packet.specs.Packet.{WellFormed}
 use Rattle.packet.specs.Verdict.{protocol2}
 
 begins : (w : List ℕ) → take 4 w ≡ header → (t : List ℕ) × (w ≡ 0xFF ∷ t)

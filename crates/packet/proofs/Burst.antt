@@ -2,14 +2,14 @@
 use mathlib.Core.Path.{_≡_, refl, sym, ap, _∙_}
 use mathlib.Core.Bool.{Bool, true, false}
 use mathlib.Core.List.{List, [], _∷_, _++_, append-assoc}
-use Prim.Native.Nat.{ℕ, suc, _+_, _-_, _≤_}
+use Prim.Native.Nat.{ℕ, suc, _+_, _-_}
 use native.Mathlib.Omega.{arith}
 use lib.Dec.{eqb}
 use lib.ListN.{length, take, getD, length-append, List·getD-append}
 use borrow.Author.Tests.{eqb-true}
 use Rattle.lists.proofs.Bools.{both-ways}
 use Rattle.lists.proofs.Parts.{last-two}
-use Rattle.reading.specs.Rules.{isBadChecksum, isWaiting}
+use Rattle.reading.specs.Rules.{isBadChecksum}
 use Rattle.crc.specs.Crc.{crcFrom}
 use Rattle.crc.proofs.Detects.{few-changed}
 use Rattle.packet_front.specs.Front.{word, idOf}
@@ -80,8 +80,8 @@ module _ (a d d′ z : List ℕ) (s : Spoiled a d d′ z) (f : WellFormed (a ++ 
       ruled-alone (a ++ (d′ ++ z)) front-good (simp length-append (omega (arith, s .behind))) same-size
       ∙ rw wrong (ap isBadChecksum same-id)
 
-  told : (x : List ℕ) → verdict ((a ++ (d′ ++ z)) ++ x) ≡ isBadChecksum (idOf (a ++ (d ++ z)))
-  told x = let b = bad in laws .stays (a ++ (d′ ++ z)) x (λ e. let n : _≡_ {A = ℕ} 0 1 = cc in absurd (omega arith)) ∙ b
+  reported : (x : List ℕ) → verdict ((a ++ (d′ ++ z)) ++ x) ≡ isBadChecksum (idOf (a ++ (d ++ z)))
+  reported x = let b = bad in laws .stays (a ++ (d′ ++ z)) x (λ e. let n : _≡_ {A = ℕ} 0 1 = cc in absurd (omega arith)) ∙ b
 
 pub burst-detected : BurstDetected
-burst-detected = record { refused = refused; told = λ a d d′ z x s f. told a d d′ z s f x }
+burst-detected = record { refused = refused; reported = λ a d d′ z x s f. reported a d d′ z s f x }

@@ -10,7 +10,7 @@ use lib.ListN.{length, take, drop, getD, length-append, take-append-drop, List·
 use lib.Seq.{take-all, take-append-le, take-length, length-take-le}
 use borrow.Author.Tests.{leb-true, leb-false, ltb-true, ltb-false, eq-eqb}
 use Rattle.lists.proofs.Bools.{and-left, and-right, contrary, both-ways}
-use Rattle.reading.specs.Rules.{Laws, Undecided, isPacket, isBadChecksum, isWaiting, Verdict as Ruling}
+use Rattle.reading.specs.Rules.{Laws, Undecided, isPacket, isBadChecksum, isWaiting, Verdict}
 use Rattle.reading.specs.Progress.{Settles}
 use Rattle.stuffing.specs.Stuffing.{wellStuffed}
 use Rattle.packet_front.specs.Front.{goodId, idOf}
@@ -68,7 +68,7 @@ unfolding verdict
 waits-by s e = waiting-only _ _ _ _ _ _ e
 
 -- the verdict where all bytes are there, by the packet's own bytes
-abbrev ruledBy : List ℕ → ℕ → ℕ → Ruling
+abbrev ruledBy : List ℕ → ℕ → ℕ → Verdict
 ruledBy w n id = ruling true true (checksumRight w) (wellStuffed (bodyOf w)) n id
 
 -- and where there are no others

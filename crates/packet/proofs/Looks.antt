@@ -10,7 +10,7 @@ use Rattle.lists.proofs.Bools.{and-left, and-right}
 use Rattle.packet_front.specs.Front.{header, lengthOf}
 use Rattle.packet_front.specs.Begun.{frontAgrees, lengthAgrees, sizeOf, complete, lacks, begunAs, begunBy}
 use Rattle.packet.specs.Verdict.{verdict, answerFor, wholeAnswer}
-use Rattle.packet.specs.declared.Verdict.the-variants.{Waiting, Nothing}
+use Rattle.packet.specs.declared.Judgement.the-variants.{Waiting, Nothing}
 use Rattle.packet_front.specs.declared.Begun.the-variants.{Whole}
 use Rattle.packet_front.specs.declared.Begun.the-variants.{Nothing as Nothing·begun, Waiting as Waiting·begun}
 use Rattle.packet_front.proofs.Tests.{has-field, has-all}

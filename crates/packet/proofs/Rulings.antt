@@ -6,7 +6,7 @@ use Prim.Native.Nat.{ℕ, _≤_}
 use lib.ListN.{length, take}
 use lib.Seq.{length-take-le, getD-take}
 use native.Mathlib.Omega.{arith}
-use Rattle.reading.specs.Rules.{isWaiting, isNothing, Verdict as Ruling}
+use Rattle.reading.specs.Rules.{isWaiting, isNothing, Verdict}
 use Rattle.stuffing.specs.Stuffing.{wellStuffed}
 use Rattle.packet_front.proofs.Tests.{both, length-good, completes}
 use Rattle.packet_front.specs.Front.{lengthOf, idOf}
@@ -52,4 +52,4 @@ module _ (s : List ℕ) where
       ap₂ (λ (n i : ℕ). answerFor (ruling true true sumGood stuffingGood n i) 0) (length-take-le (sizeOf s) s c)
       (getD-take (sizeOf s) s 4 0 (omega arith))
       ∙ same-answer sumGood stuffingGood (sizeOf s) (idOf s) (lacks s)
-      ∙ ap (λ (v : Ruling). answerFor v (lacks s)) (sym (whole (both s f (length-good s h k l)) (completes s h c)))
+      ∙ ap (λ (v : Verdict). answerFor v (lacks s)) (sym (whole (both s f (length-good s h k l)) (completes s h c)))

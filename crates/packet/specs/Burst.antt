@@ -23,5 +23,5 @@ pub record BurstDetected : Type 0 where
   -- what stands there is not well-formed
   pub refused : (a d d′ z : List ℕ) → Spoiled a d d′ z → WellFormed (a ++ (d ++ z)) → ¬ WellFormed (a ++ (d′ ++ z))
   -- and it does not pass as nothing: it is a bad checksum with the packet's ID, whatever follows it
-  pub told : (a d d′ z x : List ℕ) → Spoiled a d d′ z → WellFormed (a ++ (d ++ z))
+  pub reported : (a d d′ z x : List ℕ) → Spoiled a d d′ z → WellFormed (a ++ (d ++ z))
       → verdict ((a ++ (d′ ++ z)) ++ x) ≡ isBadChecksum (idOf (a ++ (d ++ z)))

@@ -1,4 +1,4 @@
-// One packet of Protocol 2.0, as it is read: the verdict on the bytes from an offset on, and the body as a part of the packet.
+// Reading one packet of Protocol 2.0: the verdict on the bytes from an offset on, and the body as a part of the packet.
 use packet_front::Begun;
 use stuffing::Checked;
 use stuffing::Unstuffed;
@@ -14,7 +14,7 @@ ghost use Rattle.packet.specs.Packet.{bodyOf};
 ghost use Rattle.packet.specs.Verdict.{verdict, answerFor, wholeAnswer};
 
 // What the bytes from an offset on are, while the segment is open.
-pub enum Verdict {
+pub enum Judgement {
     // a well-formed packet of so many bytes
     Packet(usize),
     // a packet but for its checksum, with its ID
@@ -24,7 +24,7 @@ pub enum Verdict {
     Nothing,
 }
 
-// The body, as a part of the packet: between the length field and the checksum; empty where there is no room for both. [S2 S7]
+// The body as a part of the packet, between length field and checksum; empty if there is no room for both. [S2 S7]
 pub fn body(packet: &[u8]) -> &[u8]
     ensures { λ r. ⌜ now r ≡ bodyOf (now (packet .entry)) ⌝ }
 {
@@ -35,7 +35,7 @@ pub fn body(packet: &[u8]) -> &[u8]
     }
 }
 
-// The packet's body without its stuffing at the start of out; refused as removal is. [N3 N4 N11 N12 N14 S7]
+// Writes the packet's body without its stuffing to the start of out; refused as `unstuff_into` is. [N3 N4 N11 N12 N14 S7]
 pub fn unstuff(packet: &[u8], out: &mut [u8]) -> Unstuffed
     ensures { λ r. ⌜ unstuffedAnswer r ≡ removalAnswer (bodyOf (now (packet .entry))) (now (out .entry)) ⌝ }
     ensures { λ _. ⌜ now (out .exit) ≡ removalOut (bodyOf (now (packet .entry))) (now (out .entry)) ⌝ }
@@ -53,8 +53,8 @@ pub fn checksum(rest: &[u8]) -> u16
     crc16::update(HEADER_SUM, rest)
 }
 
-// All bytes of a packet are there, and header, ID and length are right: the checksum first, then the stuffing.
-fn judge_whole(packet: &[u8]) -> Verdict
+// The verdict if all bytes of a packet are there and header, ID and length are right: the checksum first, then the stuffing.
+fn judge_whole(packet: &[u8]) -> Judgement
     requires { ⌜ (9 ≤ length (now packet)) × (take 4 (now packet) ≡ header) ⌝ }
     ensures { λ r. ⌜ r ≡ wholeAnswer (now (packet .entry)) ⌝ }
 {
@@ -62,29 +62,29 @@ fn judge_whole(packet: &[u8]) -> Verdict
     let end = n - 2;
     let crc = checksum(&packet[4..end]);
     if (crc as usize) != packet_front::word(packet[end], packet[end + 1]) {
-        return Verdict::BadChecksum(packet[4]);
+        return Judgement::BadChecksum(packet[4]);
     }
     let Checked::Good(_) = stuffing::check(body(packet)) else {
-        return Verdict::Nothing;
+        return Judgement::Nothing;
     };
-    Verdict::Packet(n)
+    Judgement::Packet(n)
 }
 
 // The verdict on the bytes from the slice's start on.
-fn judge_start(s: &[u8]) -> Verdict
+fn judge_start(s: &[u8]) -> Judgement
     ensures { λ r. ⌜ r ≡ answerFor (verdict (now (s .entry))) (lacks (now (s .entry))) ⌝ }
 {
     match packet_front::look(s) {
-        Begun::Nothing => Verdict::Nothing,
-        Begun::Waiting(lacks) => Verdict::Waiting(lacks),
+        Begun::Nothing => Judgement::Nothing,
+        Begun::Waiting(lacks) => Judgement::Waiting(lacks),
         Begun::Whole(size) => judge_whole(&s[..size]),
     }
 }
 
 // The verdict on the bytes of a segment from an offset on, while the segment is open; past its end there are none. The
-// checksum is computed once at most, and only where all bytes of the packet are there.
+// checksum is computed at most once, and only if all bytes of the packet are there.
 // [C4 M1 M2 P1-P5 P7-P10 S2 S4 S5 V3-V6 V8 V9 V11]
-pub fn judge(segment: &[u8], offset: usize) -> Verdict
+pub fn judge(segment: &[u8], offset: usize) -> Judgement
     ensures { λ r. ⌜ r ≡ answerFor (verdict (drop offset (now (segment .entry)))) (lacks (drop offset (now (segment .entry)))) ⌝ }
 {
     if segment.len() <= offset {

@@ -6,8 +6,13 @@ ghost use Rattle.packet_front.specs.Front.{goodId};
 ghost use Rattle.packet_front.specs.Front.{word as Front·word};
 ghost use Rattle.packet_front.specs.Begun.{soFar, frontAgrees, begunBy, settledBy};
 
-// Bytes that begin no packet, by header, ID and length field; that begin one and surely lack so many bytes; that have all its
-// bytes, so many.
+// The largest ID of a device, and the one that addresses all.
+pub const MAX_ID: u8 = 252;
+
+pub const BROADCAST_ID: u8 = 254;
+
+// By header, ID and length field, the bytes begin no packet; they begin one and surely lack so many bytes; or all its bytes are
+// there, so many.
 pub enum Begun {
     Nothing,
     Waiting(usize),
@@ -24,13 +29,10 @@ pub fn word(low: u8, high: u8) -> usize
 pub fn good_id(id: u8) -> bool
     ensures { λ r. ⌜ r ≡ goodId id ⌝ }
 {
-    if id <= 252 {
-        return true;
-    }
-    id == 254
+    id <= MAX_ID || id == BROADCAST_ID
 }
 
-// Byte i is `value`, if it is there.
+// Whether byte i is `value`, or is not there yet.
 fn byte_agrees(s: &[u8], i: usize, value: u8) -> bool
     ensures { λ r. ⌜ r ≡ soFar (now (s .entry)) i (eqb value) ⌝ }
 {
@@ -49,7 +51,7 @@ fn id_agrees(s: &[u8]) -> bool
     good_id(s[4])
 }
 
-// The bytes that are there agree with header and ID.
+// Whether the bytes that are there agree with header and ID.
 fn front_agrees(s: &[u8]) -> bool
     ensures { λ r. ⌜ r ≡ frontAgrees (now (s .entry)) ⌝ }
 {
@@ -93,8 +95,8 @@ pub fn look(s: &[u8]) -> Begun
     Begun::Whole(size)
 }
 
-// How many bytes checksum and stuffing are judged by at an offset: all of a packet by header, ID and length that is there; 0
-// where none begins, which as many bytes as the shortest packet has show, or where some are missing. [V12]
+// By how many bytes checksum and stuffing are judged at an offset: all bytes of the packet that header, ID and length announce, if
+// they are there; 0 if some are missing or no packet begins. [V12]
 pub fn settled(segment: &[u8], offset: usize) -> usize
     ensures { λ r. ⌜ r ≡ settledBy (drop offset (now (segment .entry))) ⌝ }
 {

@@ -1,4 +1,5 @@
 // The parameters of an instruction: words, and the own entry in a list.
+use packet_front::MAX_ID;
 ghost use mathlib.Core.Path.{_≡_};
 ghost use mathlib.Core.Bool.{cond};
 ghost use Prim.Native.Nat.{_+_};
@@ -6,20 +7,20 @@ ghost use lib.Dec.{eqb};
 ghost use Rattle.parameters.specs.Entries.{search as Entries·search};
 ghost use Rattle.parameters.specs.Parameters.{wordAt, entryOf, syncSearch};
 
-// The own entry of a list: its place among the entries and its offset in the parameters.
+// The own entry of a list: its index among the entries, and its offset in the parameters.
 pub enum Found {
     At(usize, usize),
     Nothing,
 }
 
-// What the entries of a list are: an ID and so many bytes; ID, address and length; the same and as many bytes as the length says.
+// What an entry is: an ID and so many bytes; ID, address and length; or the same and as many bytes as the length says.
 pub enum EntryKind {
     Plain(u16),
     BulkRead,
     BulkWrite,
 }
 
-// Two bytes of the parameters, low byte first. One that is missing counts as 0.
+// Two bytes of the parameters, low byte first. A missing byte counts as 0.
 pub fn word_at(params: &[u8], i: usize) -> u16
     ensures { λ r. ⌜ r ≡ wordAt (now (params .entry)) i ⌝ }
 {
@@ -33,7 +34,7 @@ pub fn word_at(params: &[u8], i: usize) -> u16
     low + (params[i + 1] as u16) * 256
 }
 
-// The size, or 0 where the entry's length is 0.
+// The size, or 0 if the entry's length is 0.
 fn unless_empty(length: u16, size: usize) -> usize
     ensures { λ r. ⌜ r ≡ cond (eqb length 0) 0 size ⌝ }
 {
@@ -43,7 +44,7 @@ fn unless_empty(length: u16, size: usize) -> usize
     size
 }
 
-// How many bytes the entry has that begins here, or 0 where it is not allowed.
+// How many bytes the entry has that begins here; 0 if it is not allowed.
 fn entry_size(kind: EntryKind, rest: &[u8]) -> usize
     ensures { λ r. ⌜ r ≡ cond (entryOf kind .allowed (now (rest .entry))) (entryOf kind .size (now (rest .entry))) 0 ⌝ }
 {
@@ -57,8 +58,8 @@ fn entry_size(kind: EntryKind, rest: &[u8]) -> usize
     }
 }
 
-// The own entry of the list that begins at `from`, which may lie past the end. The list is judged to its end: an entry that is not
-// allowed or cut short, an ID above 252 or one that stood before make it no list at all. [D22-D24]
+// Finds the own entry of the list that begins at `from`, which may lie past the end. The list is judged to its end: with an entry
+// that is not allowed or cut short, an ID above 252 or a repeated one, nothing is found. [D22-D24]
 pub fn search(params: &[u8], from: usize, kind: EntryKind, own: u8) -> Found
     ensures { λ r. ⌜ r ≡ Entries·search (entryOf kind) own (now (params .entry)) from ⌝ }
 {
@@ -75,7 +76,7 @@ pub fn search(params: &[u8], from: usize, kind: EntryKind, own: u8) -> Found
             return Found::Nothing;
         }
         let id = params[at];
-        if 252 < id {
+        if MAX_ID < id {
             return Found::Nothing;
         }
         let k = id as usize;
@@ -92,7 +93,7 @@ pub fn search(params: &[u8], from: usize, kind: EntryKind, own: u8) -> Found
     found
 }
 
-// The own entry of a Sync list, whose entries are an ID and n bytes; without a length there is no list. [D22-D24]
+// Finds the own entry of a Sync list, whose entries are an ID and n bytes; nothing, if the list's length is 0. [D22-D24]
 pub fn sync_search(params: &[u8], n: u16, own: u8) -> Found
     ensures { λ r. ⌜ r ≡ syncSearch (1 + n) own (now (params .entry)) ⌝ }
 {

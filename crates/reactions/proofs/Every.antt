@@ -33,14 +33,14 @@ module _ (P : Bool → Effect → Type 0) where
       by-test true e = subst (λ (n : ℕ). P (isAction Packet (n ∷ params)) (x .effect)) (sym (eqb-true i k e)) f
       by-test false e = g e
 
-  module _ (table : List ℕ) (w : RegisteredWrite) (refusals : (error : ℕ) → error ≤ 7 → P false (refusing table w error)) (idle : P false (unchanged table w))
+  module _ (table : List ℕ) (w : RegisteredWrite) (refusals : (error : ℕ) → error ≤ 7 → P false (refusing table w error)) (nothing-done : P false (unchanged table w))
       (pings : P false (ping table w)) (reads : (address n : ℕ) → P false (read table w address n))
       (writes : (address : ℕ) (bytes : List ℕ) → P false (write table w address bytes))
       (reg-writes : (address : ℕ) (bytes : List ℕ) → P false (regWrite table w address bytes)) (actions : P true (action table w))
       (reboots : P false (reboot table w)) (resets : (option : ℕ) → P false (factoryReset table w option)) where
     by-entry : (found : Found) (act : ℕ → ℕ → Reaction) → ((slot at : ℕ) → P false (act slot at .effect)) → P false (byEntry found table w act .effect)
     by-entry (At slot at) act f = f slot at
-    by-entry Nothing act f = idle
+    by-entry Nothing act f = nothing-done
 
     heard-sync-read : (all : Bool) (params : List ℕ) → P false (heardSyncRead all table w params .effect)
     heard-sync-read true params = by-entry (syncSearch 1 (ownId table) params) _ (λ slot at. reads (wordAt params 0) (wordAt params 2))
@@ -59,9 +59,9 @@ module _ (P : Bool → Effect → Type 0) where
         by-number i 0x04 params _ _ (pick (P false) (leb 2 (length params)) _ _ (reg-writes _ _) (refusals 0x05 (omega arith))) (λ _.
         by-number i 0x05 params _ _ (pick-count (eqb (length params) 0) _ _ actions (refusals 0x05 (omega arith))) (λ other.
         by-number i 0x06 params _ _
-        (pick (P false) (eqb (length params) 1) _ _ (pick (P false) (all && eqb (getD params 0 0) 0xFF) _ _ idle (resets (getD params 0 0))) (refusals 0x05 (omega arith))) (λ _.
+        (pick (P false) (eqb (length params) 1) _ _ (pick (P false) (all && eqb (getD params 0 0) 0xFF) _ _ nothing-done (resets (getD params 0 0))) (refusals 0x05 (omega arith))) (λ _.
         by-number i 0x08 params _ _ (pick (P false) (eqb (length params) 0) _ _ reboots (refusals 0x05 (omega arith))) (λ _.
-        by-number i 0x55 params _ _ idle (λ _.
+        by-number i 0x55 params _ _ nothing-done (λ _.
         by-number i 0x82 params (heardSyncRead all table w params) _ (heard-sync-read all params) (λ _.
         by-number i 0x83 params (heardSyncWrite all table w params) (heardUndefined all table w) (heard-sync-write all params) (λ _.
         rw other (refusals 0x02 (omega arith))))))))))))

@@ -11,34 +11,34 @@ use borrow.Author.Tests.{eq-eqb, ne-eqb, le-leb, lt-leb}
 use Rattle.registers.specs.Registers.{tableSize}
 use Rattle.instructions.specs.Instructions.{Effect, refusing, ping, read}
 use Rattle.parameters.specs.Parameters.{wordAt, syncSearch}
-use Rattle.reactions.specs.Reactions.{Voice, silent, speaks, ownOnly, reaction, Reaction, reacting, counted, ownId, heardPing, heardRead, heardUndefined, byEntry, syncReadBy, heardSyncRead, heardInstruction}
+use Rattle.reactions.specs.Reactions.{ReplyRule, silent, speaks, ownOnly, reaction, Reaction, reacting, counted, ownId, heardPing, heardRead, heardUndefined, byEntry, syncReadBy, heardSyncRead, heardInstruction}
 use Rattle.reactions.specs.declared.Heard.{Heard}
 use Rattle.reactions.specs.declared.Heard.the-variants.{Packet, BadChecksum}
 use Rattle.parameters.specs.declared.Found.{Found}
 use Rattle.parameters.specs.declared.Found.the-variants.{At, Nothing}
-use Rattle.instructions.specs.Steps.{doneWith, doneOf, sized}
+use Rattle.instructions.specs.Results.{doneWith, doneOf, sized}
 use Rattle.instructions.proofs.Sized.{of-size}
-use Rattle.reactions.specs.Steps.{reactedBy, reactedOf, sizedReaction}
+use Rattle.reactions.specs.Results.{reactedBy, reactedOf, sizedReaction}
 use Rattle.instructions.specs.declared.Done.{Done}
 use Rattle.reactions.specs.declared.Reacted.{Reacted}
 use Rattle.instructions.specs.declared.RegisteredWrite.{RegisteredWrite}
 
-module _ (voice : Voice) (table : List ℕ) (w : RegisteredWrite) (e : Effect) (right : Bool) where
-  pub wrong-count : right ≡ false → (r : Reacted) → r ≡ reactedBy voice (doneWith 0x05 [] w)
-      → r ≡ reactedOf (reacting (counted right table w e) voice)
-  wrong-count h r a = a ∙ ap (λ (c : Bool). reactedOf (reacting (counted c table w e) voice)) (sym h)
+module _ (replying : ReplyRule) (table : List ℕ) (w : RegisteredWrite) (e : Effect) (right : Bool) where
+  pub wrong-count : right ≡ false → (r : Reacted) → r ≡ reactedBy replying (doneWith 0x05 [] w)
+      → r ≡ reactedOf (reacting (counted right table w e) replying)
+  wrong-count h r a = a ∙ ap (λ (c : Bool). reactedOf (reacting (counted c table w e) replying)) (sym h)
 
-  pub right-count : right ≡ true → (r : Reacted) (d : Done) → r ≡ reactedBy voice d → d ≡ doneOf e
-      → r ≡ reactedOf (reacting (counted right table w e) voice)
-  right-count h r d a b = a ∙ ap (reactedBy voice) b ∙ ap (λ (c : Bool). reactedOf (reacting (counted c table w e) voice)) (sym h)
+  pub right-count : right ≡ true → (r : Reacted) (d : Done) → r ≡ reactedBy replying d → d ≡ doneOf e
+      → r ≡ reactedOf (reacting (counted right table w e) replying)
+  right-count h r d a b = a ∙ ap (reactedBy replying) b ∙ ap (λ (c : Bool). reactedOf (reacting (counted c table w e) replying)) (sym h)
 
   -- and the table that is left
-  pub wrong : right ≡ false → (r : Reacted) → r ≡ reactedBy voice (doneWith 0x05 [] w)
-      → (r ≡ reactedOf (reacting (counted right table w e) voice)) × (table ≡ counted right table w e .table)
+  pub wrong : right ≡ false → (r : Reacted) → r ≡ reactedBy replying (doneWith 0x05 [] w)
+      → (r ≡ reactedOf (reacting (counted right table w e) replying)) × (table ≡ counted right table w e .table)
   wrong h r a = (wrong-count h r a, ap (λ (c : Bool). counted c table w e .table) (sym h))
 
-  pub fitting : right ≡ true → (r : Reacted) (d : Done) (t : List ℕ) → r ≡ reactedBy voice d → d ≡ doneOf e → t ≡ e .table
-      → (r ≡ reactedOf (reacting (counted right table w e) voice)) × (t ≡ counted right table w e .table)
+  pub fitting : right ≡ true → (r : Reacted) (d : Done) (t : List ℕ) → r ≡ reactedBy replying d → d ≡ doneOf e → t ≡ e .table
+      → (r ≡ reactedOf (reacting (counted right table w e) replying)) × (t ≡ counted right table w e .table)
   fitting h r d t a b f = (right-count h r d a b, f ∙ ap (λ (c : Bool). counted c table w e .table) (sym h))
 
 -- ---- Action and Reboot have no parameters, Write and Reg Write an address and data
@@ -160,8 +160,8 @@ module _ (table : List ℕ) (w : RegisteredWrite) (q : Reaction) where
 -- ---- the reply
 
 pub reacted-done : (q : Reaction) → reactedOf q .done ≡ doneOf (q .effect)
-reacted-done q = by-voice (q .voice)
+reacted-done q = by-replying (q .replying)
   where
-    by-voice : (voice : Voice) → reactedBy voice (doneOf (q .effect)) .done ≡ doneOf (q .effect)
-    by-voice silent = refl
-    by-voice (speaks least slot) = refl
+    by-replying : (replying : ReplyRule) → reactedBy replying (doneOf (q .effect)) .done ≡ doneOf (q .effect)
+    by-replying silent = refl
+    by-replying (speaks least slot) = refl

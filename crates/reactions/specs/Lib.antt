@@ -1,3 +1,3 @@
 pub mod Reactions
-pub mod Steps
+pub mod Results
 pub mod Refused

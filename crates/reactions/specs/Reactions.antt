@@ -18,21 +18,21 @@ abbrev pub ownId : List ℕ → ℕ
 ownId table = getD table (deviceId .address) 0
 
 -- How an instruction is answered: not at all, or from a status return level on and in a reply slot (the paper's turn number).
-pub data Voice : Type 0 where
-  silent : Voice
-  speaks : ℕ → ℕ → Voice
+pub data ReplyRule : Type 0 where
+  silent : ReplyRule
+  speaks : ℕ → ℕ → ReplyRule
 
 -- to the own ID only; `all` says that it was sent to all devices [D10 D31 D34]
-abbrev pub ownOnly : Bool → ℕ → Voice
+abbrev pub ownOnly : Bool → ℕ → ReplyRule
 ownOnly all level = cond all silent (speaks level 0)
 
 -- what is done, and how that is answered: a refusal at the level of its instruction [D33]
 pub record Reaction : Type 0 where
   pub effect : Effect
-  pub voice : Voice
+  pub replying : ReplyRule
 
-abbrev pub reacting : Effect → Voice → Reaction
-reacting effect voice = record { effect = effect; voice = voice }
+abbrev pub reacting : Effect → ReplyRule → Reaction
+reacting effect replying = record { effect = effect; replying = replying }
 
 abbrev pub unchanged : List ℕ → RegisteredWrite → Effect
 unchanged table w = leaving table w 0 []

@@ -1,8 +1,25 @@
 // What the device makes of what it hears: which instruction is carried out, and how that is answered. A table of another size is
-// refused: nothing is done, 21 stands in the place of the error number, and nothing is answered.
+// refused: nothing is done, NOT_A_TABLE stands in the place of the error number, and nothing is answered.
+use codes::ERROR_CHECKSUM;
+use codes::ERROR_DATA_LENGTH;
+use codes::ERROR_INSTRUCTION;
+use codes::INST_ACTION;
+use codes::INST_FACTORY_RESET;
+use codes::INST_PING;
+use codes::INST_READ;
+use codes::INST_REBOOT;
+use codes::INST_REG_WRITE;
+use codes::INST_STATUS;
+use codes::INST_SYNC_READ;
+use codes::INST_SYNC_WRITE;
+use codes::INST_WRITE;
 use instructions::Done;
+use instructions::NOT_A_TABLE;
+use instructions::RESET_ALL;
 use instructions::RegisteredWrite;
 use parameters::Found;
+use registers::REG_ID;
+use registers::TABLE_BYTES;
 ghost use mathlib.Core.Path.{_≡_};
 ghost use mathlib.Core.Bool.{_&&_};
 ghost use mathlib.Core.List.{[]};
@@ -11,8 +28,15 @@ ghost use lib.ListN.{length};
 ghost use Rattle.registers.specs.Registers.{tableSize};
 ghost use Rattle.reactions.specs.Reactions.{silent, ownOnly, heardPing, heardRead, heardWrite, heardRegWrite, heardAction, heardReboot, heardFactoryReset, syncReadBy, syncWriteBy, heardSyncRead, heardSyncWrite, heardInstruction};
 ghost use Rattle.reactions.specs.Reactions.{reaction as Reactions·reaction};
-ghost use Rattle.instructions.specs.Steps.{doneWith};
-ghost use Rattle.reactions.specs.Steps.{reactedBy, reactedOf, sizedReaction};
+ghost use Rattle.instructions.specs.Results.{doneWith};
+ghost use Rattle.reactions.specs.Results.{reactedBy, reactedOf, sizedReaction};
+
+// The status return level from which on it is answered: Ping always, a read, everything else.
+const LEVEL_PING: u8 = 0;
+
+const LEVEL_READ: u8 = 1;
+
+const LEVEL_ALL: u8 = 2;
 
 // What the device hears: a packet with its unstuffed body, or one whose checksum is wrong, which has no body.
 pub enum Heard {
@@ -76,18 +100,18 @@ fn heard_ping(table: &[u8], registered: RegisteredWrite, all: bool, params: &[u8
     ensures { λ r. ⌜ r ≡ reactedOf (heardPing all (now (table .entry)) registered (now (params .entry))) ⌝ }
 {
     if params.len() != 0 {
-        return nothing_done(registered, 5, all, 0);
+        return nothing_done(registered, ERROR_DATA_LENGTH, all, LEVEL_PING);
     }
     let done = instructions::ping(table, registered);
     if all {
         return Reacted {
             done,
             speaks: true,
-            level: 0,
-            slot: table[7] as usize,
+            level: LEVEL_PING,
+            slot: table[REG_ID] as usize,
         };
     }
-    own_only(done, all, 0)
+    own_only(done, all, LEVEL_PING)
 }
 
 fn heard_read(table: &[u8], registered: RegisteredWrite, all: bool, params: &[u8]) -> Reacted
@@ -95,7 +119,7 @@ fn heard_read(table: &[u8], registered: RegisteredWrite, all: bool, params: &[u8
     ensures { λ r. ⌜ r ≡ reactedOf (heardRead all (now (table .entry)) registered (now (params .entry))) ⌝ }
 {
     if params.len() != 4 {
-        return nothing_done(registered, 5, all, 1);
+        return nothing_done(registered, ERROR_DATA_LENGTH, all, LEVEL_READ);
     }
     let done = instructions::read(
         table,
@@ -103,7 +127,7 @@ fn heard_read(table: &[u8], registered: RegisteredWrite, all: bool, params: &[u8
         parameters::word_at(params, 0),
         parameters::word_at(params, 2),
     );
-    own_only(done, all, 1)
+    own_only(done, all, LEVEL_READ)
 }
 
 fn heard_write(table: &mut [u8], registered: RegisteredWrite, all: bool, params: &[u8]) -> Reacted
@@ -112,7 +136,7 @@ fn heard_write(table: &mut [u8], registered: RegisteredWrite, all: bool, params:
     ensures { λ _. ⌜ now (table .exit) ≡ heardWrite all (now (table .entry)) registered (now (params .entry)) .effect .table ⌝ }
 {
     if params.len() < 2 {
-        return nothing_done(registered, 5, all, 2);
+        return nothing_done(registered, ERROR_DATA_LENGTH, all, LEVEL_ALL);
     }
     let done = instructions::write(
         table,
@@ -120,7 +144,7 @@ fn heard_write(table: &mut [u8], registered: RegisteredWrite, all: bool, params:
         parameters::word_at(params, 0),
         &params[2..],
     );
-    own_only(done, all, 2)
+    own_only(done, all, LEVEL_ALL)
 }
 
 fn heard_reg_write(
@@ -134,7 +158,7 @@ fn heard_reg_write(
     ensures { λ _. ⌜ now (table .exit) ≡ heardRegWrite all (now (table .entry)) registered (now (params .entry)) .effect .table ⌝ }
 {
     if params.len() < 2 {
-        return nothing_done(registered, 5, all, 2);
+        return nothing_done(registered, ERROR_DATA_LENGTH, all, LEVEL_ALL);
     }
     let done = instructions::reg_write(
         table,
@@ -142,7 +166,7 @@ fn heard_reg_write(
         parameters::word_at(params, 0),
         &params[2..],
     );
-    own_only(done, all, 2)
+    own_only(done, all, LEVEL_ALL)
 }
 
 fn heard_action(table: &mut [u8], registered: RegisteredWrite, all: bool, params: &[u8]) -> Reacted
@@ -151,10 +175,10 @@ fn heard_action(table: &mut [u8], registered: RegisteredWrite, all: bool, params
     ensures { λ _. ⌜ now (table .exit) ≡ heardAction all (now (table .entry)) registered (now (params .entry)) .effect .table ⌝ }
 {
     if params.len() != 0 {
-        return nothing_done(registered, 5, all, 2);
+        return nothing_done(registered, ERROR_DATA_LENGTH, all, LEVEL_ALL);
     }
     let done = instructions::action(table, registered);
-    own_only(done, all, 2)
+    own_only(done, all, LEVEL_ALL)
 }
 
 fn heard_reboot(table: &mut [u8], registered: RegisteredWrite, all: bool, params: &[u8]) -> Reacted
@@ -163,20 +187,17 @@ fn heard_reboot(table: &mut [u8], registered: RegisteredWrite, all: bool, params
     ensures { λ _. ⌜ now (table .exit) ≡ heardReboot all (now (table .entry)) registered (now (params .entry)) .effect .table ⌝ }
 {
     if params.len() != 0 {
-        return nothing_done(registered, 5, all, 2);
+        return nothing_done(registered, ERROR_DATA_LENGTH, all, LEVEL_ALL);
     }
     let done = instructions::reboot(table, registered);
-    own_only(done, all, 2)
+    own_only(done, all, LEVEL_ALL)
 }
 
 // FF to all devices would give them all the same ID.
 fn resets_every_id(all: bool, option: u8) -> bool
     ensures { λ r. ⌜ r ≡ (all && eqb option 0xFF) ⌝ }
 {
-    if !all {
-        return false;
-    }
-    option == 0xFF
+    all && option == RESET_ALL
 }
 
 fn heard_factory_reset(
@@ -190,14 +211,14 @@ fn heard_factory_reset(
     ensures { λ _. ⌜ now (table .exit) ≡ heardFactoryReset all (now (table .entry)) registered (now (params .entry)) .effect .table ⌝ }
 {
     if params.len() != 1 {
-        return nothing_done(registered, 5, all, 2);
+        return nothing_done(registered, ERROR_DATA_LENGTH, all, LEVEL_ALL);
     }
     let option = params[0];
     if resets_every_id(all, option) {
-        return nothing_done(registered, 0, all, 2);
+        return nothing_done(registered, 0, all, LEVEL_ALL);
     }
     let done = instructions::factory_reset(table, registered, option);
-    own_only(done, all, 2)
+    own_only(done, all, LEVEL_ALL)
 }
 
 // A read by the own entry of a list, answered in its slot.
@@ -215,7 +236,7 @@ fn sync_read_by(
     Reacted {
         done,
         speaks: true,
-        level: 1,
+        level: LEVEL_READ,
         slot,
     }
 }
@@ -239,9 +260,9 @@ fn heard_sync_read(table: &[u8], registered: RegisteredWrite, all: bool, params:
     ensures { λ r. ⌜ r ≡ reactedOf (heardSyncRead all (now (table .entry)) registered (now (params .entry))) ⌝ }
 {
     if !all {
-        return nothing_done(registered, 2, false, 1);
+        return nothing_done(registered, ERROR_INSTRUCTION, false, LEVEL_READ);
     }
-    let Found::At(slot, _) = parameters::sync_search(params, 0, table[7]) else {
+    let Found::At(slot, _) = parameters::sync_search(params, 0, table[REG_ID]) else {
         return quiet(registered, 0);
     };
     let address = parameters::word_at(params, 0);
@@ -260,10 +281,10 @@ fn heard_sync_write(
     ensures { λ _. ⌜ now (table .exit) ≡ heardSyncWrite all (now (table .entry)) registered (now (params .entry)) .effect .table ⌝ }
 {
     if !all {
-        return nothing_done(registered, 2, false, 2);
+        return nothing_done(registered, ERROR_INSTRUCTION, false, LEVEL_ALL);
     }
     let n = parameters::word_at(params, 2);
-    let Found::At(_, at) = parameters::sync_search(params, n, table[7]) else {
+    let Found::At(_, at) = parameters::sync_search(params, n, table[REG_ID]) else {
         return quiet(registered, 0);
     };
     let from = at + 1;
@@ -284,17 +305,17 @@ fn react(
     ensures { λ _. ⌜ now (table .exit) ≡ heardInstruction instruction all (now (table .entry)) registered (now (params .entry)) .effect .table ⌝ }
 {
     match instruction {
-        0x01 => heard_ping(&table[..], registered, all, params),
-        0x02 => heard_read(&table[..], registered, all, params),
-        0x03 => heard_write(table, registered, all, params),
-        0x04 => heard_reg_write(table, registered, all, params),
-        0x05 => heard_action(table, registered, all, params),
-        0x06 => heard_factory_reset(table, registered, all, params),
-        0x08 => heard_reboot(table, registered, all, params),
-        0x55 => quiet(registered, 0),
-        0x82 => heard_sync_read(&table[..], registered, all, params),
-        0x83 => heard_sync_write(table, registered, all, params),
-        _ => nothing_done(registered, 2, all, 2),
+        INST_PING => heard_ping(&table[..], registered, all, params),
+        INST_READ => heard_read(&table[..], registered, all, params),
+        INST_WRITE => heard_write(table, registered, all, params),
+        INST_REG_WRITE => heard_reg_write(table, registered, all, params),
+        INST_ACTION => heard_action(table, registered, all, params),
+        INST_FACTORY_RESET => heard_factory_reset(table, registered, all, params),
+        INST_REBOOT => heard_reboot(table, registered, all, params),
+        INST_STATUS => quiet(registered, 0),
+        INST_SYNC_READ => heard_sync_read(&table[..], registered, all, params),
+        INST_SYNC_WRITE => heard_sync_write(table, registered, all, params),
+        _ => nothing_done(registered, ERROR_INSTRUCTION, all, LEVEL_ALL),
     }
 }
 
@@ -309,14 +330,14 @@ pub fn reaction(
     ensures { λ r. ⌜ r ≡ reactedOf (sizedReaction (now (table .entry)) registered (Reactions·reaction heard all (now (table .entry)) registered (now (body .entry)))) ⌝ }
     ensures { λ _. ⌜ now (table .exit) ≡ sizedReaction (now (table .entry)) registered (Reactions·reaction heard all (now (table .entry)) registered (now (body .entry))) .effect .table ⌝ }
 {
-    if table.len() != 136 {
-        return quiet(registered, 21);
+    if table.len() != TABLE_BYTES {
+        return quiet(registered, NOT_A_TABLE);
     }
     let Heard::Packet = heard else {
-        return nothing_done(registered, 3, all, 2);
+        return nothing_done(registered, ERROR_CHECKSUM, all, LEVEL_ALL);
     };
     if body.len() == 0 {
-        return nothing_done(registered, 2, all, 2);
+        return nothing_done(registered, ERROR_INSTRUCTION, all, LEVEL_ALL);
     }
     react(table, registered, all, body[0], &body[1..])
 }

@@ -1,6 +1,5 @@
 -- The records keep to the rules, so demand 3 holds of them; from a fresh one on no call is refused.
 use mathlib.Core.Path.{_≡_, refl, sym, ap, _∙_}
-use mathlib.Core.Bool.{cond}
 use mathlib.Core.List.{List, []}
 use mathlib.Core.Option.{Option, none, some}
 use Prim.Native.Nat.{ℕ, _-_, _≤_}
@@ -9,7 +8,7 @@ use borrow.Author.Tests.{le-leb, eq-eqb}
 use lib.ListN.{length, take, replicate, length-take}
 use lib.Seq.{take-at}
 use Rattle.reading.specs.Reading.{Event, packet, badChecksum}
-use Rattle.reading.specs.Calls.{Reply, Call, call}
+use Rattle.reading.specs.Calls.{CallResult, Call, call}
 use Rattle.reading.specs.Lists.{after, Follows}
 use Rattle.reading.proofs.Held.{held-bound}
 use Rattle.reading.proofs.Follows.{follows-after}
@@ -20,36 +19,36 @@ use Rattle.packet.proofs.Laws.{laws}
 use Rattle.packet.proofs.Begins.{none-without-ff}
 use Rattle.framer.specs.declared.Step.{Step}
 use Rattle.framer.specs.declared.StepEvent.the-variants.{Refused}
-use Rattle.framer.specs.Answer.{eventFor, bytesOf, heldFor}
+use Rattle.framer.specs.Results.{eventFor, packetBytes, heldFor}
 use Rattle.reader.specs.declared.Reader.{Reader}
 use Rattle.lists.specs.Write.{padded}
-use Rattle.reader.specs.Records.{heldIn, saidOn, leftBy, packetOn, eventIn, records, NeverRefused, FollowedBy1030, ReaderPromises}
+use Rattle.reader.specs.Records.{heldIn, stepOn, leftBy, packetOn, eventIn, records, NeverRefused, FollowedBy1030, ReaderPromises}
 
 -- ---- one call on a record that is not refused
 
 module _ (r : Reader) (c : Call) (h : r .count ≤ 1030) where
-  abbrev reply : Reply
-  reply = call protocol2 (heldIn r) c
+  abbrev result : CallResult
+  result = call protocol2 (heldIn r) c
 
-  said-told : saidOn r c ≡ record { taken = reply .taken; held = length (reply .held); event = eventFor (reply .answer) }
-  unfolding saidOn
-  said-told = rw (le-leb (r .count) 1030 h)
+  step-is : stepOn r c ≡ record { taken = result .taken; held = length (result .held); event = eventFor (result .answer) }
+  unfolding stepOn
+  step-is = rw (le-leb (r .count) 1030 h)
 
-  packet-padded : (old : List ℕ) → packetOn r c old ≡ padded 1031 (bytesOf (reply .answer))
+  packet-padded : (old : List ℕ) → packetOn r c old ≡ padded 1031 (packetBytes (result .answer))
   unfolding packetOn
   packet-padded old = rw (le-leb (r .count) 1030 h)
 
-  left-padded : leftBy r c .bytes ≡ padded 1030 (reply .held)
+  left-padded : leftBy r c .bytes ≡ padded 1030 (result .held)
   unfolding leftBy
   left-padded = rw (le-leb (r .count) 1030 h)
 
-  left-count : leftBy r c .count ≡ length (reply .held)
+  left-count : leftBy r c .count ≡ length (result .held)
   unfolding leftBy
-  left-count = ap (λ (s : Step). s .held) said-told
+  left-count = ap (λ (s : Step). s .held) step-is
 
-  left-held : heldIn (leftBy r c) ≡ reply .held
+  left-held : heldIn (leftBy r c) ≡ result .held
   left-held =
-      let t = reply .held in
+      let t = result .held in
       ap (λ (s : List ℕ). take (leftBy r c .count) s) left-padded
       ∙ take-at t (replicate (1030 - length t) 0) (leftBy r c .count) (sym left-count)
 
@@ -58,18 +57,18 @@ module _ (r : Reader) (c : Call) (h : r .count ≤ 1030) where
       let k = held-bound protocol2 laws (heldIn r) c (simp length-take (omega arith)) in
       rw left-count k
 
-  event-told : eventIn (saidOn r c .event) (packetOn r c (replicate 1031 0)) ≡ reply .answer
-  event-told = rw (said-told, packet-padded (replicate 1031 0)) (by (reply .answer))
+  event-told : eventIn (stepOn r c .event) (packetOn r c (replicate 1031 0)) ≡ result .answer
+  event-told = rw (step-is, packet-padded (replicate 1031 0)) (by (result .answer))
     where
-      by : (a : Option Event) → eventIn (eventFor a) (padded 1031 (bytesOf a)) ≡ a
+      by : (a : Option Event) → eventIn (eventFor a) (padded 1031 (packetBytes a)) ≡ a
       by none = refl
       by (some (packet w)) =
           let e : take (length w) (padded 1031 w) ≡ w = take-at w (replicate (1031 - length w) 0) (length w) refl in
           rw (e, eq-eqb (idOf w) (idOf w) refl)
       by (some (badChecksum id)) = refl
 
-  never-told : ¬ (saidOn r c .event ≡ Refused)
-  never-told e = by (reply .answer) (rw said-told at e)
+  never-told : ¬ (stepOn r c .event ≡ Refused)
+  never-told e = by (result .answer) (rw step-is at e)
     where
       by : (a : Option Event) → ¬ (eventFor a ≡ Refused)
       by none e = let z : _≡_ {A = ℕ} 0 1 = cc in omega arith
@@ -85,7 +84,7 @@ pub follows : Follows protocol2 records Legal heldIn
 follows =
     record {
       fresh = λ r e. (rw e (omega arith), rw e);
-      same-taken = λ r c h. ap (λ (s : Step). s .taken) (said-told r c h);
+      same-taken = λ r c h. ap (λ (s : Step). s .taken) (step-is r c h);
       same-answer = λ r c h. event-told r c h;
       same-next = λ r c h. (left-legal r c h, left-held r c h);
     }
@@ -100,7 +99,7 @@ never-refused r e cs c =
 
 -- ---- the record after a call
 
-pub record-left : (step : Step) (bytes : List ℕ) (r : Reader) (c : Call) → step ≡ saidOn r c
+pub record-left : (step : Step) (bytes : List ℕ) (r : Reader) (c : Call) → step ≡ stepOn r c
     → bytes ≡ heldFor (r .count) (r .bytes) (call protocol2 (heldIn r) c)
     → _≡_ {A = Reader} (record { bytes = bytes; count = step .held }) (leftBy r c)
 unfolding leftBy

@@ -1,5 +1,5 @@
 -- The reader's record and the calls on it, and demand 3 over lists of these calls. The contracts of `feed` and `gap`, and of the
--- exports to C, cite `saidOn` and `leftBy`, of which the reader `records` is made.
+-- exports to C, cite `stepOn` and `leftBy`, of which the reader `records` is made.
 use mathlib.Core.Path.{_≡_}
 use mathlib.Core.Bool.{cond}
 use mathlib.Core.List.{List}
@@ -17,7 +17,7 @@ use Rattle.packet.specs.Verdict.{protocol2}
 use Rattle.framer.specs.declared.Step.{Step}
 use Rattle.framer.specs.declared.StepEvent.{StepEvent}
 use Rattle.framer.specs.declared.StepEvent.the-variants.{Packet, BadChecksum, Silent, Refused}
-use Rattle.framer.specs.Answer.{stepFor, heldFor, packetFor}
+use Rattle.framer.specs.Results.{stepFor, heldFor, packetFor}
 use Rattle.reader.specs.declared.Reader.{Reader}
 
 -- bytes past the count are ignored [F1 F15]
@@ -25,13 +25,13 @@ abbrev pub heldIn : Reader → List ℕ
 heldIn r = take (r .count) (r .bytes)
 
 -- what a call answers [F5 F12]
-unfoldable pub saidOn : Reader → Call → Step
-saidOn r c = stepFor (r .count) (call protocol2 (heldIn r) c)
+unfoldable pub stepOn : Reader → Call → Step
+stepOn r c = stepFor (r .count) (call protocol2 (heldIn r) c)
 
 -- how it leaves the record: the bytes past its count are 0, and a refusal leaves it as it was [F7 F8 F15]
 unfoldable pub leftBy : Reader → Call → Reader
 leftBy r c =
-    record { bytes = heldFor (r .count) (r .bytes) (call protocol2 (heldIn r) c); count = saidOn r c .held }
+    record { bytes = heldFor (r .count) (r .bytes) (call protocol2 (heldIn r) c); count = stepOn r c .held }
 
 -- the record by its parts, as C lends it
 abbrev pub lent : List ℕ → ℕ → Reader
@@ -55,15 +55,15 @@ records =
     record {
       State = Reader;
       Fresh = λ r. r .count ≡ 0;
-      taken = λ r c. saidOn r c .taken;
-      answer = λ r c. eventIn (saidOn r c .event) (packetOn r c (replicate 1031 0));
+      taken = λ r c. stepOn r c .taken;
+      answer = λ r c. eventIn (stepOn r c .event) (packetOn r c (replicate 1031 0));
       next = λ r c. leftBy r c;
     }
 
 -- "at most 1,030 bytes are held, so none of these calls gives 25": from a fresh record on no call is refused, whatever came
 -- before [Q2]
 abbrev pub NeverRefused : Type 0
-NeverRefused = (r : Reader) → r .count ≡ 0 → (cs : List Call) (c : Call) → ¬ (saidOn (after records r cs) c .event ≡ Refused)
+NeverRefused = (r : Reader) → r .count ≡ 0 → (cs : List Call) (c : Call) → ¬ (stepOn (after records r cs) c .event ≡ Refused)
 
 -- "at least 1,030 bytes"
 abbrev pub AtLeast1030 : List ℕ → Type 0

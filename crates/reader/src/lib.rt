@@ -1,10 +1,10 @@
 // The streaming reader of Protocol 2.0 as a record: bytes go in as they come, in chunks of any size, and events come out. The
-// calls here take the record by value and give it back; the work is done in place by `framer`.
+// calls here take the record by value and return it; `framer` does the work in place.
 use framer::Step;
 ghost use mathlib.Core.Path.{_≡_};
 ghost use lib.ListN.{replicate};
 ghost use Rattle.reading.specs.Calls.{feed as Call·feed, gap as Call·gap};
-ghost use Rattle.reader.specs.Records.{saidOn, leftBy, packetOn, ReaderPromises};
+ghost use Rattle.reader.specs.Records.{stepOn, leftBy, packetOn, ReaderPromises};
 
 // The reader's record, which lives as long as the device: the held bytes stand at the start, and the rest is 0.
 #[repr(C)]
@@ -13,17 +13,17 @@ pub struct Reader {
     pub count: usize,
 }
 
-// What a call answers, the packet's bytes followed by 0, and the record from now on.
+// What a call returns: its step, the packet's bytes followed by 0, and the record from now on.
 pub struct Fed {
     pub step: Step,
     pub packet: [u8; 1031],
     pub reader: Reader,
 }
 
-// A feeding call: the fewest bytes of the chunk that decide an event are taken, or all of it. Feed the rest again until a
-// call gives no event, also where the rest is empty: events may lie in what is held. [F1-F16 K3 K7 Q1-Q14]
+// A feeding call: takes the fewest bytes of the chunk that decide an event, or all of it. Feed the rest again until a call gives
+// no event, even if the rest is empty: events may lie in the held bytes. [F1-F16 K3 K7 Q1-Q14]
 pub fn feed(reader: Reader, chunk: &[u8]) -> Fed
-    ensures { λ r. ⌜ (r .step ≡ saidOn reader (Call·feed (now (chunk .entry))))
+    ensures { λ r. ⌜ (r .step ≡ stepOn reader (Call·feed (now (chunk .entry))))
         × (r .packet ≡ packetOn reader (Call·feed (now (chunk .entry))) (replicate 1031 0))
         × (r .reader ≡ leftBy reader (Call·feed (now (chunk .entry)))) ⌝ }
     ensures { λ _. ⌜ ReaderPromises ⌝ }
@@ -40,10 +40,9 @@ pub fn feed(reader: Reader, chunk: &[u8]) -> Fed
     }
 }
 
-// A gap call: the next event as if the segment ended with what is held. Call it until it says that nothing is left.
-// [F12-F16 Q1-Q14 V1]
+// A gap call: the next event as if the segment ended with the held bytes. Call it until nothing is left. [F12-F16 Q1-Q14 V1]
 pub fn gap(reader: Reader) -> Fed
-    ensures { λ r. ⌜ (r .step ≡ saidOn reader Call·gap) × (r .packet ≡ packetOn reader Call·gap (replicate 1031 0))
+    ensures { λ r. ⌜ (r .step ≡ stepOn reader Call·gap) × (r .packet ≡ packetOn reader Call·gap (replicate 1031 0))
         × (r .reader ≡ leftBy reader Call·gap) ⌝ }
     ensures { λ _. ⌜ ReaderPromises ⌝ }
 {

@@ -9,11 +9,11 @@ use lib.ListN.{length, take, drop, length-drop, take-append-drop}
 use lib.Seq.{take-length, drop-length}
 use Rattle.reading.specs.Rules.{isPacket, isWaiting, Rules, Laws}
 use Rattle.reading.specs.Reading.{Event, packet, Found, open′, closed, readFrom, reading}
-use Rattle.reading.specs.Calls.{event, silent, first, Reply, fed, gap, call}
+use Rattle.reading.specs.Calls.{event, silent, first, CallResult, fed, gap, call}
 use Rattle.reading.specs.Lists.{AnyReader, model, feeds, after, took, given, Follows}
 use Rattle.reading.specs.Promise.{what, joined, packetsAt, since, Finished, AllWellFormed}
 use Rattle.reading.specs.Across.{CleanLine, PacketByPacket, CallPromises}
-use Rattle.reading.proofs.Steps.{nil}
+use Rattle.reading.proofs.Offsets.{nil}
 use Rattle.reading.proofs.Split.{not-empty, read-packets}
 use Rattle.reading.proofs.Demand.{fresh, took-calls, demand-3}
 use Rattle.reading.proofs.Follows.{follows-after, follows-took, follows-given, follows-answer, follows-demand}
@@ -81,7 +81,7 @@ module _ (R : Rules) (L : Laws R) where
   packets-fed [] good = (refl, refl)
   packets-fed (w ∷ packets) good =
       let r = packets-fed packets (λ v k. good v (List·Memᴰ·tail k)) in
-      subst (λ (f : Reply). (take (f .taken) w ++ took (model R) (f .held) (feeds packets) ≡ w ++ joined packets)
+      subst (λ (f : CallResult). (take (f .taken) w ++ took (model R) (f .held) (feeds packets) ≡ w ++ joined packets)
       × (after (model R) (f .held) (feeds packets) ≡ []))
       (fed-packet w (good w (List·Memᴰ·head refl))) (rw (take-length w, r .0), r .1)
 

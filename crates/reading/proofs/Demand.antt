@@ -15,8 +15,8 @@ use Rattle.reading.specs.Calls.{Call, feed, gap, call}
 use Rattle.reading.specs.Lists.{model, feeds, gaps, after, took, given}
 use Rattle.reading.specs.Promise.{what, joined, packetsAt, Before, AllOut, AllWellFormed, NoneAcross, EndsSilent}
 use Rattle.reading.specs.Promise.{Followed, AtStart, since, givenAt, Finished, Promised, Demand3}
-use Rattle.reading.proofs.Steps.{nil, stuck, short, Ends, sure-ends, ends-compose, feeds-sure, gaps-end}
-use Rattle.reading.proofs.Steps.{gap-silent, feed-silent, after-append, given-append, took-append, took-gaps}
+use Rattle.reading.proofs.Offsets.{nil, stuck, short, Ends, sure-ends, ends-compose, feeds-sure, gaps-end}
+use Rattle.reading.proofs.Offsets.{gap-silent, feed-silent, after-append, given-append, took-append, took-gaps}
 use Rattle.reading.proofs.Split.{before-append, before-le, from, packets-before, Through, Outcome, split}
 
 module _ (R : Rules) (L : Laws R) where

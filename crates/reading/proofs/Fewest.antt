@@ -8,10 +8,10 @@ use lib.ListN.{take}
 use lib.Seq.{take-length}
 use Rattle.reading.specs.Rules.{Rules}
 use Rattle.reading.specs.Reading.{Event, open′}
-use Rattle.reading.specs.Calls.{First, event, silent, first, Reply, fed, fedAll, fedOn, Fewest, FewestRule}
+use Rattle.reading.specs.Calls.{First, event, silent, first, CallResult, fed, fedAll, fedOn, Fewest, FewestRule}
 
-pub same-reply : (r r′ : Reply) → r .taken ≡ r′ .taken → r .answer ≡ r′ .answer → r .held ≡ r′ .held → r ≡ r′
-same-reply r r′ a b c = λ i. record { taken = a i; answer = b i; held = c i }
+pub same-result : (r r′ : CallResult) → r .taken ≡ r′ .taken → r .answer ≡ r′ .answer → r .held ≡ r′ .held → r ≡ r′
+same-result r r′ a b c = λ i. record { taken = a i; answer = b i; held = c i }
 
 module _ (R : Rules) where
   at-once : (h s : List ℕ) (x : Event) (t : List ℕ) → first R open′ h ≡ event x t
@@ -34,7 +34,7 @@ module _ (R : Rules) where
         undecided = λ i. (refl, rw append-nil e);
       }
 
-  fewest-on : (h : List ℕ) (b : ℕ) (s : List ℕ) (f : First) (r : Reply) → first R open′ h ≡ f → Fewest R (h ++ (b ∷ [])) s r
+  fewest-on : (h : List ℕ) (b : ℕ) (s : List ℕ) (f : First) (r : CallResult) → first R open′ h ≡ f → Fewest R (h ++ (b ∷ [])) s r
       → Fewest R h (b ∷ s) (fedOn f r)
   fewest-on h b s (event x t) r e w = at-once h (b ∷ s) x t e
   fewest-on h b s (silent t) r e w =
@@ -56,7 +56,7 @@ module _ (R : Rules) where
 
   -- whatever meets the rule is what `fed` says
   module _ (h s : List ℕ) where
-    not-sooner : (r r′ : Reply) → Fewest R h s r → Fewest R h s r′ → (a : Option Event) → r .answer ≡ a → r .taken < r′ .taken
+    not-sooner : (r r′ : CallResult) → Fewest R h s r → Fewest R h s r′ → (a : Option Event) → r .answer ≡ a → r .taken < r′ .taken
         → ⊥
     not-sooner r r′ w w′ none i l = let k = w .undecided i in omega (arith, k .0, w′ .within)
     not-sooner r r′ w w′ (some e) i l =
@@ -67,7 +67,7 @@ module _ (R : Rules) where
         omega arith
 
     -- an event with as many bytes as the whole chunk, and none with the whole chunk
-    not-both : (r r′ : Reply) (e : Event) → Fewest R h s r → Fewest R h s r′ → r .taken ≡ r′ .taken → r .answer ≡ none
+    not-both : (r r′ : CallResult) (e : Event) → Fewest R h s r → Fewest R h s r′ → r .taken ≡ r′ .taken → r .answer ≡ none
         → r′ .answer ≡ some e → ⊥
     not-both r r′ e w w′ t i j =
         let k = w .undecided i in
@@ -79,9 +79,9 @@ module _ (R : Rules) where
         let z : _≡_ {A = ℕ} 0 1 = cc in
         omega arith
 
-    same-rest : (r r′ : Reply) → Fewest R h s r → Fewest R h s r′ → r .taken ≡ r′ .taken → (a a′ : Option Event) → r .answer ≡ a
+    same-rest : (r r′ : CallResult) → Fewest R h s r → Fewest R h s r′ → r .taken ≡ r′ .taken → (a a′ : Option Event) → r .answer ≡ a
         → r′ .answer ≡ a′ → r ≡ r′
-    same-rest r r′ w w′ t none none i i′ = same-reply r r′ t (i ∙ sym i′)
+    same-rest r r′ w w′ t none none i i′ = same-result r r′ t (i ∙ sym i′)
         (let k = w .undecided i .1 in let k′ = w′ .undecided i′ .1 in cc)
     same-rest r r′ w w′ t none (some e) i i′ = absurd (not-both r r′ e w w′ t i i′)
     same-rest r r′ w w′ t (some e) none i i′ = absurd (not-both r′ r e w′ w (sym t) i′ i)
@@ -89,15 +89,15 @@ module _ (R : Rules) where
         let k = w .decided e i in
         let k′ : first R open′ (h ++ take (r .taken) s) ≡ event e′ (r′ .held) =
         subst (λ (n : ℕ). first R open′ (h ++ take n s) ≡ event e′ (r′ .held)) (sym t) (w′ .decided e′ i′) in
-        same-reply r r′ t (cc) (cc)
+        same-result r r′ t (cc) (cc)
 
-    pub fewest-unique : (r r′ : Reply) → Fewest R h s r → Fewest R h s r′ → r ≡ r′
+    pub fewest-unique : (r r′ : CallResult) → Fewest R h s r → Fewest R h s r′ → r ≡ r′
     fewest-unique r r′ w w′ =
         let a : ¬ (r .taken < r′ .taken) = not-sooner r r′ w w′ (r .answer) refl in
         let b : ¬ (r′ .taken < r .taken) = not-sooner r′ r w′ w (r′ .answer) refl in
         same-rest r r′ w w′ (omega arith) (r .answer) (r′ .answer) refl refl
 
-  pub fewest-fed : (h s : List ℕ) (r : Reply) → Fewest R h s r → r ≡ fed R h s
+  pub fewest-fed : (h s : List ℕ) (r : CallResult) → Fewest R h s r → r ≡ fed R h s
   fewest-fed h s r w = fewest-unique h s r (fed R h s) w (fed-fewest h s)
 
   pub fewest-rule : FewestRule R

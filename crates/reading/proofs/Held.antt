@@ -7,11 +7,11 @@ use native.Mathlib.Omega.{arith}
 use lib.ListN.{length, take, drop, length-append, length-drop}
 use Rattle.reading.specs.Rules.{Verdict, isPacket, isBadChecksum, isWaiting, isNothing, Rules, Laws}
 use Rattle.reading.specs.Reading.{Event, packet, Mode, open′, closed}
-use Rattle.reading.specs.Calls.{First, event, silent, firstAt, first, Reply, fedAll, fedOn, fed, gapped, Call, feed, gap}
+use Rattle.reading.specs.Calls.{First, event, silent, firstAt, first, CallResult, fedAll, fedOn, fed, gapped, Call, feed, gap}
 use Rattle.reading.specs.Calls.{call}
 use Rattle.reading.specs.Lists.{model, after}
 use Rattle.reading.specs.Calls.{HeldBound, FinishedEmpty}
-use Rattle.reading.proofs.Steps.{short, gap-silent}
+use Rattle.reading.proofs.Offsets.{short, gap-silent}
 
 module _ (R : Rules) (L : Laws R) where
   shrinks-at : (m : Mode) (b : ℕ) (s : List ℕ) (f : First) (v : Verdict) → R .verdict (b ∷ s) ≡ v
@@ -74,7 +74,7 @@ module _ (R : Rules) (L : Laws R) where
   all-held h (event e t) i l = l e t i
   all-held h (silent t) i l = waits-short h t i
 
-  on-held : (h : List ℕ) (f : First) (r : Reply) → first R open′ h ≡ f → Leaves h
+  on-held : (h : List ℕ) (f : First) (r : CallResult) → first R open′ h ≡ f → Leaves h
       → ((t : List ℕ) → f ≡ silent t → length (r .held) ≤ R .longest - 1) → length (fedOn f r .held) ≤ R .longest - 1
   on-held h (event e t) r i l k = l e t i
   on-held h (silent t) r i l k = k t refl
@@ -125,7 +125,7 @@ module _ (R : Rules) (L : Laws R) where
   all-good h w (event e t) i k = let z : e ≡ packet w = cc in first-good open′ h w t (rw z at i)
   all-good h w (silent t) i k = let z : _≡_ {A = ℕ} 0 1 = cc in absurd (omega arith)
 
-  on-good : (h w : List ℕ) (f : First) (r : Reply) → first R open′ h ≡ f → (r .answer ≡ some (packet w) → R .WellFormed w)
+  on-good : (h w : List ℕ) (f : First) (r : CallResult) → first R open′ h ≡ f → (r .answer ≡ some (packet w) → R .WellFormed w)
       → fedOn f r .answer ≡ some (packet w) → R .WellFormed w
   on-good h w (event e t) r i g k = let z : e ≡ packet w = cc in first-good open′ h w t (rw z at i)
   on-good h w (silent t) r i g k = g k

@@ -1,4 +1,4 @@
-pub mod Steps
+pub mod Offsets
 pub mod Split
 pub mod Demand
 pub mod Follows

@@ -10,20 +10,20 @@ use lib.Seq.{length-take-le, take-append-le, drop-append-le, drop-drop, drop-len
 use native.Mathlib.Decide.{decLe}
 use Rattle.reading.specs.Rules.{Verdict, isPacket, isWaiting, isNothing, Undecided, Rules, Laws}
 use Rattle.reading.specs.Reading.{Event, Mode, open′}
-use Rattle.reading.specs.Calls.{First, event, silent, firstAt, first, Reply, oneMore, fed, fedAll, fedOn}
+use Rattle.reading.specs.Calls.{First, event, silent, firstAt, first, CallResult, oneMore, fed, fedAll, fedOn}
 use Rattle.reading.specs.Progress.{afterTaking, Reached, Patient}
-use Rattle.reading.proofs.Steps.{short}
-use Rattle.reading.proofs.Fewest.{same-reply}
+use Rattle.reading.proofs.Offsets.{short}
+use Rattle.reading.proofs.Fewest.{same-result}
 use Rattle.reading.proofs.Held.{resume}
 
-taking-none : (r : Reply) → r ≡ afterTaking 0 r
-taking-none r = same-reply r (afterTaking 0 r) (omega arith) refl refl
+taking-none : (r : CallResult) → r ≡ afterTaking 0 r
+taking-none r = same-result r (afterTaking 0 r) (omega arith) refl refl
 
-taking-more : (n m : ℕ) (r : Reply) → afterTaking n (afterTaking m r) ≡ afterTaking (n + m) r
-taking-more n m r = same-reply (afterTaking n (afterTaking m r)) (afterTaking (n + m) r) (omega arith) refl refl
+taking-more : (n m : ℕ) (r : CallResult) → afterTaking n (afterTaking m r) ≡ afterTaking (n + m) r
+taking-more n m r = same-result (afterTaking n (afterTaking m r)) (afterTaking (n + m) r) (omega arith) refl refl
 
-one-more : (m : ℕ) (r : Reply) → oneMore (afterTaking m r) ≡ afterTaking (suc m) r
-one-more m r = same-reply (oneMore (afterTaking m r)) (afterTaking (suc m) r) (omega arith) refl refl
+one-more : (m : ℕ) (r : CallResult) → oneMore (afterTaking m r) ≡ afterTaking (suc m) r
+one-more m r = same-result (oneMore (afterTaking m r)) (afterTaking (suc m) r) (omega arith) refl refl
 
 module _ (R : Rules) where
   -- ---- the first event, where the verdict at an offset is known
@@ -65,7 +65,7 @@ module _ (R : Rules) where
   unfolding fed
   reached-event h s t u n e a f =
       a .same ∙ ap (afterTaking n) (at-once (drop n s))
-      ∙ same-reply (afterTaking n (record { taken = 0; answer = some e; held = u }))
+      ∙ same-result (afterTaking n (record { taken = 0; answer = some e; held = u }))
       (record { taken = n; answer = some e; held = u })
       (omega arith) refl refl
     where
@@ -80,7 +80,7 @@ module _ (R : Rules) where
   reached-end h s t u a f =
       a .same ∙ ap (λ (l : List ℕ). afterTaking (length s) (fed R t l)) (drop-length s)
       ∙ ap (λ (g : First). afterTaking (length s) (fedAll g)) f
-      ∙ same-reply (afterTaking (length s) (record { taken = 0; answer = none; held = u }))
+      ∙ same-result (afterTaking (length s) (record { taken = 0; answer = none; held = u }))
       (record { taken = length s; answer = none; held = u }) (omega arith) refl refl
 
   silent-more : (h : List ℕ) (b : ℕ) (s t : List ℕ) → first R open′ h ≡ silent t
@@ -111,7 +111,7 @@ module _ (R : Rules) (L : Laws R) where
       same-on (first R open′ h) (first R open′ t) (fed R (h ++ b ∷ []) s) (fed R (t ++ b ∷ []) s) (simp append-nil at (k []))
       (fed-same (h ++ b ∷ []) (t ++ b ∷ []) s (λ x. simp append-assoc (k (b ∷ x))))
     where
-      same-on : (f f′ : First) (r r′ : Reply) → f ≡ f′ → r ≡ r′ → fedOn f r ≡ fedOn f′ r′
+      same-on : (f f′ : First) (r r′ : CallResult) → f ≡ f′ → r ≡ r′ → fedOn f r ≡ fedOn f′ r′
       same-on f f′ r r′ e i = cc
 
   -- offsets that are past may be dropped: what waits decides alone

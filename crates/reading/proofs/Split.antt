@@ -12,7 +12,7 @@ use lib.Seq.{drop-append-le, take-append-seam, drop-append-seam, length-take-le}
 use Rattle.reading.specs.Rules.{Verdict, isPacket, isBadChecksum, isWaiting, isNothing, Rules, Laws}
 use Rattle.reading.specs.Reading.{Event, packet, badChecksum, Found, Mode, open′, closed, atOffset, readFuel, readFrom}
 use Rattle.reading.specs.Promise.{joined, packetsAt, Before, From, AllWellFormed, NoneAcross}
-use Rattle.reading.proofs.Steps.{step}
+use Rattle.reading.proofs.Offsets.{step}
 
 pub before-append : (n : ℕ) (s t : List Found) → Before n s → Before n t → Before n (s ++ t)
 before-append n s t h k q e c = one (List·Memᴰ·append-cases s c)

@@ -22,26 +22,26 @@ firstAt closed isWaiting s later = later
 firstAt open′ isWaiting s later = silent s
 
 -- what a call answers and leaves: how many bytes it took, its event if any, the bytes then held
-pub record Reply : Type 0 where
+pub record CallResult : Type 0 where
   pub taken : ℕ
   pub answer : Option Event
   pub held : List ℕ
 
-abbrev pub oneMore : Reply → Reply
+abbrev pub oneMore : CallResult → CallResult
 oneMore r = record { taken = suc (r .taken); answer = r .answer; held = r .held }
 
 -- no byte is left to take [F6-F8]
-abbrev pub fedAll : First → Reply
+abbrev pub fedAll : First → CallResult
 fedAll (event e t) = record { taken = 0; answer = some e; held = t }
 fedAll (silent t) = record { taken = 0; answer = none; held = t }
 
--- one is, and `more` is the reply once it is taken [F5 F7]
-abbrev pub fedOn : First → Reply → Reply
+-- one is, and `more` is the result once it is taken [F5 F7]
+abbrev pub fedOn : First → CallResult → CallResult
 fedOn (event e t) more = record { taken = 0; answer = some e; held = t }
 fedOn (silent t) more = oneMore more
 
 -- a gap call that finds no event says that nothing is left, and holds nothing [F12]
-abbrev pub gapped : First → Reply
+abbrev pub gapped : First → CallResult
 gapped (event e t) = record { taken = 0; answer = some e; held = t }
 gapped (silent t) = record { taken = 0; answer = none; held = [] }
 
@@ -59,19 +59,19 @@ module _ (R : Rules) where
 
   -- A feeding call with the chunk s on a reader that holds h: after 0, 1, 2, .. bytes of the chunk, the fewest after which
   -- the held bytes and those have an event; or the whole chunk. [F4-F6]
-  unfoldable pub fed : List ℕ → List ℕ → Reply
+  unfoldable pub fed : List ℕ → List ℕ → CallResult
   unfolding first
   fed h [] = fedAll (first open′ h)
   fed h (b ∷ s) = fedOn (first open′ h) (fed (h ++ b ∷ []) s)
 
   -- a call on a reader that holds h [F12 F14]
-  unfoldable pub call : List ℕ → Call → Reply
+  unfoldable pub call : List ℕ → Call → CallResult
   unfolding fed first
   call h (feed s) = fed h s
   call h gap = gapped (first closed h)
 
 -- The rule of the fewest bytes in words: r is what a feeding call with the chunk s on a reader that holds h answers and leaves.
-pub record Fewest (R : Rules) (h s : List ℕ) (r : Reply) : Type 0 where
+pub record Fewest (R : Rules) (h s : List ℕ) (r : CallResult) : Type 0 where
   pub within : r .taken ≤ length s
   -- with fewer bytes no event is decided
   pub none-sooner : (k : ℕ) → k < r .taken → (t : List ℕ) × (first R open′ (h ++ take k s) ≡ silent t)
@@ -82,7 +82,7 @@ pub record Fewest (R : Rules) (h s : List ℕ) (r : Reply) : Type 0 where
 
 -- the feeding call goes by that rule, and the rule leaves no choice
 abbrev pub FewestRule : Rules → Type 0
-FewestRule R = (h s : List ℕ) → Fewest R h s (fed R h s) × ((r : Reply) → Fewest R h s r → r ≡ fed R h s)
+FewestRule R = (h s : List ℕ) → Fewest R h s (fed R h s) × ((r : CallResult) → Fewest R h s r → r ≡ fed R h s)
 
 -- one byte less than the longest packet is held at most, after any call [F3]
 abbrev pub HeldBound : Rules → Type 0

@@ -5,10 +5,10 @@ use Prim.Native.Nat.{ℕ, _+_, _≤_, _<_}
 use lib.ListN.{length, take, drop}
 use Rattle.reading.specs.Rules.{isPacket, isBadChecksum, isWaiting, Rules}
 use Rattle.reading.specs.Reading.{open′}
-use Rattle.reading.specs.Calls.{silent, first, Reply, fed}
+use Rattle.reading.specs.Calls.{silent, first, CallResult, fed}
 
--- n bytes were taken before those of the reply
-abbrev pub afterTaking : ℕ → Reply → Reply
+-- n bytes were taken before those of the result
+abbrev pub afterTaking : ℕ → CallResult → CallResult
 afterTaking n r = record { taken = n + r .taken; answer = r .answer; held = r .held }
 
 -- A feeding call with the chunk s on a reader that holds h has come so far: n bytes are taken, and what it answers and

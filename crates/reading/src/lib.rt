@@ -1,2 +1,2 @@
-// The reading of a segment over any packet rules: definitions and theorems, in specs/ and proofs/. There are no functions
-// here, and no word of any protocol.
+// The reading of a segment over any packet rules: definitions and theorems, in specs/ and proofs/. There are no functions here,
+// and nothing of any one protocol.

@@ -84,12 +84,6 @@ run-place i from n t a h k =
     let e : from + (a - from) ≡ a = omega arith in
     rw e at (eqb→eq (place (from + (a - from))) i (below (λ (j : ℕ). eqb (place (from + j)) i) n t (a - from) (omega arith)))
 
-pub row-from : (i from n : ℕ) → i < 15 → T (run i from n) → (a : ℕ) → from ≤ a → a < from + n → rowOf (nth i) ≡ rowAt a
-unfolding registers
-row-from i from n l t a h k =
-    let e = run-place i from n t a h k in
-    sym (row-placed a registers (omega arith) ∙ ap (λ (j : ℕ). rowOf (nth j)) e)
-
 pub none-from : (from n : ℕ) → T (run 15 from n) → (a : ℕ) → from ≤ a → a < from + n → noRow ≡ rowAt a
 unfolding registers
 none-from from n t a h k = let e = run-place 15 from n t a h k in sym (row-none a registers (omega arith))
@@ -192,6 +186,12 @@ module _ (i : ℕ) (h : i < 15) where
   nth-bytes w =
       rw (ne-eqb (grant (nth i .access) (nth i .area)) 1 (λ e. omega arith)) at
       (and-right (run i (nth i .address) (nth i .bytes)) (eqb (grant (nth i .access) (nth i .area)) 1 || oneOrFour (nth i .bytes)) nth-rest)
+
+-- each byte of a register has it
+pub own-row : (i : ℕ) → i < 15 → (a : ℕ) → nth i .address ≤ a → a < endOf (nth i) → rowOf (nth i) ≡ rowAt a
+own-row i h a l k =
+    let e = nth-place i h a l k in
+    sym (placed-row a (omega arith) ∙ ap (λ (j : ℕ). rowOf (nth j)) e)
 
 -- the bytes of a register permit the same
 pub same-permits : (a k : ℕ) → 1 ≤ permits a → a + k < endOf (nth (place a)) → permits (a + k) ≡ permits a

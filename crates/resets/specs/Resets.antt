@@ -31,14 +31,18 @@ rebooted table = placed (freshened (only resetAtReboot registers) table) (goalPo
 unfoldable pub resetRom : (Register → Bool) → List ℕ → List ℕ
 resetRom keeps table = freshened (only (λ r. isRom (r .area) && (writable (r .access) && not (keeps r))) registers) table
 
+-- the ID is kept or not, and the baud code [D17]
+abbrev pub keeping : Bool → Bool → Register → Bool
+keeping id baud r = (id && isAt (deviceId .address) r) || (baud && isAt (baudCode .address) r)
+
 -- [D17]
 abbrev pub keepsNone : Register → Bool
-keepsNone r = false
+keepsNone = keeping false false
 
 -- [D17]
 abbrev pub keepsId : Register → Bool
-keepsId r = isAt (deviceId .address) r
+keepsId = keeping true false
 
 -- [D17]
 abbrev pub keepsIdAndBaud : Register → Bool
-keepsIdAndBaud r = isAt (deviceId .address) r || isAt (baudCode .address) r
+keepsIdAndBaud = keeping true true

@@ -1,83 +1,84 @@
-// Reboot and Factory Reset, on the table. A table of another size is refused and stays as it is.
-use table_rules::Outcome;
+// Reboot and Factory Reset, on the table; stores go by rising addresses. A table of another size is refused and stays as it is.
+use registers::FRESH_BAUD_CODE;
+use registers::FRESH_ID;
+use registers::FRESH_MAX_POSITION;
+use registers::FRESH_STATUS_RETURN_LEVEL;
+use registers::REG_BAUD_CODE;
+use registers::REG_GOAL_POSITION;
+use registers::REG_GOAL_VELOCITY;
+use registers::REG_HARDWARE_ERROR;
+use registers::REG_HOMING_OFFSET;
+use registers::REG_ID;
+use registers::REG_LAMP;
+use registers::REG_MAX_POSITION;
+use registers::REG_MIN_POSITION;
+use registers::REG_REGISTERED_INSTRUCTION;
+use registers::REG_STATUS_RETURN_LEVEL;
+use registers::REG_TORQUE_ENABLE;
+use registers::TABLE_BYTES;
+use table_rules::Change;
 ghost use mathlib.Core.Path.{_≡_};
+ghost use mathlib.Core.Bool.{cond};
 ghost use mathlib.Core.Option.{none};
-ghost use Rattle.table_rules.specs.Outcomes.{refusalOf, inTable, onTable};
-ghost use Rattle.resets.specs.Resets.{rebooted, resetRom, keepsIdAndBaud, keepsId, keepsNone};
+ghost use Rattle.table_rules.specs.Outcomes.{changeRefusal, inTable, onTable};
+ghost use Rattle.resets.specs.Resets.{rebooted, resetRom, keeping};
 
 // RAM items fresh, present position as it was, min position as the goal.
-pub fn reboot(table: &mut [u8]) -> Outcome
-    ensures { λ r. ⌜ refusalOf r ≡ inTable (now (table .entry)) none ⌝ }
+pub fn reboot(table: &mut [u8]) -> Change
+    ensures { λ r. ⌜ changeRefusal r ≡ inTable (now (table .entry)) none ⌝ }
     ensures { λ _. ⌜ now (table .exit) ≡ onTable (now (table .entry)) (rebooted (now (table .entry))) ⌝ }
 {
-    if table.len() != 136 {
-        return Outcome::NotTable;
+    if table.len() != TABLE_BYTES {
+        return Change::NotTable;
     }
-    let a = table[52];
-    let b = table[53];
-    let c = table[54];
-    let d = table[55];
-    table[104] = 0;
-    table[105] = 0;
-    table[106] = 0;
-    table[107] = 0;
-    table[70] = 0;
-    table[69] = 0;
-    table[68] = 2;
-    table[65] = 0;
-    table[64] = 0;
-    table[116] = a;
-    table[117] = b;
-    table[118] = c;
-    table[119] = d;
-    Outcome::Done
+    let a = table[REG_MIN_POSITION];
+    let b = table[REG_MIN_POSITION + 1];
+    let c = table[REG_MIN_POSITION + 2];
+    let d = table[REG_MIN_POSITION + 3];
+    table[REG_TORQUE_ENABLE] = 0;
+    table[REG_LAMP] = 0;
+    table[REG_STATUS_RETURN_LEVEL] = FRESH_STATUS_RETURN_LEVEL;
+    table[REG_REGISTERED_INSTRUCTION] = 0;
+    table[REG_HARDWARE_ERROR] = 0;
+    table[REG_GOAL_VELOCITY] = 0;
+    table[REG_GOAL_VELOCITY + 1] = 0;
+    table[REG_GOAL_VELOCITY + 2] = 0;
+    table[REG_GOAL_VELOCITY + 3] = 0;
+    table[REG_GOAL_POSITION] = a;
+    table[REG_GOAL_POSITION + 1] = b;
+    table[REG_GOAL_POSITION + 2] = c;
+    table[REG_GOAL_POSITION + 3] = d;
+    Change::Done
 }
 
-// Factory Reset 02: homing offset and both limits fresh.
-pub fn reset_but_id_and_baud(table: &mut [u8]) -> Outcome
-    ensures { λ r. ⌜ refusalOf r ≡ inTable (now (table .entry)) none ⌝ }
-    ensures { λ _. ⌜ now (table .exit) ≡ onTable (now (table .entry)) (resetRom keepsIdAndBaud (now (table .entry))) ⌝ }
+// The byte where it is kept, the fresh one where it is not.
+fn kept_or(keeps: bool, byte: u8, fresh: u8) -> u8
+    ensures { λ r. ⌜ r ≡ cond keeps byte fresh ⌝ }
 {
-    if table.len() != 136 {
-        return Outcome::NotTable;
-    }
-    table[52] = 0;
-    table[53] = 0;
-    table[54] = 0;
-    table[55] = 0;
-    table[48] = 255;
-    table[49] = 15;
-    table[50] = 0;
-    table[51] = 0;
-    table[20] = 0;
-    table[21] = 0;
-    table[22] = 0;
-    table[23] = 0;
-    Outcome::Done
+    if keeps { byte } else { fresh }
 }
 
-// Factory Reset 01: the baud code too.
-pub fn reset_but_id(table: &mut [u8]) -> Outcome
-    ensures { λ r. ⌜ refusalOf r ≡ inTable (now (table .entry)) none ⌝ }
-    ensures { λ _. ⌜ now (table .exit) ≡ onTable (now (table .entry)) (resetRom keepsId (now (table .entry))) ⌝ }
+// Factory Reset: homing offset and both limits fresh, and of ID and baud code what is not kept.
+pub fn reset_rom(table: &mut [u8], keeps_id: bool, keeps_baud: bool) -> Change
+    ensures { λ r. ⌜ changeRefusal r ≡ inTable (now (table .entry)) none ⌝ }
+    ensures { λ _. ⌜ now (table .exit) ≡ onTable (now (table .entry)) (resetRom (keeping «keeps_id» «keeps_baud») (now (table .entry))) ⌝ }
 {
-    if table.len() != 136 {
-        return Outcome::NotTable;
+    if table.len() != TABLE_BYTES {
+        return Change::NotTable;
     }
-    reset_but_id_and_baud(table);
-    table[8] = 1;
-    Outcome::Done
-}
-
-// Factory Reset FF: the ID too.
-pub fn reset_all(table: &mut [u8]) -> Outcome
-    ensures { λ r. ⌜ refusalOf r ≡ inTable (now (table .entry)) none ⌝ }
-    ensures { λ _. ⌜ now (table .exit) ≡ onTable (now (table .entry)) (resetRom keepsNone (now (table .entry))) ⌝ }
-{
-    if table.len() != 136 {
-        return Outcome::NotTable;
-    }
-    reset_but_id(table);
-    table[7] = 1;
-    Outcome::Done
+    table[REG_ID] = kept_or(keeps_id, table[REG_ID], FRESH_ID);
+    table[REG_BAUD_CODE] = kept_or(keeps_baud, table[REG_BAUD_CODE], FRESH_BAUD_CODE);
+    table[REG_HOMING_OFFSET] = 0;
+    table[REG_HOMING_OFFSET + 1] = 0;
+    table[REG_HOMING_OFFSET + 2] = 0;
+    table[REG_HOMING_OFFSET + 3] = 0;
+    table[REG_MAX_POSITION] = (FRESH_MAX_POSITION % 256) as u8;
+    table[REG_MAX_POSITION + 1] = (FRESH_MAX_POSITION / 256) as u8;
+    table[REG_MAX_POSITION + 2] = 0;
+    table[REG_MAX_POSITION + 3] = 0;
+    table[REG_MIN_POSITION] = 0;
+    table[REG_MIN_POSITION + 1] = 0;
+    table[REG_MIN_POSITION + 2] = 0;
+    table[REG_MIN_POSITION + 3] = 0;
+    Change::Done
 }

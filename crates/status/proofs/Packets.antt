@@ -1,13 +1,12 @@
 -- The packet of a status: well-formed, with the ID of the reply, and short.
-use mathlib.Core.Path.{_≡_, refl, ap}
+use mathlib.Core.Path.{_≡_, refl}
 use mathlib.Core.Bool.{false}
-use mathlib.Core.List.{List}
-use Prim.Native.Nat.{ℕ, _≤_}
+use Prim.Native.Nat.{_≤_}
 use native.Mathlib.Omega.{arith}
 use lib.Dec.{eqb}
 use lib.ListN.{length, take, length-take}
 use borrow.Author.Tests.{le-leb}
-use Rattle.stuffing.specs.Stuffing.{stuff, marks, marksAfter}
+use Rattle.stuffing.specs.Stuffing.{marks, marksAfter}
 use Rattle.stuffing.proofs.Laws.{length-stuff, marks-within}
 use Rattle.packet_front.specs.Front.{idOf}
 use Rattle.packet.specs.Packet.{WellFormed}

@@ -1,6 +1,5 @@
 -- A reply with a good ID and at most 8 bytes goes out: 32 bytes are room enough.
-use mathlib.Core.Path.{_≡_, refl, sym, ap, _∙_}
-use mathlib.Core.Bool.{Bool, true, false, cond}
+use mathlib.Core.Path.{_≡_, sym, ap, _∙_}
 use mathlib.Core.List.{List, [], _∷_}
 use mathlib.Core.Option.{Option, none, some}
 use Prim.Native.Nat.{ℕ, suc, _+_, _≤_, _<_}
@@ -19,7 +18,7 @@ use Rattle.encoder.specs.declared.Encoded.{Encoded}
 use Rattle.encoder.specs.declared.Encoded.the-variants.{Count, BadId, TooLong, NoRoom}
 use Rattle.status.specs.declared.Reply.{Reply}
 use Rattle.status.specs.Status.{statusBody, statusPacket}
-use Rattle.status.specs.Steps.{writtenBy}
+use Rattle.status.specs.Results.{writtenBy}
 use Rattle.status.specs.Sending.{writtenAnswer, statusRefusal}
 
 -- eight bytes one by one

@@ -1,3 +1,3 @@
 pub mod Status
 pub mod Sending
-pub mod Steps
+pub mod Results

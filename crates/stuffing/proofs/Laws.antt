@@ -91,9 +91,6 @@ stuffed-length a b (c ∷ s) = turn (stuffed-length b c s) (mark a b c)
 pub length-stuff : (body : List ℕ) → length (stuff body) ≡ length body + marks body
 length-stuff body = stuffed-length 0 0 body
 
-pub length-unstuff : (bytes : List ℕ) → wellStuffed bytes ≡ true → length bytes ≡ length (unstuff bytes) + marks (unstuff bytes)
-length-unstuff bytes w = ap length (sym (stuff-unstuff bytes w)) ∙ length-stuff (unstuff bytes)
-
 -- ---- how many bytes stuffing adds
 
 -- Three bytes make a mark, and no byte is of two marks. Before s there may stand two of the next one's bytes, one, or none.

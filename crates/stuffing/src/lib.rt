@@ -1,4 +1,4 @@
-// Byte stuffing of packet bodies: the test and the removal.
+// Byte stuffing of packet bodies: the test, and unstuffing.
 ghost use mathlib.Core.Path.{_≡_};
 ghost use mathlib.Core.Bool.{true};
 ghost use Prim.Native.Nat.{_≤_};
@@ -7,7 +7,7 @@ ghost use Rattle.lists.specs.Write.{overwritten};
 ghost use Rattle.stuffing.specs.Stuffing.{markAt, wellStuffed, unstuff};
 ghost use Rattle.stuffing.specs.Answers.{checked, unstuffedAnswer, removalAnswer, removalOut};
 
-// Whether a body is well stuffed, and how many bytes it has without its stuffing.
+// Whether a body is well stuffed, and its unstuffed byte count.
 pub enum Checked {
     Good(usize),
     Bad,
@@ -20,7 +20,7 @@ pub enum Unstuffed {
     NoRoom,
 }
 
-// The byte at i ends FF FF FD; `before` stands right before the bytes. The last byte is tested first: it is rarely FD.
+// Whether the byte at i ends FF FF FD, where `before` stands right before the bytes. It is tested first: it is rarely FD.
 pub fn ends_mark(before: u8, bytes: &[u8], i: usize) -> bool
     ensures { λ r. ⌜ r ≡ markAt before (now (bytes .entry)) i ⌝ }
 {
@@ -64,7 +64,7 @@ pub fn check(body: &[u8]) -> Checked
     Checked::Good(n)
 }
 
-// The body without its stuffing at the start of out, which has room for it.
+// Writes the body without its stuffing to the start of out, which has room for it.
 fn write_unstuffed(body: &[u8], out: &mut [u8])
     requires { ⌜ (wellStuffed (now body) ≡ true) × (length (unstuff (now body)) ≤ length (now out)) ⌝ }
     ensures { λ _. ⌜ now (out .exit) ≡ overwritten (now (out .entry)) (unstuff (now (body .entry))) ⌝ }
@@ -81,8 +81,8 @@ fn write_unstuffed(body: &[u8], out: &mut [u8])
     }
 }
 
-// Removal: the body without its stuffing goes to the start of out. A body that is not well stuffed is refused first, then
-// a buffer without room; a refusal writes nothing. [N3 N4 N10-N12 N14 S6-S11]
+// Writes the body without its stuffing to the start of out. Refused, in this order: a body that is not well stuffed, a buffer
+// without room. A refusal writes nothing. [N3 N4 N10-N12 N14 S6-S11]
 pub fn unstuff_into(body: &[u8], out: &mut [u8]) -> Unstuffed
     ensures { λ r. ⌜ unstuffedAnswer r ≡ removalAnswer (now (body .entry)) (now (out .entry)) ⌝ }
     ensures { λ _. ⌜ now (out .exit) ≡ removalOut (now (body .entry)) (now (out .entry)) ⌝ }

@@ -1,4 +1,4 @@
-// The stuffed form of packet bodies: its length, and the writing.
+// The stuffed form of packet bodies: its length, and writing it.
 ghost use mathlib.Core.Path.{_≡_};
 ghost use mathlib.Core.List.{_∷_};
 ghost use Prim.Native.Nat.{min};
@@ -7,13 +7,13 @@ ghost use Rattle.lists.specs.Write.{overwritten};
 ghost use Rattle.stuffing.specs.Stuffing.{stuff};
 ghost use Rattle.stuffing_writer.specs.Answers.{lengthWithin};
 
-// A length, where it is within a bound.
+// A length, or that it is past a bound.
 pub enum Length {
     Within(usize),
     Past,
 }
 
-// The stuffed length of the body `first` followed by `rest`, where it is at most `most`. It stops as soon as it is past.
+// The stuffed length of the body `first` followed by `rest`, if it is at most `most`. It stops counting as soon as it is past.
 // [E6 S1 S2]
 pub fn stuffed_len(first: u8, rest: &[u8], most: usize) -> Length
     ensures { λ r. ⌜ r ≡ lengthWithin most (length (stuff (first ∷ now (rest .entry)))) ⌝ }
@@ -40,8 +40,8 @@ pub fn stuffed_len(first: u8, rest: &[u8], most: usize) -> Length
     }
 }
 
-// The stuffed form of the body `first` followed by `rest` at the start of out, as far as out has room. The answer is how many
-// bytes that are; those after them stay. [E9 N14 S1 S2]
+// Writes the stuffed form of the body `first` followed by `rest` to the start of out, as far as there is room, and returns how
+// many bytes that are; those after them stay. [E9 N14 S1 S2]
 pub fn write_stuffed(first: u8, rest: &[u8], out: &mut [u8]) -> usize
     ensures { λ r. ⌜ r ≡ min (length (now (out .entry))) (length (stuff (first ∷ now (rest .entry)))) ⌝ }
     ensures { λ _. ⌜ now (out .exit) ≡ overwritten (now (out .entry)) (take (length (now (out .entry))) (stuff (first ∷ now (rest .entry)))) ⌝ }

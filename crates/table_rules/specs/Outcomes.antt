@@ -9,6 +9,8 @@ use Rattle.lists.specs.Answer.{unlessRefused}
 use Rattle.registers.specs.Registers.{tableSize}
 use Rattle.table_rules.specs.declared.Outcome.{Outcome}
 use Rattle.table_rules.specs.declared.Outcome.the-variants.{Done, DataRange, DataLength, DataLimit, NoAccess, NotTable}
+use Rattle.table_rules.specs.declared.Change.{Change}
+use Rattle.table_rules.specs.declared.Change.the-variants.{Done as Change·Done, NotTable as Change·NotTable}
 
 -- the numbers of the outcomes: error numbers of a status packet, and 21, which is the caller's fault [K5 N5 N11]
 abbrev pub refusalOf : Outcome → Option ℕ
@@ -18,6 +20,11 @@ refusalOf DataLength = some 0x05
 refusalOf DataLimit = some 0x06
 refusalOf NoAccess = some 0x07
 refusalOf NotTable = some 21
+
+-- likewise of a change that any table takes [K5 N5]
+abbrev pub changeRefusal : Change → Option ℕ
+changeRefusal Change·Done = none
+changeRefusal Change·NotTable = some 21
 
 -- [K5]
 abbrev pub isDone : Outcome → Bool

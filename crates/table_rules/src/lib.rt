@@ -1,5 +1,16 @@
 // The write rule: a write is judged whole, on the table as it would then stand. And what becomes of a read or a write.
+use items::SIGNED_BYTES;
+use registers::PERMITS_RAM_WRITE;
+use registers::PERMITS_ROM_WRITE;
+use registers::REG_GOAL_POSITION;
+use registers::REG_MAX_POSITION;
+use registers::REG_MIN_POSITION;
+use registers::REG_TORQUE_ENABLE;
 use registers::Row;
+use registers::SIZE_GOAL_POSITION;
+use registers::SIZE_MAX_POSITION;
+use registers::SIZE_MIN_POSITION;
+use registers::TABLE_BYTES;
 ghost use mathlib.Core.Path.{_≡_};
 ghost use mathlib.Core.Bool.{_&&_, true};
 ghost use Prim.Native.Nat.{_+_, _≤_, _<_};
@@ -24,6 +35,12 @@ pub enum Outcome {
     NotTable,
 }
 
+// What became of a change that any table takes: a table of another size alone is refused.
+pub enum Change {
+    Done,
+    NotTable,
+}
+
 pub fn is_done(outcome: Outcome) -> bool
     ensures { λ r. ⌜ r ≡ isDone outcome ⌝ }
 {
@@ -38,7 +55,7 @@ pub fn is_done(outcome: Outcome) -> bool
 }
 
 // The four bytes at k as a signed number.
-fn word_at(bytes: &[u8], k: usize) -> i32
+fn signed_at(bytes: &[u8], k: usize) -> i32
     requires { ⌜ k + 4 ≤ length (now bytes) ⌝ }
     ensures { λ r. ⌜ r ≡ signed (numberAt (now (bytes .entry)) k 4) ⌝ }
 {
@@ -51,12 +68,12 @@ fn word_after(table: &[u8], address: usize, bytes: &[u8], a: usize) -> i32
     ensures { λ r. ⌜ r ≡ signed (numberAt (stored (now (table .entry)) address (now (bytes .entry))) a 4) ⌝ }
 {
     if a < address {
-        return word_at(table, a);
+        return signed_at(table, a);
     }
     if a - address < bytes.len() {
-        return word_at(bytes, a - address);
+        return signed_at(bytes, a - address);
     }
-    word_at(table, a)
+    signed_at(table, a)
 }
 
 // The bytes from `address` up to `end` have a byte of the register of `size` bytes at `start`.
@@ -64,10 +81,7 @@ fn touched(start: usize, size: usize, address: usize, end: usize) -> bool
     requires { ⌜ start + size ≤ tableSize ⌝ }
     ensures { λ r. ⌜ r ≡ (ltb start end && ltb address (start + size)) ⌝ }
 {
-    if end <= start {
-        return false;
-    }
-    address < start + size
+    start < end && address < start + size
 }
 
 // They have all its bytes.
@@ -75,10 +89,7 @@ fn covered(start: usize, size: usize, address: usize, end: usize) -> bool
     requires { ⌜ start + size ≤ tableSize ⌝ }
     ensures { λ r. ⌜ r ≡ (leb address start && leb (start + size) end) ⌝ }
 {
-    if start < address {
-        return false;
-    }
-    start + size <= end
+    address <= start && start + size <= end
 }
 
 // The value that is written to the register, at k in the data, is in its range.
@@ -88,8 +99,8 @@ fn in_range(bytes: &[u8], k: usize, row: Row) -> bool
 {
     let low = row.low;
     let high = row.high;
-    if row.bytes == 4 {
-        return items::within(word_at(bytes, k), low, high);
+    if row.bytes == SIGNED_BYTES {
+        return items::within(signed_at(bytes, k), low, high);
     }
     items::within(bytes[k] as i32, low, high)
 }
@@ -126,8 +137,8 @@ fn in_order(table: &[u8], address: usize, bytes: &[u8]) -> bool
     requires { ⌜ (address + length (now bytes) ≤ length (now table)) × (length (now table) ≡ tableSize) × (everyTouched address (length (now bytes)) (covers address (length (now bytes))) registers ≡ true) ⌝ }
     ensures { λ r. ⌜ r ≡ leZ (valueOf minPosition (stored (now (table .entry)) address (now (bytes .entry)))) (valueOf maxPosition (stored (now (table .entry)) address (now (bytes .entry)))) ⌝ }
 {
-    let min = word_after(table, address, bytes, 52);
-    let max = word_after(table, address, bytes, 48);
+    let min = word_after(table, address, bytes, REG_MIN_POSITION);
+    let max = word_after(table, address, bytes, REG_MAX_POSITION);
     min <= max
 }
 
@@ -137,10 +148,10 @@ fn limits_ordered(table: &[u8], address: usize, bytes: &[u8]) -> bool
     ensures { λ r. ⌜ r ≡ limitsOrdered address (length (now (bytes .entry))) (stored (now (table .entry)) address (now (bytes .entry))) ⌝ }
 {
     let end = address + bytes.len();
-    if touched(52, 4, address, end) {
+    if touched(REG_MIN_POSITION, SIZE_MIN_POSITION, address, end) {
         return in_order(table, address, bytes);
     }
-    if touched(48, 4, address, end) {
+    if touched(REG_MAX_POSITION, SIZE_MAX_POSITION, address, end) {
         return in_order(table, address, bytes);
     }
     true
@@ -151,13 +162,14 @@ fn goal_within(table: &[u8], address: usize, bytes: &[u8]) -> bool
     requires { ⌜ (address + length (now bytes) ≤ length (now table)) × (length (now table) ≡ tableSize) × (everyTouched address (length (now bytes)) (covers address (length (now bytes))) registers ≡ true) ⌝ }
     ensures { λ r. ⌜ r ≡ goalWithin address (length (now (bytes .entry))) (stored (now (table .entry)) address (now (bytes .entry))) ⌝ }
 {
-    if !touched(116, 4, address, address + bytes.len()) {
+    let end = address + bytes.len();
+    if !touched(REG_GOAL_POSITION, SIZE_GOAL_POSITION, address, end) {
         return true;
     }
     items::within(
-        word_after(table, address, bytes, 116),
-        word_after(table, address, bytes, 52),
-        word_after(table, address, bytes, 48),
+        word_after(table, address, bytes, REG_GOAL_POSITION),
+        word_after(table, address, bytes, REG_MIN_POSITION),
+        word_after(table, address, bytes, REG_MAX_POSITION),
     )
 }
 
@@ -166,14 +178,18 @@ fn least_to_write(table: &[u8]) -> u8
     requires { ⌜ length (now table) ≡ tableSize ⌝ }
     ensures { λ r. ⌜ r ≡ leastToWrite (now (table .entry)) ⌝ }
 {
-    if table[64] == 0 { 2 } else { 3 }
+    if table[REG_TORQUE_ENABLE] == 0 {
+        PERMITS_ROM_WRITE
+    } else {
+        PERMITS_RAM_WRITE
+    }
 }
 
 // The write rule, on a table that stays as it is. [M5 N5 T3 T6-T11 T14]
 pub fn judge(table: &[u8], address: u16, bytes: &[u8]) -> Outcome
     ensures { λ r. ⌜ refusalOf r ≡ inTable (now (table .entry)) (writeRule (now (table .entry)) address (now (bytes .entry))) ⌝ }
 {
-    if table.len() != 136 {
+    if table.len() != TABLE_BYTES {
         return Outcome::NotTable;
     }
     if bytes.len() == 0 {

@@ -2,10 +2,10 @@
 // count, and as many bytes as it says:
 //   0  a text, printed as it is
 //   1  a new device: ID and position, low byte first, on a fresh control table; printed as `device ID POSITION`
-//   2  a segment: prints its events, as `line` does, and after each what the device answers, `status SLOT BYTES` or `silent`, or
-//      `refused` where its ID is above 252; then `stored ADDRESS VALUE` for each byte of the control table that has changed
+//   2  a segment: prints its events, as `line` does, and after each the device's reply, `status SLOT BYTES` or `silent`, or
+//      `refused` if its ID is above 252; then `stored ADDRESS VALUE` for each byte of the control table that has changed
 // Reading stops at a record that is cut short or of another form. The last line, `end BYTES`, has the count of bytes before it.
-// Until the first device comes the control table holds 0.
+// Before the first device the control table is all 0.
 use device::Replied;
 use framer::Step;
 use framer::StepEvent;
@@ -29,7 +29,7 @@ fn least(a: usize, b: usize) -> usize
     if a < b { a } else { b }
 }
 
-// The first n bytes, or all where there are not so many.
+// The first n bytes, or all if there are fewer.
 fn first(bytes: &[u8], n: usize) -> &[u8] {
     if n <= bytes.len() { &bytes[..n] } else { bytes }
 }
@@ -208,7 +208,7 @@ fn hear_event(
     }
 }
 
-// A feeding call, or when the segment is over, a gap call.
+// A feeding call or, when the segment is over, a gap call.
 fn next(
     over: bool,
     held: &mut [u8; 1030],
@@ -286,7 +286,7 @@ fn record(
     }
 }
 
-// Answers the count of bytes in the records that were read.
+// Returns the count of bytes in the records that were read.
 fn records(input: &[u8], table: &mut [u8; 136]) -> usize {
     let mut registered = instructions::dropped();
     let mut at = 0;

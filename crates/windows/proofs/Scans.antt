@@ -7,36 +7,36 @@ use native.Mathlib.Omega.{arith}
 use lib.ListN.{length, take, drop, length-drop, drop-of-length-le}
 use lib.Seq.{drop-drop}
 use Rattle.reading.specs.Rules.{Rules, Laws, isPacket, isBadChecksum, isWaiting, isNothing}
-use Rattle.reading.specs.Rules.{Verdict as Ruling}
+use Rattle.reading.specs.Rules.{Verdict}
 use Rattle.reading.specs.Reading.{Mode, open′, closed, packet, badChecksum}
 use Rattle.reading.specs.Calls.{firstAt, first}
 use Rattle.reading.proofs.Progress.{first-at, first-none, waiting-patient, packet-short}
 use Rattle.packet.specs.Verdict.{answerFor}
-use Rattle.packet.specs.declared.Verdict.the-variants.{Packet, BadChecksum, Waiting, Nothing}
+use Rattle.packet.specs.declared.Judgement.the-variants.{Packet, BadChecksum, Waiting, Nothing}
 use Rattle.reading.specs.Progress.{Patient}
 use Rattle.windows.specs.Scan.{modeOf, Decides, Waits}
 
 -- ---- the verdict behind the code's answer
 
-pub was-packet : (v : Ruling) (k n : ℕ) → answerFor v k ≡ Packet n → v ≡ isPacket n
+pub was-packet : (v : Verdict) (k n : ℕ) → answerFor v k ≡ Packet n → v ≡ isPacket n
 was-packet (isPacket m) k n e = cc
 was-packet (isBadChecksum id) k n e = let z : _≡_ {A = ℕ} 0 1 = cc in absurd (omega arith)
 was-packet isWaiting k n e = let z : _≡_ {A = ℕ} 0 1 = cc in absurd (omega arith)
 was-packet isNothing k n e = let z : _≡_ {A = ℕ} 0 1 = cc in absurd (omega arith)
 
-pub was-bad : (v : Ruling) (k id : ℕ) → answerFor v k ≡ BadChecksum id → v ≡ isBadChecksum id
+pub was-bad : (v : Verdict) (k id : ℕ) → answerFor v k ≡ BadChecksum id → v ≡ isBadChecksum id
 was-bad (isPacket m) k id e = let z : _≡_ {A = ℕ} 0 1 = cc in absurd (omega arith)
 was-bad (isBadChecksum i) k id e = cc
 was-bad isWaiting k id e = let z : _≡_ {A = ℕ} 0 1 = cc in absurd (omega arith)
 was-bad isNothing k id e = let z : _≡_ {A = ℕ} 0 1 = cc in absurd (omega arith)
 
-pub was-waiting : (v : Ruling) (k n : ℕ) → answerFor v k ≡ Waiting n → (v ≡ isWaiting) × (k ≡ n)
+pub was-waiting : (v : Verdict) (k n : ℕ) → answerFor v k ≡ Waiting n → (v ≡ isWaiting) × (k ≡ n)
 was-waiting (isPacket m) k n e = let z : _≡_ {A = ℕ} 0 1 = cc in absurd (omega arith)
 was-waiting (isBadChecksum i) k n e = let z : _≡_ {A = ℕ} 0 1 = cc in absurd (omega arith)
 was-waiting isWaiting k n e = (refl, cc)
 was-waiting isNothing k n e = let z : _≡_ {A = ℕ} 0 1 = cc in absurd (omega arith)
 
-pub was-nothing : (v : Ruling) (k : ℕ) → answerFor v k ≡ Nothing → v ≡ isNothing
+pub was-nothing : (v : Verdict) (k : ℕ) → answerFor v k ≡ Nothing → v ≡ isNothing
 was-nothing (isPacket m) k e = let z : _≡_ {A = ℕ} 0 1 = cc in absurd (omega arith)
 was-nothing (isBadChecksum i) k e = let z : _≡_ {A = ℕ} 0 1 = cc in absurd (omega arith)
 was-nothing isWaiting k e = let z : _≡_ {A = ℕ} 0 1 = cc in absurd (omega arith)
@@ -46,7 +46,7 @@ was-nothing isNothing k e = refl
 
 module _ (R : Rules) (L : Laws R) (m : Mode) (s : List ℕ) (from at : ℕ) (begins : from ≤ at)
     (inv : first R m (drop from s) ≡ first R m (drop at s)) where
-  here : (v : Ruling) → at < length s → R .verdict (drop at s) ≡ v
+  here : (v : Verdict) → at < length s → R .verdict (drop at s) ≡ v
       → first R m (drop from s) ≡ firstAt m v (drop at s) (first R m (drop (at + 1) s))
   here v h e =
       inv ∙ first-at R m (drop at s) v (simp length-drop (omega arith)) e

@@ -8,7 +8,7 @@ use native.Mathlib.Omega.{arith}
 use lib.ListN.{length, take, drop, length-take, length-drop}
 use lib.Seq.{take-all}
 use Rattle.reading.specs.Rules.{Rules, Laws, isPacket, isBadChecksum, isWaiting, isNothing}
-use Rattle.reading.specs.Rules.{Verdict as Ruling}
+use Rattle.reading.specs.Rules.{Verdict}
 use Rattle.reading.specs.Reading.{open′}
 use Rattle.reading.specs.Calls.{first}
 use Rattle.reading.specs.Progress.{Reached, Settles}
@@ -48,7 +48,7 @@ module _ (R : Rules) (L : Laws R) (settled : List ℕ → ℕ) (S : Settles R se
           }
 
       -- `at` decides an event
-      module _ (v : Ruling) (e : R .verdict (drop at chunk) ≡ v) (d : v ≡ isWaiting → ⊥) (o : 0 < R .lacks [])
+      module _ (v : Verdict) (e : R .verdict (drop at chunk) ≡ v) (d : v ≡ isWaiting → ⊥) (o : 0 < R .lacks [])
           (n : R .lacks [] ≤ settled (drop at chunk)) where
         d′ : R .verdict (drop at chunk) ≡ isWaiting → ⊥
         d′ i = d (sym e ∙ i)

@@ -7,7 +7,7 @@ use Prim.Native.Nat.{ℕ, _+_, _≤_, _<_}
 use lib.ListN.{length, take, drop}
 use Rattle.reading.specs.Rules.{Rules}
 use Rattle.reading.specs.Reading.{Event, packet, badChecksum, Mode, open′, closed}
-use Rattle.reading.specs.Calls.{event, silent, first, Reply, fed}
+use Rattle.reading.specs.Calls.{event, silent, first, CallResult, fed}
 use Rattle.reading.specs.Progress.{Reached, Patient}
 use Rattle.windows.specs.declared.Stop.{Stop}
 use Rattle.windows.specs.declared.Stop.the-variants.{Done, Passed, Full}
@@ -50,25 +50,25 @@ onFrom (BadChecksum at id) = at + 1
 onFrom (Waiting at) = at
 
 -- the byte count of the packet, if it is one
-abbrev pub sizeOf : Scanned → ℕ
-sizeOf (Packet at n) = n
-sizeOf (BadChecksum at id) = 0
-sizeOf (Waiting at) = 0
+abbrev pub sizeSeen : Scanned → ℕ
+sizeSeen (Packet at n) = n
+sizeSeen (BadChecksum at id) = 0
+sizeSeen (Waiting at) = 0
 
 abbrev pub answerOf : List ℕ → Scanned → Option Event
 answerOf s (Packet at n) = some (packet (take n (drop at s)))
 answerOf s (BadChecksum at id) = some (badChecksum id)
 answerOf s (Waiting at) = none
 
--- the reply that ends with what was seen of the bytes s, n bytes taken
-abbrev pub replyOf : List ℕ → ℕ → Scanned → Reply
-replyOf s n v = record { taken = n; answer = answerOf s v; held = drop (onFrom v) s }
+-- the result that ends with what was seen of the bytes s, n bytes taken
+abbrev pub resultOf : List ℕ → ℕ → Scanned → CallResult
+resultOf s n v = record { taken = n; answer = answerOf s v; held = drop (onFrom v) s }
 
 -- a feeding call with the chunk c on a reader that holds h ends so
 pub record Ends (R : Rules) (h c s : List ℕ) (n : ℕ) (v : Scanned) : Type 0 where
   pub fits : onFrom v ≤ length s
-  pub short : sizeOf v ≤ R .longest
-  pub fed-is : fed R h c ≡ replyOf s n v
+  pub short : sizeSeen v ≤ R .longest
+  pub fed-is : fed R h c ≡ resultOf s n v
 
 -- where the held bytes wait: the window begins at offset `at` of the bytes s
 pub record Stops (R : Rules) (h c s : List ℕ) (n at : ℕ) : Type 0 where

@@ -1,5 +1,5 @@
 // Looking for the first event in held bytes and in a chunk, in place.
-use packet::Verdict;
+use packet::Judgement;
 ghost use mathlib.Core.Path.{_≡_};
 ghost use mathlib.Core.List.{[], _++_};
 ghost use mathlib.Core.Logic.{_⊎_};
@@ -64,19 +64,19 @@ fn scan(s: &[u8], from: usize, live: bool) -> Live
     let mut at = from;
     while at < s.len() {
         match packet::judge(s, at) {
-            Verdict::Packet(count) => {
+            Judgement::Packet(count) => {
                 return Live {
                     seen: Scanned::Packet { at, count },
                     lacks: 0,
                 };
             }
-            Verdict::BadChecksum(id) => {
+            Judgement::BadChecksum(id) => {
                 return Live {
                     seen: Scanned::BadChecksum { at, id },
                     lacks: 0,
                 };
             }
-            Verdict::Waiting(lacks) => {
+            Judgement::Waiting(lacks) => {
                 if live {
                     return Live {
                         seen: Scanned::Waiting { at },
@@ -84,7 +84,7 @@ fn scan(s: &[u8], from: usize, live: bool) -> Live
                     };
                 }
             }
-            Verdict::Nothing => {}
+            Judgement::Nothing => {}
         }
         at += 1;
     }
@@ -112,27 +112,27 @@ pub fn advance(chunk: &[u8]) -> Window
     let mut end = 0;
     while at < chunk.len() {
         match packet::judge(chunk, at) {
-            Verdict::Packet(count) => {
+            Judgement::Packet(count) => {
                 let last = greatest(end, at + count);
                 return Window {
                     seen: Scanned::Packet { at, count },
                     end: last,
                 };
             }
-            Verdict::BadChecksum(id) => {
+            Judgement::BadChecksum(id) => {
                 let last = greatest(end, at + packet_front::settled(chunk, at));
                 return Window {
                     seen: Scanned::BadChecksum { at, id },
                     end: last,
                 };
             }
-            Verdict::Waiting(_) => {
+            Judgement::Waiting(_) => {
                 return Window {
                     seen: Scanned::Waiting { at },
                     end: chunk.len(),
                 };
             }
-            Verdict::Nothing => {}
+            Judgement::Nothing => {}
         }
         end = greatest(end, at + packet_front::settled(chunk, at));
         at += 1;

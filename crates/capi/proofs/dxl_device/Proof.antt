@@ -9,8 +9,8 @@ use Rattle.capi.proofs.dxl_device.Tie as tie
 heard-by-requires : tie.Need-heard-by-requires
 heard-by-requires c κs = search needs
 
-id-by-requires : tie.Need-id-by-requires
-id-by-requires c κs = search needs
+id-of-kind-requires : tie.Need-id-of-kind-requires
+id-of-kind-requires c κs = search needs
 
 hear-requires : tie.Need-hear-requires
 hear-requires c κs = search needs
@@ -29,7 +29,7 @@ returns c =
     let h = c .before .before .before .before .before in
     let e = h .hear .ensures in
     let i = h .before .before .before in
-    rw (sym (i .before .heard-by .ensures), sym (i .id-by .ensures))
+    rw (sym (i .before .heard-by .ensures), sym (i .id-of-kind .ensures))
     (c .response .ensures ∙ ap₂ deviceNumbers (e .0) (e .1 .0), ((e .1 .1 .0, e .1 .1 .1), (device-promises, stays-accepted)))
 
 pub dxl-device-spec : {M : Type 1} → statement M
@@ -37,7 +37,7 @@ dxl-device-spec =
     tie.close
     (tie.spec
     heard-by-requires
-    id-by-requires
+    id-of-kind-requires
     hear-requires
     response-requires
     same-length

@@ -1,6 +1,6 @@
 use mathlib.Core.Path.{ap, _∙_}
 use Rattle.numbers.specs.Exported.{stepNumbers}
-use Rattle.reader.specs.Records.{saidOn, packetOn}
+use Rattle.reader.specs.Records.{stepOn, packetOn}
 use Rattle.packet.proofs.Burst.{burst-detected}
 use Rattle.reader.proofs.Records.{record-left, reader-promises}
 use borrow.Author.Needs.{needs}
@@ -14,7 +14,7 @@ step-requires : tie.Need-step-requires
 step-requires c κs = search needs
 
 returns : tie.Need-returns
-unfolding saidOn packetOn
+unfolding stepOn packetOn
 returns c =
     let e = c .before .feed-in .ensures in (
       c .step .ensures ∙ ap stepNumbers (e .0),

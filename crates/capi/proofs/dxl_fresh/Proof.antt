@@ -10,8 +10,8 @@ use Rattle.capi.proofs.dxl_fresh.Tie as tie
 fresh-requires : tie.Need-fresh-requires
 fresh-requires c κs = search needs
 
-outcome-requires : tie.Need-outcome-requires
-outcome-requires c κs = search needs
+change-requires : tie.Need-change-requires
+change-requires c κs = search needs
 
 same-length : tie.Need-same-length
 same-length c = search needs
@@ -19,9 +19,9 @@ same-length c = search needs
 returns : tie.Need-returns
 returns c =
     let e = c .before .before .before .fresh in (
-      toZ-ofZ {w = w64} (record { sfits = c .outcome .ok }) ∙ c .outcome .ensures ∙ ap exportedRefusal (e .ensures .0),
+      toZ-ofZ {w = w64} (record { sfits = c .change .ok }) ∙ c .change .ensures ∙ ap exportedRefusal (e .ensures .0),
       (e .ensures .1, stays-accepted),
     )
 
 pub dxl-fresh-spec : {M : Type 1} → statement M
-dxl-fresh-spec = tie.close (tie.spec fresh-requires outcome-requires same-length returns)
+dxl-fresh-spec = tie.close (tie.spec fresh-requires change-requires same-length returns)

@@ -1,6 +1,6 @@
 use mathlib.Core.Path.{ap, _∙_}
 use Rattle.numbers.specs.Exported.{stepNumbers}
-use Rattle.reader.specs.Records.{saidOn, packetOn}
+use Rattle.reader.specs.Records.{stepOn, packetOn}
 use Rattle.reader.proofs.Records.{record-left, reader-promises}
 use borrow.Author.Needs.{needs}
 use Rattle.capi.proofs.dxl_gap.Statement.{statement}
@@ -13,7 +13,7 @@ step-requires : tie.Need-step-requires
 step-requires c κs = search needs
 
 returns : tie.Need-returns
-unfolding saidOn packetOn
+unfolding stepOn packetOn
 returns c =
     let e = c .before .gap-in .ensures in (
       c .step .ensures ∙ ap stepNumbers (e .0),

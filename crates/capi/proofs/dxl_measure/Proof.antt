@@ -12,8 +12,8 @@ use Rattle.capi.proofs.dxl_measure.Tie as tie
 measure-requires : tie.Need-measure-requires
 measure-requires c κs = search needs
 
-outcome-requires : tie.Need-outcome-requires
-outcome-requires c κs = search needs
+change-requires : tie.Need-change-requires
+change-requires c κs = search needs
 
 same-length : tie.Need-same-length
 same-length c = search needs
@@ -22,10 +22,10 @@ returns : tie.Need-returns
 returns c =
     let a = c .before .before .before .before .before .before in
     let e = c .before .before .before .measure in (
-      toZ-ofZ {w = w64} (record { sfits = c .outcome .ok }) ∙ c .outcome .ensures ∙ ap exportedRefusal (e .ensures .0),
+      toZ-ofZ {w = w64} (record { sfits = c .change .ok }) ∙ c .change .ensures ∙ ap exportedRefusal (e .ensures .0),
       (e .ensures .1 ∙ ap (λ (z : ℤ). measureOut (a .args .table .now) z (a .args .hardware-error)) (toZ-ofZ {w = w32} (a .fits .position)), stays-accepted),
     )
 
 pub dxl-measure-spec : {M : Type 1} → statement M
 dxl-measure-spec =
-    tie.close (tie.spec measure-requires outcome-requires same-length returns)
+    tie.close (tie.spec measure-requires change-requires same-length returns)

@@ -45,7 +45,7 @@ use denote.Triple.Walked.{says, Stays, stay-ref, gave-ref, walkOf, goes-ref, goe
 use borrow.Table.OneValue.{part-in, part-out}
 use Rattle.reading.specs.Calls.{gap, call}
 use Rattle.packet.specs.Verdict.{protocol2}
-use Rattle.framer.specs.Answer.{stepFor, heldFor, packetFor}
+use Rattle.framer.specs.Results.{stepFor, heldFor, packetFor}
 use Rattle.framer.specs.declared.Step.{Step}
 use Rattle.framer.proofs.Step as R
 use Rattle.framer.proofs.Step.Laws as R′
@@ -53,7 +53,7 @@ use Rattle.framer.proofs.gap_in as gap-in
 use Rattle.framer.proofs.gap_in.Symbol as gap-in-def
 use Rattle.framer.proofs.gap_in.Symbol.{name as #framer·gap-in}
 use Rattle.framer.proofs.gap_in.Met as gap-in-thm
-use Rattle.reader.specs.Records.{saidOn, packetOn}
+use Rattle.reader.specs.Records.{stepOn, packetOn}
 use Rattle.reader.specs.declared.Reader.{Reader}
 use Rattle.reader.proofs.Reader as T
 use Rattle.reader.proofs.Reader.Laws as T′
@@ -130,7 +130,7 @@ module _ {M : Type 1} (𝓤 : URA M) (H : Heap 𝓤) (A : Atoms 𝓤) (W : Given
 
   exits : (r : Step) (zs ps : List ℕ) (m : StepNumbers) → Is N.the-row m (N′.lowered m ∷ []) → Says r zs ps → m ≡ stepNumbers r
       → ent 𝓤 (⋆ 𝓤 H A (‵ (fobs γ (T.the-row .coded .code (holding zs (r .held)))) ∷ ‵ (fbor κ (Body (mem T.the-row) b o γ)) ∷ ‵ (flft κ q) ∷ (‵ (flft κ′ q′) ⊛ ‵ ftrue) ∷ ‵ (fres (t .name) (Out .coded .code ps)) ∷ [])) (Post (N′.lowered m))
-  unfolding saidOn packetOn
+  unfolding stepOn packetOn
   exits r zs ps m is e n =
       qed W (‵ (fobs γ (T.the-row .coded .code (holding zs (r .held)))) ∷ ‵ (fbor κ (Body (mem T.the-row) b o γ)) ∷ ‵ (flft κ q) ∷ (‵ (flft κ′ q′) ⊛ ‵ ftrue) ∷ ‵ (fres (t .name) (Out .coded .code ps)) ∷ []) ∵
       suffices ! _ (ends-at 𝓤 H A f.ended stayed (f.clauses 𝓤 H A at-mem run) W (((κ, (κ′, tt)), (q, (q′, tt)), tt, a, vals), tt) (N′.lowered m) m (holding zs (r .held), (ps, tt)) (tt, (tt, tt))) $

@@ -18,11 +18,20 @@ returns c = let e = ne-eqb _ _ (c .if1 .taken) in (rw e, rw e)
 clear-requires : tie.Need-clear-requires
 clear-requires c κs = search needs
 
+cast-table : tie.Need-cast-table
+cast-table c = search needs
+
 slice-write-table : tie.Need-slice-write-table
 slice-write-table c = search needs
 
+cast-table-2 : tie.Need-cast-table-2
+cast-table-2 c = search needs
+
+add-table : tie.Need-add-table
+add-table c = search needs
+
 slice-write-table-2 : tie.Need-slice-write-table-2
-slice-write-table-2 c = search needs
+slice-write-table-2 c = simp length-set (omega arith)
 
 slice-write-table-3 : tie.Need-slice-write-table-3
 slice-write-table-3 c = simp length-set (omega arith)
@@ -33,8 +42,17 @@ slice-write-table-4 c = simp length-set (omega arith)
 slice-write-table-5 : tie.Need-slice-write-table-5
 slice-write-table-5 c = simp length-set (omega arith)
 
+cast-table-3 : tie.Need-cast-table-3
+cast-table-3 c = search needs
+
 slice-write-table-6 : tie.Need-slice-write-table-6
 slice-write-table-6 c = simp length-set (omega arith)
+
+cast-table-4 : tie.Need-cast-table-4
+cast-table-4 c = search needs
+
+add-table-2 : tie.Need-add-table-2
+add-table-2 c = search needs
 
 slice-write-table-7 : tie.Need-slice-write-table-7
 slice-write-table-7 c = simp length-set (omega arith)
@@ -64,12 +82,18 @@ fresh-spec =
     (tie.spec
     returns
     clear-requires
+    cast-table
     slice-write-table
+    cast-table-2
+    add-table
     slice-write-table-2
     slice-write-table-3
     slice-write-table-4
     slice-write-table-5
+    cast-table-3
     slice-write-table-6
+    cast-table-4
+    add-table-2
     slice-write-table-7
     slice-write-table-8
     same-length

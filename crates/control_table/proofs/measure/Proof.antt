@@ -24,17 +24,26 @@ slice-write-table c = search needs
 cast-table-2 : tie.Need-cast-table-2
 cast-table-2 c = search needs
 
+add-table : tie.Need-add-table
+add-table c = search needs
+
 slice-write-table-2 : tie.Need-slice-write-table-2
 slice-write-table-2 c = search needs
 
 cast-table-3 : tie.Need-cast-table-3
 cast-table-3 c = search needs
 
+add-table-2 : tie.Need-add-table-2
+add-table-2 c = search needs
+
 slice-write-table-3 : tie.Need-slice-write-table-3
 slice-write-table-3 c = search needs
 
 cast-table-4 : tie.Need-cast-table-4
 cast-table-4 c = search needs
+
+add-table-3 : tie.Need-add-table-3
+add-table-3 c = search needs
 
 slice-write-table-4 : tie.Need-slice-write-table-4
 slice-write-table-4 c = simp length-set (omega arith)
@@ -61,10 +70,13 @@ measure-spec =
     cast-table
     slice-write-table
     cast-table-2
+    add-table
     slice-write-table-2
     cast-table-3
+    add-table-2
     slice-write-table-3
     cast-table-4
+    add-table-3
     slice-write-table-4
     slice-write-table-5
     same-length

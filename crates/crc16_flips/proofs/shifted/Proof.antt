@@ -5,7 +5,6 @@ use native.Mathlib.Omega.{arith}
 use lib.Bits.{bitXor}
 use Rattle.crc.specs.Crc.{polynomial}
 use Rattle.crc.proofs.Linear.{shift-flat}
-use borrow.Author.Needs.{needs}
 use Rattle.crc16_flips.proofs.shifted.Statement.{statement}
 use Rattle.crc16_flips.proofs.shifted.Tie as tie
 

@@ -1,7 +1,7 @@
 use mathlib.Core.Path.{ap, _∙_}
 use Rattle.status.specs.declared.Reply.{Reply}
 use Rattle.device.specs.Device.{Carried}
-use Rattle.device.specs.Steps.{carriedOf}
+use Rattle.device.specs.Results.{carriedOf}
 use Rattle.device.proofs.Replies.{to-own, to-all, to-another}
 use borrow.Author.Needs.{needs}
 use Rattle.device.proofs.carry_out.Statement.{statement}
@@ -10,8 +10,8 @@ use Rattle.device.proofs.carry_out.Tie as tie
 slice-read-if1 : tie.Need-slice-read-if1
 slice-read-if1 c = search needs
 
-heed-requires : tie.Need-heed-requires
-heed-requires c κs = search needs
+execute-requires : tie.Need-execute-requires
+execute-requires c κs = search needs
 
 same-length : tie.Need-same-length
 same-length c = search needs
@@ -22,10 +22,10 @@ returns c =
     let k = r .before .before in
     let a = k .before .before .before .before .args in
     let e = to-own (a .table .now) (a .registered) (a .heard) (a .id) (a .body .now) (k .if1 .taken) in
-    (r .heed .ensures .0 ∙ ap carriedOf e, r .heed .ensures .1 ∙ ap (λ (x : Carried). x .table) e)
+    (r .execute .ensures .0 ∙ ap carriedOf e, r .execute .ensures .1 ∙ ap (λ (x : Carried). x .table) e)
 
-heed-requires-2 : tie.Need-heed-requires-2
-heed-requires-2 c κs = search needs
+execute-requires-2 : tie.Need-execute-requires-2
+execute-requires-2 c κs = search needs
 
 same-length-2 : tie.Need-same-length-2
 same-length-2 c = search needs
@@ -36,7 +36,7 @@ returns-2 c =
     let k = r .before .before in
     let a = k .before .before .before .before .before .args in
     let e = to-all (a .table .now) (a .registered) (a .heard) (a .id) (a .body .now) (k .before .if1 .left) (k .if2 .taken) in
-    (r .heed2 .ensures .0 ∙ ap carriedOf e, r .heed2 .ensures .1 ∙ ap (λ (x : Carried). x .table) e)
+    (r .execute2 .ensures .0 ∙ ap carriedOf e, r .execute2 .ensures .1 ∙ ap (λ (x : Carried). x .table) e)
 
 silence-requires : tie.Need-silence-requires
 silence-requires c κs = search needs
@@ -53,10 +53,10 @@ carry-out-spec =
     tie.close
     (tie.spec
     slice-read-if1
-    heed-requires
+    execute-requires
     same-length
     returns
-    heed-requires-2
+    execute-requires-2
     same-length-2
     returns-2
     silence-requires

@@ -1,10 +1,10 @@
 use borrow.Author.Needs.{needs}
-use Rattle.framer.proofs.Replies.{replied}
+use Rattle.framer.proofs.Deliveries.{replied}
 use Rattle.framer.proofs.deliver.Statement.{statement}
 use Rattle.framer.proofs.deliver.Tie as tie
 
-tell-requires : tie.Need-tell-requires
-tell-requires c κs = search needs
+report-requires : tie.Need-report-requires
+report-requires c κs = search needs
 
 on-from-requires : tie.Need-on-from-requires
 on-from-requires c κs = search needs
@@ -27,7 +27,7 @@ same-length-2 c = search needs
 returns : tie.Need-returns
 returns c =
     let s = c .before .before .before .before .before .before .before .before .before .before .before .before .before in
-    let t = c .before .before .before .before .before .before .before .before .tell .ensures in
+    let t = c .before .before .before .before .before .before .before .before .report .ensures in
     replied (s .args .held .now) _ _ _ _ _ _ (s .args .seen) _ _ (c .stepped .ensures) (c .before .before .before .before .before .on-from .ensures) (s .pre .0)
     (s .pre .1) (t .0) (t .1) (c .before .before .before .shift .ensures)
 
@@ -35,7 +35,7 @@ pub deliver-spec : {M : Type 1} → statement M
 deliver-spec =
     tie.close
     (tie.spec
-    tell-requires
+    report-requires
     on-from-requires
     shift-requires
     sub-stepped

@@ -3,12 +3,12 @@ use native.Mathlib.Omega.{arith}
 use lib.ListN.{length-take}
 use borrow.Author.Needs.{needs}
 use Rattle.buffers.proofs.Parts.{placed-whole}
-use Rattle.framer.proofs.Replies.{replied}
+use Rattle.framer.proofs.Deliveries.{replied}
 use Rattle.framer.proofs.deliver_chunk.Statement.{statement}
 use Rattle.framer.proofs.deliver_chunk.Tie as tie
 
-tell-requires : tie.Need-tell-requires
-tell-requires c κs = search needs
+report-requires : tie.Need-report-requires
+report-requires c κs = search needs
 
 on-from-requires : tie.Need-on-from-requires
 on-from-requires c κs = search needs
@@ -43,7 +43,7 @@ same-length-2 c = search needs
 returns : tie.Need-returns
 returns c =
     let s = c .before .before .before .before .before .before .before .before .before .before .before .before .before .before in
-    let t = c .before .before .before .before .before .before .before .before .before .tell .ensures in
+    let t = c .before .before .before .before .before .before .before .before .before .report .ensures in
     replied (s .args .chunk .now) _ _ _ _ _ _ (s .args .seen) _ _ (c .stepped .ensures) (c .before .before .before .before .before .before .on-from .ensures) (s .pre .0)
     (s .pre .1) (t .0) (t .1)
     (c .before .before .before .place .ensures ∙ placed-whole (s .args .held .now) _ 0 (simp length-take (omega (arith, s .pre .2))))
@@ -52,7 +52,7 @@ pub deliver-chunk-spec : {M : Type 1} → statement M
 deliver-chunk-spec =
     tie.close
     (tie.spec
-    tell-requires
+    report-requires
     on-from-requires
     sub-place
     part-place-start

@@ -4,7 +4,7 @@ use native.Mathlib.Omega.{arith}
 use lib.ListN.{length, length-set, length-take}
 use borrow.Author.Tests.{eq-eqb}
 use Rattle.instructions.specs.Instructions.{Effect, action}
-use Rattle.instructions.specs.Steps.{doneOf}
+use Rattle.instructions.specs.Results.{doneOf}
 use Rattle.instructions.proofs.Sized.{done, not-done}
 use Rattle.instructions.proofs.Acting.{eight, acted}
 use borrow.Author.Needs.{needs}

@@ -2,7 +2,7 @@ use mathlib.Core.Path.{refl, ap}
 use mathlib.Core.List.{List}
 use Prim.Native.Nat.{ℕ}
 use Rattle.instructions.specs.Instructions.{ping}
-use Rattle.instructions.specs.Steps.{doneWith}
+use Rattle.instructions.specs.Results.{doneWith}
 use Rattle.instructions.proofs.Sized.{done, not-done}
 use Rattle.instructions.proofs.Options.{identity-bytes}
 use borrow.Author.Needs.{needs}
@@ -21,11 +21,17 @@ returns c =
 shared-slice-read-t7 : tie.Need-shared-slice-read-t7
 shared-slice-read-t7 c = search needs
 
+add-t4 : tie.Need-add-t4
+add-t4 c = search needs
+
 shared-slice-read-t9 : tie.Need-shared-slice-read-t9
 shared-slice-read-t9 c = search needs
 
 shared-slice-read-t11 : tie.Need-shared-slice-read-t11
 shared-slice-read-t11 c = search needs
+
+add-t4-2 : tie.Need-add-t4-2
+add-t4-2 c = search needs
 
 returns-2 : tie.Need-returns-2
 returns-2 c =
@@ -41,6 +47,8 @@ ping-spec =
     without-data-requires
     returns
     shared-slice-read-t7
+    add-t4
     shared-slice-read-t9
     shared-slice-read-t11
+    add-t4-2
     returns-2)

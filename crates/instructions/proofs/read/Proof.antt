@@ -2,7 +2,7 @@ use mathlib.Core.Path.{sym, ap, _∙_}
 use mathlib.Core.List.{[]}
 use Prim.Native.Nat.{ℕ}
 use borrow.Author.Tests.{not-true, not-false}
-use Rattle.instructions.specs.Steps.{doneWith}
+use Rattle.instructions.specs.Results.{doneWith}
 use Rattle.instructions.proofs.Effects.{read-refused, read-done}
 use borrow.Author.Needs.{needs}
 use Rattle.instructions.proofs.read.Statement.{statement}

@@ -3,7 +3,7 @@ use mathlib.Core.List.{[]}
 use Rattle.table_rules.proofs.Size.{on-table}
 use Rattle.instructions.specs.declared.RegisteredWrite.{RegisteredWrite}
 use Rattle.instructions.specs.Instructions.{reboot}
-use Rattle.instructions.specs.Steps.{doneWith}
+use Rattle.instructions.specs.Results.{doneWith}
 use Rattle.instructions.proofs.Sized.{done, not-done}
 use borrow.Author.Needs.{needs}
 use Rattle.instructions.proofs.reboot.Statement.{statement}

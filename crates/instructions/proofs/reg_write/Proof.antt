@@ -9,7 +9,7 @@ use Rattle.registers.specs.Registers.{tableSize}
 use Rattle.table_rules.specs.Outcomes.{isDone}
 use Rattle.table_rules.proofs.Judged.{done-none}
 use Rattle.control_table.proofs.Theorems.{write-short}
-use Rattle.instructions.specs.Steps.{doneWith}
+use Rattle.instructions.specs.Results.{doneWith}
 use Rattle.instructions.specs.Instructions.{regWrite}
 use Rattle.instructions.proofs.Sized.{done}
 use Rattle.instructions.proofs.Effects.{reg-write-refused, reg-write-stays, reg-write-sized, reg-write-done, reg-write-table}

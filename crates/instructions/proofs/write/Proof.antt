@@ -1,7 +1,7 @@
 use mathlib.Core.Path.{ap, _∙_}
 use mathlib.Core.List.{[]}
 use Prim.Native.Nat.{ℕ}
-use Rattle.instructions.specs.Steps.{doneWith}
+use Rattle.instructions.specs.Results.{doneWith}
 use Rattle.instructions.proofs.Effects.{write-done, write-table}
 use borrow.Author.Needs.{needs}
 use Rattle.instructions.proofs.write.Statement.{statement}

@@ -7,7 +7,7 @@ use lib.ListN.{length, getD}
 use borrow.Author.Tests.{eq-eqb, ne-eqb}
 use Rattle.instructions.specs.Instructions.{Effect, factoryReset}
 use Rattle.reactions.specs.Reactions.{ownOnly, unchanged}
-use Rattle.instructions.specs.Steps.{doneOf}
+use Rattle.instructions.specs.Results.{doneOf}
 use Rattle.instructions.proofs.Sized.{of-size}
 use Rattle.instructions.specs.declared.RegisteredWrite.{RegisteredWrite}
 use Rattle.reactions.proofs.Reactions.{wrong, fitting}
@@ -20,7 +20,7 @@ nothing-done-requires c κs = search needs
 
 -- the effect where the count is right
 abbrev chosen : Bool → List ℕ → RegisteredWrite → List ℕ → Effect
-chosen idle table w params = cond idle (unchanged table w) (factoryReset table w (getD params 0 0))
+chosen nothing table w params = cond nothing (unchanged table w) (factoryReset table w (getD params 0 0))
 
 abbrev effect : Bool → List ℕ → RegisteredWrite → List ℕ → Effect
 effect all table w params = chosen (all && eqb (getD params 0 0) 0xFF) table w params

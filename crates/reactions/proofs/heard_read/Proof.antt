@@ -4,7 +4,7 @@ use lib.ListN.{length}
 use borrow.Author.Tests.{eq-eqb, ne-eqb}
 use Rattle.parameters.specs.Parameters.{wordAt}
 use Rattle.instructions.specs.Instructions.{read}
-use Rattle.instructions.specs.Steps.{doneOf}
+use Rattle.instructions.specs.Results.{doneOf}
 use Rattle.instructions.proofs.Sized.{of-size}
 use Rattle.reactions.specs.Reactions.{ownOnly}
 use Rattle.reactions.proofs.Reactions.{wrong-count, right-count}

@@ -1,6 +1,6 @@
 use mathlib.Core.Path.{ap, _∙_}
 use Rattle.reactions.specs.Reactions.{ownOnly}
-use Rattle.reactions.specs.Steps.{reactedBy}
+use Rattle.reactions.specs.Results.{reactedBy}
 use borrow.Author.Needs.{needs}
 use Rattle.reactions.proofs.nothing_done.Statement.{statement}
 use Rattle.reactions.proofs.nothing_done.Tie as tie

@@ -1,6 +1,6 @@
 use mathlib.Core.Path.{ap, _∙_}
 use Rattle.reactions.specs.Reactions.{silent}
-use Rattle.reactions.specs.Steps.{reactedBy}
+use Rattle.reactions.specs.Results.{reactedBy}
 use borrow.Author.Needs.{needs}
 use Rattle.reactions.proofs.quiet.Statement.{statement}
 use Rattle.reactions.proofs.quiet.Tie as tie

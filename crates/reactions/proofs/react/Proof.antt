@@ -1,6 +1,9 @@
-use mathlib.Core.Path.{refl, ap, _∙_}
+use mathlib.Core.Path.{_≡_, refl, ap, _∙_}
+use mathlib.Core.List.{List}
+use Prim.Native.Nat.{ℕ}
 use Rattle.reactions.specs.Reactions.{Reaction, heardInstruction}
-use Rattle.reactions.specs.Steps.{reactedOf}
+use Rattle.reactions.specs.Results.{reactedOf}
+use Rattle.reactions.specs.declared.Reacted.{Reacted}
 use Rattle.reactions.proofs.Reactions.{by-number, ping-keeps, read-keeps, sync-read-keeps, undefined-instruction}
 use borrow.Author.Needs.{needs}
 use Rattle.reactions.proofs.react.Statement.{statement}
@@ -39,6 +42,14 @@ heard-sync-write-requires c κs = search needs
 nothing-done-requires : tie.Need-nothing-done-requires
 nothing-done-requires c κs = search needs
 
+-- what an arm answers, by the number that it is for
+abbrev heard : tie.Start → ℕ → Reaction
+heard s n = heardInstruction n (s .args .all) (s .args .table .now) (s .args .registered) (s .args .params .now)
+
+arm : (s : tie.Start) (n : ℕ) (r : Reacted) (t : List ℕ) → s .args .instruction ≡ n → r ≡ reactedOf (heard s n) → t ≡ heard s n .effect .table
+    → (r ≡ reactedOf (heard s (s .args .instruction))) × (t ≡ heard s (s .args .instruction) .effect .table)
+arm s n = by-number (s .args .instruction) n (s .args .all) (s .args .table .now) (s .args .registered) (s .args .params .now)
+
 same-length : tie.Need-same-length
 same-length c = search needs
 
@@ -46,8 +57,8 @@ returns : tie.Need-returns
 unfolding heardInstruction
 returns c =
     let k = c .before .before in
-    let a = k .before .before .before .args in
-    by-number (a .instruction) 0x01 (a .all) (a .table .now) (a .registered) (a .params .now) _ _ (k .match .keys1) (c .heard-ping .ensures) (ping-keeps (a .table .now) (a .registered) (a .all) (a .params .now))
+    let s = k .before .before .before in
+    arm s 0x01 _ _ (k .match .keys1) (c .heard-ping .ensures) (ping-keeps (s .args .table .now) (s .args .registered) (s .args .all) (s .args .params .now))
 
 same-length-2 : tie.Need-same-length-2
 same-length-2 c = search needs
@@ -56,70 +67,47 @@ returns-2 : tie.Need-returns-2
 unfolding heardInstruction
 returns-2 c =
     let k = c .before .before in
-    let a = k .before .before .before .args in
-    by-number (a .instruction) 0x02 (a .all) (a .table .now) (a .registered) (a .params .now) _ _ (k .match .keys2) (c .heard-read .ensures) (read-keeps (a .table .now) (a .registered) (a .all) (a .params .now))
+    let s = k .before .before .before in
+    arm s 0x02 _ _ (k .match .keys2) (c .heard-read .ensures) (read-keeps (s .args .table .now) (s .args .registered) (s .args .all) (s .args .params .now))
 
 same-length-3 : tie.Need-same-length-3
 same-length-3 c = search needs
 
 returns-3 : tie.Need-returns-3
 unfolding heardInstruction
-returns-3 c =
-    let r = c .before .before in
-    let k = r .before .before in
-    let a = k .before .before .before .args in
-    by-number (a .instruction) 0x03 (a .all) (a .table .now) (a .registered) (a .params .now) _ _ (k .match .keys3) (r .heard-write .ensures .0) (r .heard-write .ensures .1)
+returns-3 c = let r = c .before .before in let k = r .before .before in arm (k .before .before .before) 0x03 _ _ (k .match .keys3) (r .heard-write .ensures .0) (r .heard-write .ensures .1)
 
 same-length-4 : tie.Need-same-length-4
 same-length-4 c = search needs
 
 returns-4 : tie.Need-returns-4
 unfolding heardInstruction
-returns-4 c =
-    let r = c .before .before in
-    let k = r .before .before in
-    let a = k .before .before .before .args in
-    by-number (a .instruction) 0x04 (a .all) (a .table .now) (a .registered) (a .params .now) _ _ (k .match .keys4) (r .heard-reg-write .ensures .0) (r .heard-reg-write .ensures .1)
+returns-4 c = let r = c .before .before in let k = r .before .before in arm (k .before .before .before) 0x04 _ _ (k .match .keys4) (r .heard-reg-write .ensures .0) (r .heard-reg-write .ensures .1)
 
 same-length-5 : tie.Need-same-length-5
 same-length-5 c = search needs
 
 returns-5 : tie.Need-returns-5
 unfolding heardInstruction
-returns-5 c =
-    let r = c .before .before in
-    let k = r .before .before in
-    let a = k .before .before .before .args in
-    by-number (a .instruction) 0x05 (a .all) (a .table .now) (a .registered) (a .params .now) _ _ (k .match .keys5) (r .heard-action .ensures .0) (r .heard-action .ensures .1)
+returns-5 c = let r = c .before .before in let k = r .before .before in arm (k .before .before .before) 0x05 _ _ (k .match .keys5) (r .heard-action .ensures .0) (r .heard-action .ensures .1)
 
 same-length-6 : tie.Need-same-length-6
 same-length-6 c = search needs
 
 returns-6 : tie.Need-returns-6
 unfolding heardInstruction
-returns-6 c =
-    let r = c .before .before in
-    let k = r .before .before in
-    let a = k .before .before .before .args in
-    by-number (a .instruction) 0x06 (a .all) (a .table .now) (a .registered) (a .params .now) _ _ (k .match .keys6) (r .heard-factory-reset .ensures .0) (r .heard-factory-reset .ensures .1)
+returns-6 c = let r = c .before .before in let k = r .before .before in arm (k .before .before .before) 0x06 _ _ (k .match .keys6) (r .heard-factory-reset .ensures .0) (r .heard-factory-reset .ensures .1)
 
 same-length-7 : tie.Need-same-length-7
 same-length-7 c = search needs
 
 returns-7 : tie.Need-returns-7
 unfolding heardInstruction
-returns-7 c =
-    let r = c .before .before in
-    let k = r .before .before in
-    let a = k .before .before .before .args in
-    by-number (a .instruction) 0x08 (a .all) (a .table .now) (a .registered) (a .params .now) _ _ (k .match .keys7) (r .heard-reboot .ensures .0) (r .heard-reboot .ensures .1)
+returns-7 c = let r = c .before .before in let k = r .before .before in arm (k .before .before .before) 0x08 _ _ (k .match .keys7) (r .heard-reboot .ensures .0) (r .heard-reboot .ensures .1)
 
 returns-8 : tie.Need-returns-8
 unfolding heardInstruction
-returns-8 c =
-    let k = c .before in
-    let a = k .before .before .before .args in
-    by-number (a .instruction) 0x55 (a .all) (a .table .now) (a .registered) (a .params .now) _ _ (k .match .keys8) (c .quiet .ensures) refl
+returns-8 c = let k = c .before in arm (k .before .before .before) 0x55 _ _ (k .match .keys8) (c .quiet .ensures) refl
 
 same-length-8 : tie.Need-same-length-8
 same-length-8 c = search needs
@@ -128,19 +116,15 @@ returns-9 : tie.Need-returns-9
 unfolding heardInstruction
 returns-9 c =
     let k = c .before .before in
-    let a = k .before .before .before .args in
-    by-number (a .instruction) 0x82 (a .all) (a .table .now) (a .registered) (a .params .now) _ _ (k .match .keys9) (c .heard-sync-read .ensures) (sync-read-keeps (a .table .now) (a .registered) (a .all) (a .params .now))
+    let s = k .before .before .before in
+    arm s 0x82 _ _ (k .match .keys9) (c .heard-sync-read .ensures) (sync-read-keeps (s .args .table .now) (s .args .registered) (s .args .all) (s .args .params .now))
 
 same-length-9 : tie.Need-same-length-9
 same-length-9 c = search needs
 
 returns-10 : tie.Need-returns-10
 unfolding heardInstruction
-returns-10 c =
-    let r = c .before .before in
-    let k = r .before .before in
-    let a = k .before .before .before .args in
-    by-number (a .instruction) 0x83 (a .all) (a .table .now) (a .registered) (a .params .now) _ _ (k .match .keys10) (r .heard-sync-write .ensures .0) (r .heard-sync-write .ensures .1)
+returns-10 c = let r = c .before .before in let k = r .before .before in arm (k .before .before .before) 0x83 _ _ (k .match .keys10) (r .heard-sync-write .ensures .0) (r .heard-sync-write .ensures .1)
 
 returns-11 : tie.Need-returns-11
 returns-11 c =

@@ -1,4 +1,4 @@
-use Rattle.reader.specs.Records.{saidOn, packetOn}
+use Rattle.reader.specs.Records.{stepOn, packetOn}
 use Rattle.reader.proofs.Records.{record-left, reader-promises}
 use borrow.Author.Needs.{needs}
 use Rattle.reader.proofs.feed.Statement.{statement}
@@ -8,7 +8,7 @@ feed-in-requires : tie.Need-feed-in-requires
 feed-in-requires c κs = search needs
 
 returns : tie.Need-returns
-unfolding saidOn packetOn
+unfolding stepOn packetOn
 returns c =
     let e = c .feed-in .ensures in
     ((e .0, e .2, record-left (c .feed-in .result) _ _ _ (e .0) (e .1)), reader-promises)

@@ -2,16 +2,19 @@ use mathlib.Core.Path.{_∙_}
 use native.Mathlib.Omega.{arith}
 use borrow.Author.Needs.{needs}
 use Rattle.registers.specs.Registers.{registers}
-use Rattle.registers.proofs.Rows.{placeIn, row-from, none-from}
+use Rattle.registers.proofs.Rows.{placeIn, own-row, none-from}
 use Rattle.registers.proofs.first_rom.Statement.{statement}
 use Rattle.registers.proofs.first_rom.Tie as tie
+
+add-if1 : tie.Need-add-if1
+add-if1 c = search needs
 
 read-only-requires : tie.Need-read-only-requires
 read-only-requires c κs = search needs
 
 returns : tie.Need-returns
-unfolding registers placeIn
-returns c = c .read-only .ensures ∙ row-from 0 0 2 (omega arith) tt _ (omega arith) (omega arith)
+unfolding registers
+returns c = c .read-only .ensures ∙ own-row 0 (omega arith) _ (omega arith) (omega arith)
 
 undefined-requires : tie.Need-undefined-requires
 undefined-requires c κs = search needs
@@ -20,26 +23,35 @@ returns-2 : tie.Need-returns-2
 unfolding registers placeIn
 returns-2 c = c .undefined .ensures ∙ none-from 2 4 tt _ (omega arith) (omega arith)
 
+add-if3 : tie.Need-add-if3
+add-if3 c = search needs
+
 read-only-requires-2 : tie.Need-read-only-requires-2
 read-only-requires-2 c κs = search needs
 
 returns-3 : tie.Need-returns-3
-unfolding registers placeIn
-returns-3 c = c .read-only2 .ensures ∙ row-from 1 6 1 (omega arith) tt _ (omega arith) (omega arith)
+unfolding registers
+returns-3 c = c .read-only2 .ensures ∙ own-row 1 (omega arith) _ (omega arith) (omega arith)
+
+add-if4 : tie.Need-add-if4
+add-if4 c = search needs
 
 in-rom-requires : tie.Need-in-rom-requires
 in-rom-requires c κs = search needs
 
 returns-4 : tie.Need-returns-4
-unfolding registers placeIn
-returns-4 c = c .in-rom .ensures ∙ row-from 2 7 1 (omega arith) tt _ (omega arith) (omega arith)
+unfolding registers
+returns-4 c = c .in-rom .ensures ∙ own-row 2 (omega arith) _ (omega arith) (omega arith)
+
+add-if5 : tie.Need-add-if5
+add-if5 c = search needs
 
 in-rom-requires-2 : tie.Need-in-rom-requires-2
 in-rom-requires-2 c κs = search needs
 
 returns-5 : tie.Need-returns-5
-unfolding registers placeIn
-returns-5 c = c .in-rom2 .ensures ∙ row-from 3 8 1 (omega arith) tt _ (omega arith) (omega arith)
+unfolding registers
+returns-5 c = c .in-rom2 .ensures ∙ own-row 3 (omega arith) _ (omega arith) (omega arith)
 
 undefined-requires-2 : tie.Need-undefined-requires-2
 undefined-requires-2 c κs = search needs
@@ -52,14 +64,18 @@ pub first-rom-spec : {M : Type 1} → statement M
 first-rom-spec =
     tie.close
     (tie.spec
+    add-if1
     read-only-requires
     returns
     undefined-requires
     returns-2
+    add-if3
     read-only-requires-2
     returns-3
+    add-if4
     in-rom-requires
     returns-4
+    add-if5
     in-rom-requires-2
     returns-5
     undefined-requires-2

@@ -2,16 +2,19 @@ use mathlib.Core.Path.{_∙_}
 use native.Mathlib.Omega.{arith}
 use borrow.Author.Needs.{needs}
 use Rattle.registers.specs.Registers.{registers}
-use Rattle.registers.proofs.Rows.{placeIn, row-from, none-from}
+use Rattle.registers.proofs.Rows.{placeIn, own-row, none-from}
 use Rattle.registers.proofs.last_rom.Statement.{statement}
 use Rattle.registers.proofs.last_rom.Tie as tie
+
+add-if1 : tie.Need-add-if1
+add-if1 c = search needs
 
 in-rom-requires : tie.Need-in-rom-requires
 in-rom-requires c κs = search needs
 
 returns : tie.Need-returns
-unfolding registers placeIn
-returns c = c .in-rom .ensures ∙ row-from 4 20 4 (omega arith) tt _ (omega arith) (omega arith)
+unfolding registers
+returns c = c .in-rom .ensures ∙ own-row 4 (omega arith) _ (omega arith) (omega arith)
 
 undefined-requires : tie.Need-undefined-requires
 undefined-requires c κs = search needs
@@ -20,19 +23,25 @@ returns-2 : tie.Need-returns-2
 unfolding registers placeIn
 returns-2 c = c .undefined .ensures ∙ none-from 24 24 tt _ (omega arith) (omega arith)
 
+add-if3 : tie.Need-add-if3
+add-if3 c = search needs
+
 in-rom-requires-2 : tie.Need-in-rom-requires-2
 in-rom-requires-2 c κs = search needs
 
 returns-3 : tie.Need-returns-3
-unfolding registers placeIn
-returns-3 c = c .in-rom2 .ensures ∙ row-from 5 48 4 (omega arith) tt _ (omega arith) (omega arith)
+unfolding registers
+returns-3 c = c .in-rom2 .ensures ∙ own-row 5 (omega arith) _ (omega arith) (omega arith)
+
+add-if4 : tie.Need-add-if4
+add-if4 c = search needs
 
 in-rom-requires-3 : tie.Need-in-rom-requires-3
 in-rom-requires-3 c κs = search needs
 
 returns-4 : tie.Need-returns-4
-unfolding registers placeIn
-returns-4 c = c .in-rom3 .ensures ∙ row-from 6 52 4 (omega arith) tt _ (omega arith) (omega arith)
+unfolding registers
+returns-4 c = c .in-rom3 .ensures ∙ own-row 6 (omega arith) _ (omega arith) (omega arith)
 
 undefined-requires-2 : tie.Need-undefined-requires-2
 undefined-requires-2 c κs = search needs
@@ -45,12 +54,15 @@ pub last-rom-spec : {M : Type 1} → statement M
 last-rom-spec =
     tie.close
     (tie.spec
+    add-if1
     in-rom-requires
     returns
     undefined-requires
     returns-2
+    add-if3
     in-rom-requires-2
     returns-3
+    add-if4
     in-rom-requires-3
     returns-4
     undefined-requires-2

@@ -1,5 +1,5 @@
 use mathlib.Core.Path.{sym, ap}
-use Rattle.status.specs.Steps.{writtenBy}
+use Rattle.status.specs.Results.{writtenBy}
 use borrow.Author.Needs.{needs}
 use Rattle.status.proofs.as_written.Statement.{statement}
 use Rattle.status.proofs.as_written.Tie as tie

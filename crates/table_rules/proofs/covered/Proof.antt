@@ -1,16 +1,16 @@
-use borrow.Author.Tests.{lt-leb, le-leb}
+use borrow.Author.Tests.{le-leb, lt-leb}
 use borrow.Author.Needs.{needs}
 use Rattle.table_rules.proofs.covered.Statement.{statement}
 use Rattle.table_rules.proofs.covered.Tie as tie
 
-returns : tie.Need-returns
-returns c = simp (lt-leb _ _ (c .if1 .taken))
-
 add-result : tie.Need-add-result
 add-result c = search needs
 
+returns : tie.Need-returns
+returns c = simp (le-leb _ _ (c .if1 .taken))
+
 returns-2 : tie.Need-returns-2
-returns-2 c = simp (le-leb _ _ (c .if1 .left))
+returns-2 c = simp (lt-leb _ _ (c .if1 .left))
 
 pub covered-spec : {M : Type 1} → statement M
-covered-spec = tie.close (tie.spec returns add-result returns-2)
+covered-spec = tie.close (tie.spec add-result returns returns-2)

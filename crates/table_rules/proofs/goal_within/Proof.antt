@@ -11,8 +11,8 @@ use borrow.Author.Needs.{needs}
 use Rattle.table_rules.proofs.goal_within.Statement.{statement}
 use Rattle.table_rules.proofs.goal_within.Tie as tie
 
-add-touched : tie.Need-add-touched
-add-touched c = search needs
+add-end : tie.Need-add-end
+add-end c = search needs
 
 touched-requires : tie.Need-touched-requires
 touched-requires c κs = search needs
@@ -52,7 +52,7 @@ pub goal-within-spec : {M : Type 1} → statement M
 goal-within-spec =
     tie.close
     (tie.spec
-    add-touched
+    add-end
     touched-requires
     returns
     word-after-requires

@@ -11,8 +11,8 @@ use Rattle.items.proofs.Signed.{small, value-word, value-byte, one-byte}
 use Rattle.table_rules.proofs.in_range.Statement.{statement}
 use Rattle.table_rules.proofs.in_range.Tie as tie
 
-word-at-requires : tie.Need-word-at-requires
-word-at-requires c κs = search needs
+signed-at-requires : tie.Need-signed-at-requires
+signed-at-requires c κs = search needs
 
 within-requires : tie.Need-within-requires
 within-requires c κs = search needs
@@ -24,9 +24,9 @@ returns c =
     let row = s .before .before .before .args .row in
     let low = toZ-ofZ {w = w32} {z = row .low} (record { sfits = s .struct-told2 .given .1 .1 .1 .0 .1 }) in
     let high = toZ-ofZ {w = w32} {z = row .high} (record { sfits = s .struct-told2 .given .1 .1 .1 .1 .0 .1 }) in
-    let v = toZ-ofZ {w = w32} {z = w .word-at .result} (record { sfits = w .word-at .ok }) in
+    let v = toZ-ofZ {w = w32} {z = w .signed-at .result} (record { sfits = w .signed-at .ok }) in
     (simp (low, high, v) at (c .within .ensures))
-    ∙ ap (λ (z : ℤ). leZ (row .low) z && leZ z (row .high)) (w .word-at .ensures ∙ sym (value-word _ _ _ (w .before .if1 .taken)))
+    ∙ ap (λ (z : ℤ). leZ (row .low) z && leZ z (row .high)) (w .signed-at .ensures ∙ sym (value-word _ _ _ (w .before .if1 .taken)))
 
 shared-slice-read-within : tie.Need-shared-slice-read-within
 shared-slice-read-within c =
@@ -56,7 +56,7 @@ pub in-range-spec : {M : Type 1} → statement M
 in-range-spec =
     tie.close
     (tie.spec
-    word-at-requires
+    signed-at-requires
     within-requires
     returns
     shared-slice-read-within

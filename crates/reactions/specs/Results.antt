@@ -8,15 +8,15 @@ use Rattle.instructions.specs.Instructions.{refusing}
 use Rattle.instructions.specs.declared.Done.{Done}
 use Rattle.instructions.specs.declared.RegisteredWrite.{RegisteredWrite}
 use Rattle.reactions.specs.declared.Reacted.{Reacted}
-use Rattle.reactions.specs.Reactions.{Voice, silent, speaks, Reaction, reacting}
-use Rattle.instructions.specs.Steps.{doneOf}
+use Rattle.reactions.specs.Reactions.{ReplyRule, silent, speaks, Reaction, reacting}
+use Rattle.instructions.specs.Results.{doneOf}
 
-abbrev pub reactedBy : Voice → Done → Reacted
+abbrev pub reactedBy : ReplyRule → Done → Reacted
 reactedBy silent done = record { done = done; speaks = false; level = 0; slot = 0 }
 reactedBy (speaks level slot) done = record { done = done; speaks = true; level = level; slot = slot }
 
 abbrev pub reactedOf : Reaction → Reacted
-reactedOf r = reactedBy (r .voice) (doneOf (r .effect))
+reactedOf r = reactedBy (r .replying) (doneOf (r .effect))
 
 -- a fault of the caller is told in the place of the error number; nothing is done, and nothing is answered
 abbrev pub reactionUnless : Option ℕ → List ℕ → RegisteredWrite → Reaction → Reaction

@@ -1,4 +1,4 @@
--- What a feeding or gap call answers, by the reply of the rules, and what it leaves of the bytes that are lent to it. `count` is
+-- What a feeding or gap call answers, by the result of the rules, and what it leaves of the bytes that are lent to it. `count` is
 -- how many of the lent bytes are held; a count above 1,030 is refused, and a refusal leaves everything as it was.
 use mathlib.Core.Bool.{cond}
 use mathlib.Core.List.{List, []}
@@ -8,7 +8,7 @@ use lib.Dec.{leb}
 use lib.ListN.{length}
 use Rattle.lists.specs.Write.{padded}
 use Rattle.reading.specs.Reading.{Event, packet, badChecksum}
-use Rattle.reading.specs.Calls.{Reply}
+use Rattle.reading.specs.Calls.{CallResult}
 use Rattle.packet_front.specs.Front.{idOf}
 use Rattle.framer.specs.declared.StepEvent.{StepEvent}
 use Rattle.framer.specs.declared.StepEvent.the-variants.{Packet, BadChecksum, Silent, Refused}
@@ -21,21 +21,21 @@ eventFor (some (badChecksum id)) = BadChecksum id
 eventFor none = Silent
 
 -- the packet's bytes as received, none beside any other answer [F9 F10]
-abbrev pub bytesOf : Option Event → List ℕ
-bytesOf (some (packet w)) = w
-bytesOf (some (badChecksum id)) = []
-bytesOf none = []
+abbrev pub packetBytes : Option Event → List ℕ
+packetBytes (some (packet w)) = w
+packetBytes (some (badChecksum id)) = []
+packetBytes none = []
 
 -- the answer: how many bytes were taken, how many are held then, and the event [F2 F16 N9 N11]
-abbrev pub stepFor : ℕ → Reply → Step
+abbrev pub stepFor : ℕ → CallResult → Step
 stepFor count r =
     cond (leb count 1030) (record { taken = r .taken; held = length (r .held); event = eventFor (r .answer) })
     (record { taken = 0; held = count; event = Refused })
 
 -- the 1,030 bytes that were lent: those held then, followed by 0 [F15 F16 N12]
-abbrev pub heldFor : ℕ → List ℕ → Reply → List ℕ
+abbrev pub heldFor : ℕ → List ℕ → CallResult → List ℕ
 heldFor count old r = cond (leb count 1030) (padded 1030 (r .held)) old
 
 -- the packet buffer: the packet's bytes followed by 0, all 0 beside any other answer [F9 F10 F16 N12]
-abbrev pub packetFor : ℕ → List ℕ → Reply → List ℕ
-packetFor count old r = cond (leb count 1030) (padded 1031 (bytesOf (r .answer))) old
+abbrev pub packetFor : ℕ → List ℕ → CallResult → List ℕ
+packetFor count old r = cond (leb count 1030) (padded 1031 (packetBytes (r .answer))) old

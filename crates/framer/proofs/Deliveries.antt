@@ -1,4 +1,4 @@
--- A step says what the reply says, once the event's bytes and the held ones stand in their buffers.
+-- A step says what the result says, once the event's bytes and the held ones stand in their buffers.
 use mathlib.Core.Path.{_≡_, refl, sym, ap, ap₂, _∙_}
 use mathlib.Core.List.{List}
 use mathlib.Core.Option.{some}
@@ -15,9 +15,9 @@ use Rattle.windows.specs.declared.Scanned.{Scanned}
 use Rattle.windows.specs.declared.Scanned.the-variants.{Packet as Seen·Packet, BadChecksum as Seen·BadChecksum}
 use Rattle.windows.specs.declared.Scanned.the-variants.{Waiting as Seen·Waiting}
 use Rattle.framer.specs.declared.Step.{Step}
-use Rattle.windows.specs.Scan.{onFrom, sizeOf, answerOf, replyOf}
-use Rattle.framer.specs.Answer.{bytesOf}
-use Rattle.framer.specs.Replied.{eventWith, Replied}
+use Rattle.windows.specs.Scan.{onFrom, sizeSeen, answerOf, resultOf}
+use Rattle.framer.specs.Results.{packetBytes}
+use Rattle.framer.specs.Delivered.{eventWith, Delivered}
 use Rattle.buffers.proofs.Parts.{part-is, placed-whole}
 
 -- ---- where reading goes on, and the packet's bytes
@@ -26,7 +26,7 @@ module _ (v : Scanned) (most : ℕ) where
   pub on-packet : (at n : ℕ) → v ≡ Seen·Packet at n → onFrom v ≤ most → at + n ≤ most
   on-packet at n e h = rw e at h
 
-  pub size-packet : (at n : ℕ) → v ≡ Seen·Packet at n → sizeOf v ≤ most → n ≤ most
+  pub size-packet : (at n : ℕ) → v ≡ Seen·Packet at n → sizeSeen v ≤ most → n ≤ most
   size-packet at n e h = rw e at h
 
 -- what is placed at the start stands there
@@ -39,7 +39,7 @@ module _ (src : List ℕ) (v : Scanned) (bytes : List ℕ) where
   abbrev Told : StepEvent → Type 0
   Told e =
       (e ≡ eventWith (idOf bytes) (answerOf src v))
-      × (take (length (bytesOf (answerOf src v))) bytes ≡ bytesOf (answerOf src v))
+      × (take (length (packetBytes (answerOf src v))) bytes ≡ packetBytes (answerOf src v))
 
   pub told-packet : (old : List ℕ) (at n : ℕ) → v ≡ Seen·Packet at n → at + n ≤ length src → n ≤ length old
       → bytes ≡ placed old 0 (take (length old - 0) (take (at + n - at) (drop at src))) → (id : ℕ)
@@ -72,8 +72,8 @@ answer-within src end (Seen·Waiting at) h k = refl
 
 pub replied : (src old held bytes : List ℕ) (end taken on : ℕ) (v : Scanned) (event : StepEvent) (r : Step)
     → r ≡ record { taken = taken; held = end - on; event = event } → on ≡ onFrom v → onFrom v ≤ end → end ≤ length src
-    → event ≡ eventWith (idOf bytes) (answerOf src v) → take (length (bytesOf (answerOf src v))) bytes ≡ bytesOf (answerOf src v)
-    → held ≡ overwritten old (take (end - on) (drop on src)) → Replied (replyOf (take end src) taken v) r held bytes
+    → event ≡ eventWith (idOf bytes) (answerOf src v) → take (length (packetBytes (answerOf src v))) bytes ≡ packetBytes (answerOf src v)
+    → held ≡ overwritten old (take (end - on) (drop on src)) → Delivered (resultOf (take end src) taken v) r held bytes
 replied src old held bytes end taken on v event r i o h k e b s =
     let p = part-is (onFrom v) end src h (omega arith) in
     let n : length (take (end - onFrom v) (drop (onFrom v) src)) ≡ end - onFrom v =

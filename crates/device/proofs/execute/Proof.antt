@@ -6,14 +6,14 @@ use Rattle.instructions.specs.declared.Done.{Done}
 use Rattle.reactions.specs.declared.Reacted.{Reacted}
 use Rattle.status.specs.declared.Reply.{Reply}
 use Rattle.reactions.specs.Reactions.{Reaction, reaction}
-use Rattle.reactions.specs.Steps.{reactedOf}
+use Rattle.reactions.specs.Results.{reactedOf}
 use Rattle.device.specs.Device.{replyBy}
-use Rattle.device.specs.Steps.{replyTo}
+use Rattle.device.specs.Results.{replyTo}
 use Rattle.reactions.proofs.Reactions.{reaction-of-size, reacted-done}
 use Rattle.device.proofs.Replies.{reply-of}
 use borrow.Author.Needs.{needs}
-use Rattle.device.proofs.heed.Statement.{statement}
-use Rattle.device.proofs.heed.Tie as tie
+use Rattle.device.proofs.execute.Statement.{statement}
+use Rattle.device.proofs.execute.Tie as tie
 
 slice-read-own : tie.Need-slice-read-own
 slice-read-own c = search needs
@@ -46,12 +46,12 @@ returns c =
           ∙ ap (λ (t : List ℕ). replyTo t own level (r .reaction .result)) left
           ∙ ap (replyTo (q .effect .table) own level) reacted
           ∙ reply-of (a .table .now) q)
-          ∙ ap (λ (x : Done). record { reply = replyBy (q .voice) (a .table .now) (q .effect); registered = x .registered }) (ap (λ (x : Reacted). x .done) reacted ∙ reacted-done q),
+          ∙ ap (λ (x : Done). record { reply = replyBy (q .replying) (a .table .now) (q .effect); registered = x .registered }) (ap (λ (x : Reacted). x .done) reacted ∙ reacted-done q),
       left,
     )
 
-pub heed-spec : {M : Type 1} → statement M
-heed-spec =
+pub execute-spec : {M : Type 1} → statement M
+execute-spec =
     tie.close
     (tie.spec
     slice-read-own

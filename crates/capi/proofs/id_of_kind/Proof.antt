@@ -1,6 +1,6 @@
 use borrow.Author.Tests.{eq-eqb, ne-eqb}
-use Rattle.capi.proofs.id_by.Statement.{statement}
-use Rattle.capi.proofs.id_by.Tie as tie
+use Rattle.capi.proofs.id_of_kind.Statement.{statement}
+use Rattle.capi.proofs.id_of_kind.Tie as tie
 
 returns : tie.Need-returns
 returns c = simp (eq-eqb _ _ (c .if1 .taken))
@@ -11,5 +11,5 @@ returns-2 c = simp (ne-eqb _ _ (c .before .if1 .left), eq-eqb _ _ (c .if2 .taken
 returns-3 : tie.Need-returns-3
 returns-3 c = simp (ne-eqb _ _ (c .before .if1 .left), ne-eqb _ _ (c .if2 .left))
 
-pub id-by-spec : {M : Type 1} → statement M
-id-by-spec = tie.close (tie.spec returns returns-2 returns-3)
+pub id-of-kind-spec : {M : Type 1} → statement M
+id-of-kind-spec = tie.close (tie.spec returns returns-2 returns-3)

@@ -5,12 +5,12 @@ use mathlib.Core.Option.{Option, none, some}
 use Prim.Native.Nat.{ℕ}
 use lib.ListN.{length, take}
 use Rattle.reading.specs.Reading.{Event, packet, badChecksum}
-use Rattle.reading.specs.Calls.{Reply}
+use Rattle.reading.specs.Calls.{CallResult}
 use Rattle.packet_front.specs.Front.{idOf}
 use Rattle.framer.specs.declared.StepEvent.{StepEvent}
 use Rattle.framer.specs.declared.StepEvent.the-variants.{Packet, BadChecksum, Silent, Refused}
 use Rattle.framer.specs.declared.Step.{Step}
-use Rattle.framer.specs.Answer.{bytesOf}
+use Rattle.framer.specs.Results.{packetBytes}
 
 -- the event, where a packet's ID is read from its buffer
 abbrev pub eventWith : ℕ → Option Event → StepEvent
@@ -25,10 +25,10 @@ sizeIn (BadChecksum id) = 0
 sizeIn Silent = 0
 sizeIn Refused = 0
 
--- the step says what the reply says; the held bytes and the packet's bytes stand at the start of their buffers
-pub record Replied (r : Reply) (step : Step) (held bytes : List ℕ) : Type 0 where
+-- the step says what the result says; the held bytes and the packet's bytes stand at the start of their buffers
+pub record Delivered (r : CallResult) (step : Step) (held bytes : List ℕ) : Type 0 where
   pub taken-is : step .taken ≡ r .taken
   pub event-is : step .event ≡ eventWith (idOf bytes) (r .answer)
   pub count-is : step .held ≡ length (r .held)
   pub held-is : take (step .held) held ≡ r .held
-  pub bytes-are : take (length (bytesOf (r .answer))) bytes ≡ bytesOf (r .answer)
+  pub bytes-are : take (length (packetBytes (r .answer))) bytes ≡ packetBytes (r .answer)

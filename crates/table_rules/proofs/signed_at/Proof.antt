@@ -4,8 +4,8 @@ use mir.Facts.{toZ-ofZ}
 use borrow.Author.Needs.{needs}
 use Rattle.items.specs.Items.{signed}
 use Rattle.lists.proofs.Numbers.{four-bytes}
-use Rattle.table_rules.proofs.word_at.Statement.{statement}
-use Rattle.table_rules.proofs.word_at.Tie as tie
+use Rattle.table_rules.proofs.signed_at.Statement.{statement}
+use Rattle.table_rules.proofs.signed_at.Tie as tie
 
 shared-slice-read-signed-of : tie.Need-shared-slice-read-signed-of
 shared-slice-read-signed-of c = search needs
@@ -34,8 +34,8 @@ signed-of-requires c κs = search needs
 returns : tie.Need-returns
 returns c = toZ-ofZ {w = w32} (record { sfits = c .signed-of .ok }) ∙ c .signed-of .ensures ∙ ap signed (four-bytes _ _)
 
-pub word-at-spec : {M : Type 1} → statement M
-word-at-spec =
+pub signed-at-spec : {M : Type 1} → statement M
+signed-at-spec =
     tie.close
     (tie.spec
     shared-slice-read-signed-of

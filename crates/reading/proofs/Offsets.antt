@@ -9,7 +9,7 @@ use lib.Seq.{take-append-le, drop-append-le, take-nil}
 use Rattle.reading.specs.Rules.{Verdict, isPacket, isBadChecksum, isWaiting, isNothing, Rules, Laws}
 use Rattle.reading.specs.Reading.{Event, packet, badChecksum, Found, Mode, open′, closed, atOffset, readFuel, readFrom}
 use Rattle.reading.specs.Promise.{what}
-use Rattle.reading.specs.Calls.{First, event, silent, firstAt, first, fed, fedAll, fedOn, gapped, Reply, Call, feed, gap}
+use Rattle.reading.specs.Calls.{First, event, silent, firstAt, first, fed, fedAll, fedOn, gapped, CallResult, Call, feed, gap}
 use Rattle.reading.specs.Calls.{call}
 use Rattle.reading.specs.Lists.{model, feeds, gaps, chunkOf, listed, after, took, given}
 
@@ -139,14 +139,14 @@ module _ (R : Rules) (L : Laws R) where
   Quiet none t = (p : ℕ) → readFrom R open′ p t ≡ []
   Quiet (some e) t = Unit {0}
 
-  abbrev SureFed : List ℕ → List ℕ → Reply → Type 0
+  abbrev SureFed : List ℕ → List ℕ → CallResult → Type 0
   SureFed h s r = Sure (h ++ take (r .taken) s) (listed (r .answer)) (r .held) × Quiet (r .answer) (r .held)
 
   fed-all : (h : List ℕ) (f : First) → SureFirst h f → SureFed h [] (fedAll f)
   fed-all h (event e t) k = (rw append-nil k, tt)
   fed-all h (silent t) k = (rw append-nil (k .0), k .1)
 
-  fed-on : (h : List ℕ) (b : ℕ) (s : List ℕ) (f : First) (r : Reply) → SureFirst h f → SureFed (h ++ (b ∷ [])) s r
+  fed-on : (h : List ℕ) (b : ℕ) (s : List ℕ) (f : First) (r : CallResult) → SureFirst h f → SureFed (h ++ (b ∷ [])) s r
       → SureFed h (b ∷ s) (fedOn f r)
   fed-on h b s (event e t) r k l = (rw append-nil k, tt)
   fed-on h b s (silent t) r k l = (rw append-assoc at (l .0), l .1)

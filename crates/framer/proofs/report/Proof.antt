@@ -2,9 +2,9 @@ use native.Mathlib.Omega.{arith}
 use lib.ListN.{length}
 use Prim.Native.Nat.{_+_, _≤_}
 use borrow.Author.Needs.{needs}
-use Rattle.framer.proofs.Replies.{on-packet, size-packet, told-packet, told-bad}
-use Rattle.framer.proofs.tell.Statement.{statement}
-use Rattle.framer.proofs.tell.Tie as tie
+use Rattle.framer.proofs.Deliveries.{on-packet, size-packet, told-packet, told-bad}
+use Rattle.framer.proofs.report.Statement.{statement}
+use Rattle.framer.proofs.report.Tie as tie
 
 -- what the call requires, where a packet was seen
 module _ (g : tie.After-seen) where
@@ -59,8 +59,8 @@ returns-2 c = told-bad _ (c .before .before .before .before .before .args .seen)
 returns-3 : tie.Need-returns-3
 returns-3 c = search needs
 
-pub tell-spec : {M : Type 1} → statement M
-tell-spec =
+pub report-spec : {M : Type 1} → statement M
+report-spec =
     tie.close
     (tie.spec
     enum-known-seen

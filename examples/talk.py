@@ -15,7 +15,7 @@ import tty
 HEADER = bytes([0xFF, 0xFF, 0xFD, 0x00])
 ALL = 254  # the ID that addresses all devices
 PING, READ, WRITE, REG_WRITE, ACTION, REBOOT = 0x01, 0x02, 0x03, 0x04, 0x05, 0x08
-CLEAR, STATUS, SYNC_READ, SYNC_WRITE = 0x10, 0x55, 0x82, 0x83
+CLEAR, STATUS, SYNC_READ, SYNC_WRITE, BULK_READ, BULK_WRITE = 0x10, 0x55, 0x82, 0x83, 0x92, 0x93
 HOMING_OFFSET, MAX_POSITION, TORQUE, LAMP, REGISTERED = 20, 48, 64, 65, 69
 GOAL_VELOCITY, GOAL_POSITION, PRESENT_POSITION = 104, 116, 132
 MODEL_AND_FIRMWARE = (1030).to_bytes(2, "little") + bytes([38])
@@ -266,6 +266,17 @@ def sync(talk, slot):
     not_before(begin + slot, "the reply came before its slot")
 
 
+def bulk(talk, slot):
+    other = 2 if talk.device != 2 else 3
+    entries = bytes([other]) + word(31) + word(1) + bytes([80]) + bytes([talk.device]) + word(LAMP) + word(1) + bytes([0])
+    talk.say("Bulk Write of a register of another device and of the lamp, which nobody answers", packet(ALL, BULK_WRITE, entries))
+    begin = time.monotonic()
+    entries = bytes([other]) + word(144) + word(2) + bytes([talk.device]) + word(LAMP) + word(1)
+    talk.say("Bulk Read of a register of another device and of the lamp", packet(ALL, BULK_READ, entries))
+    talk.hear("in slot 1: the lamp is off", status(talk.device, 0, bytes([0])))
+    not_before(begin + slot, "the reply came before its slot")
+
+
 def talk_to(line, device, gap, slot):
     talk = Talk(line, device)
     greet(talk, slot)
@@ -275,6 +286,7 @@ def talk_to(line, device, gap, slot):
     refusals(talk)
     stuffing(talk)
     sync(talk, slot)
+    bulk(talk, slot)
     talk.ping("Ping, the last one")
     rest = line.rest()
     if rest:

@@ -164,13 +164,15 @@ enum {
     DXL_INST_FACTORY_RESET = 0x06,
     DXL_INST_REBOOT = 0x08,
     DXL_INST_STATUS = 0x55, /* a status packet, which no device answers */
-    DXL_INST_SYNC_READ = 0x82,
-    DXL_INST_SYNC_WRITE = 0x83
+    DXL_INST_SYNC_READ = 0x82,  /* this and the next three to all devices only */
+    DXL_INST_SYNC_WRITE = 0x83,
+    DXL_INST_BULK_READ = 0x92,  /* for each device its ID, an address and a length */
+    DXL_INST_BULK_WRITE = 0x93  /* the same, and behind each length as many bytes */
 };
 
 /* The error byte of a status packet: 0 or one of these numbers, plus the alert while hardware error is not 0. */
 enum {
-    DXL_ERROR_INSTRUCTION = 0x02, /* an undefined instruction, Sync to the own ID, or Action with no registered write */
+    DXL_ERROR_INSTRUCTION = 0x02, /* an undefined instruction, Sync or Bulk to the own ID, or Action with no registered write */
     DXL_ERROR_CHECKSUM = 0x03,    /* a packet to the own ID with a wrong checksum */
     DXL_ERROR_DATA_RANGE = 0x04,  /* a value outside its register's range, or an unknown option of Factory Reset */
     DXL_ERROR_DATA_LENGTH = 0x05, /* a wrong count of parameters, a length of 0, or a register written in part */
@@ -363,8 +365,8 @@ struct dxl_registered {
 /* What a call of the device returns. */
 struct dxl_answer {
     int64_t count; /* the status packet's bytes, 0 for silence, or minus the number of a refusal */
-    size_t slot;   /* when to send it: 0 at once; for a Ping to all devices the own ID; for a Sync Read the place in its list,
-                      from 0. 0 for silence and for a refusal */
+    size_t slot;   /* when to send it: 0 at once; for a Ping to all devices the own ID; for a Sync Read or Bulk Read the place
+                      in its list, from 0. 0 for silence and for a refusal */
     struct dxl_registered registered; /* the registered write from now on; if the call is refused, as it was passed */
 };
 

@@ -208,6 +208,32 @@ static int entry_of(const uint8_t *list, size_t n, size_t entry, uint8_t id)
     return found;
 }
 
+static size_t word(const uint8_t *bytes)
+{
+    return bytes[0] | (size_t)bytes[1] << 8;
+}
+
+/* The same in a Bulk list, whose entries have five bytes and, with data, as many more as their length says; *at is the offset. */
+static int bulk_entry_of(const uint8_t *list, size_t n, int with_data, uint8_t id, size_t *at)
+{
+    uint8_t seen[253] = {0};
+    int found = -1, place = 0;
+    for (size_t i = 0; i < n; place++) {
+        if (n - i < 5 || list[i] > 252 || seen[list[i]])
+            return -1;
+        size_t length = word(list + i + 3), entry = with_data ? 5 + length : 5;
+        if (length == 0 || n - i < entry)
+            return -1;
+        seen[list[i]] = 1;
+        if (list[i] == id) {
+            found = place;
+            *at = i;
+        }
+        i += entry;
+    }
+    return found;
+}
+
 /* 0, or the caller's fault. */
 static int64_t fault(const uint8_t *table, size_t n_table, struct dxl_registered registered, size_t n_reply)
 {
@@ -315,6 +341,37 @@ struct dxl_answer baseline_device(uint8_t *table, size_t n_table, struct dxl_reg
             int place = n < 4 || second == 0 ? -1 : entry_of(params + 4, n - 4, second + 1, own);
             if (place >= 0)
                 store(table, first, params + 4 + (size_t)place * (second + 1) + 1, second);
+            return answer;
+        }
+        case 0x92: {
+            needs = 1;
+            if (!to_all) {
+                error = UNDEFINED;
+                break;
+            }
+            size_t at = 0;
+            int place = bulk_entry_of(params, n, 0, own, &at);
+            if (place < 0)
+                return answer;
+            answered = 1;
+            slot = (uint8_t)place;
+            first = word(params + at + 1);
+            second = word(params + at + 3);
+            error = judge_read(first, second);
+            if (error == GOOD) {
+                memcpy(status + 1, table + first, second);
+                n_data = second;
+            }
+            break;
+        }
+        case 0x93: {
+            if (!to_all) {
+                error = UNDEFINED;
+                break;
+            }
+            size_t at = 0;
+            if (bulk_entry_of(params, n, 1, own, &at) >= 0)
+                store(table, word(params + at + 1), params + at + 5, word(params + at + 3));
             return answer;
         }
         default:

@@ -259,6 +259,23 @@ static size_t instruct_200(void)
     return n;
 }
 
+/* So many devices, ours the last, each with a goal to read or to write. */
+static size_t instruct_bulk(uint8_t instruction, unsigned devices)
+{
+    size_t n = 1, entry = instruction == DXL_INST_BULK_WRITE ? 9 : 5;
+    instruct(&instruction, n, 0);
+    for (unsigned i = 0; i < devices; i++) {
+        memset(body + n, 0, entry);
+        body[n] = i < devices - 1 ? (uint8_t)(i + 2) : 1;
+        body[n + 1] = 116;
+        body[n + 3] = 4;
+        n += entry;
+    }
+    if (instruction == DXL_INST_BULK_WRITE)
+        goal_at = n - 4;
+    return n;
+}
+
 typedef struct dxl_answer device(uint8_t *table, size_t n_table, struct dxl_registered registered, uint8_t kind, uint8_t id,
                                  const uint8_t *body, size_t n_body, uint8_t *reply, size_t n_reply);
 
@@ -268,7 +285,7 @@ static const struct dxl_registered none;
 static uint16_t folded(uint16_t last, const struct dxl_answer *answer)
 {
     size_t end = answer->count > 0 ? (size_t)answer->count - 1 : 0;
-    return (uint16_t)(last * 31u + (uint16_t)answer->count + reply[end] + table[116] + 1);
+    return (uint16_t)(last * 31u + (uint16_t)answer->count + (uint16_t)answer->slot + reply[end] + table[116] + 1);
 }
 
 static uint16_t told(device *hear, uint16_t last, size_t n)
@@ -277,7 +294,7 @@ static uint16_t told(device *hear, uint16_t last, size_t n)
         body[goal_at] = (uint8_t)last;
         body[goal_at + 1] = (uint8_t)(last >> 8 & 15);
     }
-    uint8_t id = body[0] == 0x83 ? 254 : 1;
+    uint8_t id = body[0] >= DXL_INST_SYNC_READ ? DXL_BROADCAST_ID : 1;
     struct dxl_answer answer = hear(table, sizeof table, none, DXL_PACKET, id, body, n, reply, sizeof reply);
     return folded(last, &answer);
 }
@@ -419,8 +436,9 @@ static int measure_instructions(void)
     good = good && measure_device("device, Write", sizeof put);
     receive(sizeof put);
     good = good && measure("exchange, Write", exchange_ours, exchange_baseline, sizeof put + 9, 1e-6, "Mcalls/s");
-    size_t n = instruct_200();
-    return good && measure_device("device, Sync Write", n);
+    good = good && measure_device("device, Sync Write", instruct_200());
+    good = good && measure_device("device, Bulk Read", instruct_bulk(DXL_INST_BULK_READ, 200));
+    return good && measure_device("device, Bulk Write", instruct_bulk(DXL_INST_BULK_WRITE, 110));
 }
 
 /* Every reader's call clears what its answer and its record do not use, which is most of it where the chunk is one byte. */

@@ -216,6 +216,17 @@ static void full_record(void)
     count = sizeof held;
 }
 
+/* Each ID with a read or a write of 4 bytes at 116. */
+static void list_bulk(size_t entry)
+{
+    memset(body + 1, 0, sizeof body - 1);
+    for (size_t at = 1; at + entry <= sizeof body; at += entry) {
+        body[at] = (uint8_t)((at - 1) / entry);
+        body[at + 1] = 116;
+        body[at + 3] = 4;
+    }
+}
+
 /* A read or a write of 4 bytes at 116, or what has these bytes; a list behind it has each ID once. */
 static void instruct(uint8_t instruction, size_t n)
 {
@@ -227,6 +238,8 @@ static void instruct(uint8_t instruction, size_t n)
     body[3] = instruction == 0x03 || instruction == 0x04 ? 0 : 4;
     for (size_t at = 5; at < sizeof body; at += entry)
         body[at] = (uint8_t)((at - 5) / entry);
+    if (instruction == 0x92 || instruction == 0x93)
+        list_bulk(instruction == 0x92 ? 5 : 9);
     n_body = n;
 }
 
@@ -243,8 +256,8 @@ static void receive(void)
 /* Every instruction with every number of parameters that matters to one of them. */
 static size_t deepest_device(void (*call)(void))
 {
-    static const uint8_t instructions[] = {0x01, 0x02, 0x03, 0x04, 0x05, 0x06, 0x08, 0x55, 0x82, 0x83, 0x92};
-    static const size_t numbers[] = {0, 1, 2, 3, 4, 5, 6, 7, 11, 105, 258, 1005, DXL_MAX_BODY};
+    static const uint8_t instructions[] = {0x01, 0x02, 0x03, 0x04, 0x05, 0x06, 0x08, 0x55, 0x82, 0x83, 0x92, 0x93, 0x9A};
+    static const size_t numbers[] = {0, 1, 2, 3, 4, 5, 6, 7, 11, 19, 105, 258, 1000, 1005, 1006, DXL_MAX_BODY};
     size_t most = 0;
     for (size_t i = 0; i < sizeof instructions; i++) {
         for (size_t j = 0; j < sizeof numbers / sizeof numbers[0]; j++) {

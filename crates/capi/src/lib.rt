@@ -189,7 +189,7 @@ fn id_of_kind(kind: u8, id: u8) -> u8
 }
 
 // Kind 1 is a packet, 2 a bad checksum. With any other kind nothing was heard: it counts as sent to an ID that no device has.
-// [D1-D37 D40-D42 G5 N5-N8 N10-N12 T1-T3 T6-T18]
+// [D1-D37 D40-D47 G5 N5-N8 N10-N12 T1-T3 T6-T18]
 #[no_mangle]
 pub extern "C" fn dxl_device(
     table: &mut [u8],

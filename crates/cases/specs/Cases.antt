@@ -17,7 +17,7 @@ use Rattle.instructions.specs.Registered.{dropped}
 use Rattle.device.specs.Answers.{DeviceAnswer, sent, refused}
 use Rattle.exchange.specs.Demand1.{packetError}
 use Rattle.cases.specs.Exchanges.{Lent, answerTo, leftAfter, lending, left, at166, registeredTable, goalTooLarge, markedLimits}
-use Rattle.cases.specs.Exchanges.{pingWrongSum, pingWithParameter, lengthStatus, actionTo1, actionToAll, rangeStatus, syncReadPosition, readLimits, longestStatus}
+use Rattle.cases.specs.Exchanges.{pingWrongSum, pingWithParameter, lengthStatus, actionTo1, actionToAll, rangeStatus, syncReadPosition, bulkReadGoal, zeroStatus, bulkWriteGoal, readLimits, longestStatus}
 
 pub data Case : Type 0 where
   -- the packet with an ID and a body, and its bytes
@@ -104,6 +104,11 @@ table =
     (left at166 dropped 8 (0x82 ∷ 0x84 ∷ 0x00 ∷ 0x04 ∷ 0x00 ∷ 0x03 ∷ 0x02 ∷ 0x01 ∷ []) readStatus)
     ∷ exchange readLimits (lending markedLimits dropped 5) (sent 21 0)
     (left markedLimits dropped 5 (0x02 ∷ 0x30 ∷ 0x00 ∷ 0x08 ∷ 0x00 ∷ []) longestStatus)
+    -- the second of a Bulk Read's list, whose own address is read; the first of a Bulk Write's, in silence
+    ∷ exchange bulkReadGoal (lending at166 dropped 11) (sent 15 1)
+    (left at166 dropped 11 (take 11 (drop 7 bulkReadGoal)) zeroStatus)
+    ∷ exchange bulkWriteGoal (lending freshTable dropped 16) (sent 0 0)
+    (left (put freshTable goalPosition 512) dropped 16 (take 16 (drop 7 bulkWriteGoal)) [])
     -- a wrong checksum, and a byte beyond the packet: silence
     ∷ exchange pingWrongSum (lending freshTable dropped 1) (sent 0 0) (left freshTable dropped 1 (0x01 ∷ []) [])
     ∷ exchange (pingTo1 ++ 0x00 ∷ []) (lending freshTable dropped 3) (sent 0 0) (left freshTable dropped 3 (0x01 ∷ 0x19 ∷ []) [])

@@ -21,6 +21,10 @@ pub const INST_SYNC_READ: u8 = 0x82;
 
 pub const INST_SYNC_WRITE: u8 = 0x83;
 
+pub const INST_BULK_READ: u8 = 0x92;
+
+pub const INST_BULK_WRITE: u8 = 0x93;
+
 // The error numbers of a status.
 pub const ERROR_INSTRUCTION: u8 = 0x02;
 

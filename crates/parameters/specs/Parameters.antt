@@ -18,11 +18,11 @@ wordAt params i = getD params i 0 + getD params (i + 1) 0 * 256
 abbrev pub plain : ℕ → Entry
 plain size = record { size = λ rest. size; allowed = λ rest. true }
 
--- ID, address, length, which is not 0
+-- ID, address, length, which is not 0 [D44 D45]
 abbrev pub bulkRead : Entry
 bulkRead = record { size = λ rest. 5; allowed = λ rest. not (eqb (wordAt rest 3) 0) }
 
--- and then as many bytes
+-- and then as many bytes [D44 D45]
 abbrev pub bulkWrite : Entry
 bulkWrite = record { size = λ rest. 5 + wordAt rest 3; allowed = λ rest. not (eqb (wordAt rest 3) 0) }
 

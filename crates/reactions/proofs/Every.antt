@@ -9,14 +9,15 @@ use lib.ListN.{length, getD}
 use borrow.Author.Tests.{eqb-true}
 use Rattle.instructions.specs.Instructions.{Effect, refusing, ping, read, write, regWrite, action, reboot, factoryReset}
 use Rattle.instructions.proofs.Options.{pick}
-use Rattle.parameters.specs.Parameters.{wordAt, syncSearch}
-use Rattle.reactions.specs.Reactions.{Reaction, unchanged, ownId, heardUndefined, byEntry, heardSyncRead, heardSyncWrite, heardInstruction, reaction}
+use Rattle.parameters.specs.Entries.{search}
+use Rattle.parameters.specs.Parameters.{wordAt, bulkRead, bulkWrite, syncSearch}
+use Rattle.reactions.specs.Reactions.{ReplyRule, Reaction, reacting, unchanged, ownId, heardUndefined, byEntry, heardSyncRead, heardSyncWrite, heardBulkRead, heardBulkWrite, heardInstruction, reaction}
 use Rattle.reactions.specs.Refused.{isAction}
 use Rattle.instructions.specs.declared.RegisteredWrite.{RegisteredWrite}
 use Rattle.parameters.specs.declared.Found.{Found}
-use Rattle.parameters.specs.declared.Found.the-variants.{At, Nothing}
 use Rattle.reactions.specs.declared.Heard.{Heard}
 use Rattle.reactions.specs.declared.Heard.the-variants.{Packet, BadChecksum}
+use Rattle.reactions.proofs.Lists.{by-list}
 
 -- what holds of the effect of an Action without parameters (true), and of every other (false)
 module _ (P : Bool → Effect → Type 0) where
@@ -38,17 +39,9 @@ module _ (P : Bool → Effect → Type 0) where
       (writes : (address : ℕ) (bytes : List ℕ) → P false (write table w address bytes))
       (reg-writes : (address : ℕ) (bytes : List ℕ) → P false (regWrite table w address bytes)) (actions : P true (action table w))
       (reboots : P false (reboot table w)) (resets : (option : ℕ) → P false (factoryReset table w option)) where
-    by-entry : (found : Found) (act : ℕ → ℕ → Reaction) → ((slot at : ℕ) → P false (act slot at .effect)) → P false (byEntry found table w act .effect)
-    by-entry (At slot at) act f = f slot at
-    by-entry Nothing act f = nothing-done
-
-    heard-sync-read : (all : Bool) (params : List ℕ) → P false (heardSyncRead all table w params .effect)
-    heard-sync-read true params = by-entry (syncSearch 1 (ownId table) params) _ (λ slot at. reads (wordAt params 0) (wordAt params 2))
-    heard-sync-read false params = refusals 0x02 (omega arith)
-
-    heard-sync-write : (all : Bool) (params : List ℕ) → P false (heardSyncWrite all table w params .effect)
-    heard-sync-write true params = by-entry (syncSearch (1 + wordAt params 2) (ownId table) params) _ (λ slot at. writes _ _)
-    heard-sync-write false params = refusals 0x02 (omega arith)
+    listed : (all : Bool) (found : Found) (act : ℕ → ℕ → Reaction) (replying : ReplyRule) → ((slot at : ℕ) → P false (act slot at .effect))
+        → P false (cond all (byEntry found table w act) (reacting (refusing table w 0x02) replying) .effect)
+    listed = by-list (P false) table w nothing-done (refusals 0x02 (omega arith))
 
     instruction : (i : ℕ) (all : Bool) (params : List ℕ) → P (isAction Packet (i ∷ params)) (heardInstruction i all table w params .effect)
     unfolding heardInstruction
@@ -62,9 +55,13 @@ module _ (P : Bool → Effect → Type 0) where
         (pick (P false) (eqb (length params) 1) _ _ (pick (P false) (all && eqb (getD params 0 0) 0xFF) _ _ nothing-done (resets (getD params 0 0))) (refusals 0x05 (omega arith))) (λ _.
         by-number i 0x08 params _ _ (pick (P false) (eqb (length params) 0) _ _ reboots (refusals 0x05 (omega arith))) (λ _.
         by-number i 0x55 params _ _ nothing-done (λ _.
-        by-number i 0x82 params (heardSyncRead all table w params) _ (heard-sync-read all params) (λ _.
-        by-number i 0x83 params (heardSyncWrite all table w params) (heardUndefined all table w) (heard-sync-write all params) (λ _.
-        rw other (refusals 0x02 (omega arith))))))))))))
+        by-number i 0x82 params (heardSyncRead all table w params) _ (listed all (syncSearch 1 (ownId table) params) _ _ (λ slot at. reads _ _)) (λ _.
+        by-number i 0x83 params (heardSyncWrite all table w params) _
+        (listed all (syncSearch (1 + wordAt params 2) (ownId table) params) _ _ (λ slot at. writes _ _)) (λ _.
+        by-number i 0x92 params (heardBulkRead all table w params) _ (listed all (search bulkRead (ownId table) params 0) _ _ (λ slot at. reads _ _)) (λ _.
+        by-number i 0x93 params (heardBulkWrite all table w params) (heardUndefined all table w)
+        (listed all (search bulkWrite (ownId table) params 0) _ _ (λ slot at. writes _ _)) (λ _.
+        rw other (refusals 0x02 (omega arith))))))))))))))
 
     pub every : (heard : Heard) (all : Bool) (body : List ℕ) → P (isAction heard body) (reaction heard all table w body .effect)
     every BadChecksum all body = refusals 0x03 (omega arith)

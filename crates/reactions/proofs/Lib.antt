@@ -1,3 +1,4 @@
+mod Lists
 pub mod Reactions
 pub mod Every
 pub mod Theorems

@@ -1,6 +1,6 @@
 -- A wrong count of parameters, and a right one, in the reaction to an instruction.
 use mathlib.Core.Path.{_≡_, refl, sym, ap, ap₂, _∙_}
-use mathlib.Core.Bool.{Bool, true, false}
+use mathlib.Core.Bool.{Bool, true, false, cond}
 use mathlib.Core.List.{List, [], _∷_}
 use Prim.Native.Nat.{ℕ, _-_, _≤_, _<_}
 use native.Mathlib.Omega.{arith}
@@ -10,18 +10,19 @@ use lib.Seq.{take-all}
 use borrow.Author.Tests.{eq-eqb, ne-eqb, le-leb, lt-leb}
 use Rattle.registers.specs.Registers.{tableSize}
 use Rattle.instructions.specs.Instructions.{Effect, refusing, ping, read}
-use Rattle.parameters.specs.Parameters.{wordAt, syncSearch}
-use Rattle.reactions.specs.Reactions.{ReplyRule, silent, speaks, ownOnly, reaction, Reaction, reacting, counted, ownId, heardPing, heardRead, heardUndefined, byEntry, syncReadBy, heardSyncRead, heardInstruction}
+use Rattle.parameters.specs.Entries.{search}
+use Rattle.parameters.specs.Parameters.{wordAt, bulkRead, syncSearch}
+use Rattle.reactions.specs.Reactions.{ReplyRule, silent, speaks, ownOnly, reaction, Reaction, reacting, counted, ownId, heardPing, heardRead, heardUndefined, byEntry, heardSyncRead, heardBulkRead, heardInstruction}
 use Rattle.reactions.specs.declared.Heard.{Heard}
 use Rattle.reactions.specs.declared.Heard.the-variants.{Packet, BadChecksum}
 use Rattle.parameters.specs.declared.Found.{Found}
-use Rattle.parameters.specs.declared.Found.the-variants.{At, Nothing}
 use Rattle.instructions.specs.Results.{doneWith, doneOf, sized}
 use Rattle.instructions.proofs.Sized.{of-size}
 use Rattle.reactions.specs.Results.{reactedBy, reactedOf, sizedReaction}
 use Rattle.instructions.specs.declared.Done.{Done}
 use Rattle.reactions.specs.declared.Reacted.{Reacted}
 use Rattle.instructions.specs.declared.RegisteredWrite.{RegisteredWrite}
+use Rattle.reactions.proofs.Lists.{by-list}
 
 module _ (replying : ReplyRule) (table : List ℕ) (w : RegisteredWrite) (e : Effect) (right : Bool) where
   pub wrong-count : right ≡ false → (r : Reacted) → r ≡ reactedBy replying (doneWith 0x05 [] w)
@@ -92,15 +93,17 @@ module _ (table : List ℕ) (w : RegisteredWrite) where
   unfolding read
   read-keeps all params = counted-keeps (eqb (length params) 4) (read table w (wordAt params 0) (wordAt params 2)) refl
 
+  list-keeps : (all : Bool) (found : Found) (act : ℕ → ℕ → Reaction) (replying : ReplyRule) → ((slot at : ℕ) → table ≡ act slot at .effect .table)
+      → table ≡ cond all (byEntry found table w act) (reacting (refusing table w 0x02) replying) .effect .table
+  list-keeps = by-list (λ (e : Effect). table ≡ e .table) table w refl refl
+
   pub sync-read-keeps : (all : Bool) (params : List ℕ) → table ≡ heardSyncRead all table w params .effect .table
   unfolding read
-  sync-read-keeps false params = refl
-  sync-read-keeps true params = by-entry (syncSearch 1 (ownId table) params)
-    where
-      by-entry : (found : Found)
-          → table ≡ byEntry found table w (λ slot at. syncReadBy table w slot (wordAt params 0) (wordAt params 2)) .effect .table
-      by-entry (At slot at) = refl
-      by-entry Nothing = refl
+  sync-read-keeps all params = list-keeps all (syncSearch 1 (ownId table) params) _ _ (λ slot at. refl)
+
+  pub bulk-read-keeps : (all : Bool) (params : List ℕ) → table ≡ heardBulkRead all table w params .effect .table
+  unfolding read
+  bulk-read-keeps all params = list-keeps all (search bulkRead (ownId table) params 0) _ _ (λ slot at. refl)
 
 -- ---- an instruction by its number, and one that is none of those defined
 
@@ -113,11 +116,12 @@ by-number i k all table w params r t e a b =
 
 pub undefined-instruction : (i : ℕ) (all : Bool) (table : List ℕ) (w : RegisteredWrite) (params : List ℕ)
     → (i ≡ 0x01 → ⊥) → (i ≡ 0x02 → ⊥) → (i ≡ 0x03 → ⊥) → (i ≡ 0x04 → ⊥) → (i ≡ 0x05 → ⊥) → (i ≡ 0x06 → ⊥) → (i ≡ 0x08 → ⊥)
-    → (i ≡ 0x55 → ⊥) → (i ≡ 0x82 → ⊥) → (i ≡ 0x83 → ⊥) → heardUndefined all table w ≡ heardInstruction i all table w params
+    → (i ≡ 0x55 → ⊥) → (i ≡ 0x82 → ⊥) → (i ≡ 0x83 → ⊥) → (i ≡ 0x92 → ⊥) → (i ≡ 0x93 → ⊥)
+    → heardUndefined all table w ≡ heardInstruction i all table w params
 unfolding heardInstruction
-undefined-instruction i all table w params n₁ n₂ n₃ n₄ n₅ n₆ n₇ n₈ n₉ n₁₀ =
+undefined-instruction i all table w params n₁ n₂ n₃ n₄ n₅ n₆ n₇ n₈ n₉ n₁₀ n₁₁ n₁₂ =
     rw
-    (ne-eqb i 0x01 n₁, ne-eqb i 0x02 n₂, ne-eqb i 0x03 n₃, ne-eqb i 0x04 n₄, ne-eqb i 0x05 n₅, ne-eqb i 0x06 n₆, ne-eqb i 0x08 n₇, ne-eqb i 0x55 n₈, ne-eqb i 0x82 n₉, ne-eqb i 0x83 n₁₀)
+    (ne-eqb i 0x01 n₁, ne-eqb i 0x02 n₂, ne-eqb i 0x03 n₃, ne-eqb i 0x04 n₄, ne-eqb i 0x05 n₅, ne-eqb i 0x06 n₆, ne-eqb i 0x08 n₇, ne-eqb i 0x55 n₈, ne-eqb i 0x82 n₉, ne-eqb i 0x83 n₁₀, ne-eqb i 0x92 n₁₁, ne-eqb i 0x93 n₁₂)
 
 -- ---- what was heard
 

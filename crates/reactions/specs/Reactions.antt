@@ -6,7 +6,8 @@ use lib.Dec.{leb, eqb}
 use lib.ListN.{length, take, drop, getD}
 use Rattle.registers.specs.Registers.{deviceId}
 use Rattle.instructions.specs.Instructions.{Effect, leaving, refusing, ping, read, write, regWrite, action, reboot, factoryReset}
-use Rattle.parameters.specs.Parameters.{wordAt, syncSearch}
+use Rattle.parameters.specs.Entries.{search}
+use Rattle.parameters.specs.Parameters.{wordAt, bulkRead, bulkWrite, syncSearch}
 use Rattle.instructions.specs.declared.RegisteredWrite.{RegisteredWrite}
 use Rattle.parameters.specs.declared.Found.{Found}
 use Rattle.parameters.specs.declared.Found.the-variants.{At, Nothing}
@@ -91,11 +92,11 @@ abbrev pub byEntry : Found → List ℕ → RegisteredWrite → (ℕ → ℕ →
 byEntry (At slot at) table w act = act slot at
 byEntry Nothing table w act = reacting (unchanged table w) silent
 
--- answered in the slot of its entry [D24 D25 D31 D34]
+-- answered in the slot of its entry [D24 D25 D31 D34 D46]
 abbrev pub syncReadBy : List ℕ → RegisteredWrite → ℕ → ℕ → ℕ → Reaction
 syncReadBy table w slot address n = reacting (read table w address n) (speaks 1 slot)
 
--- not answered [D24 D25 D31]
+-- not answered [D24 D25 D31 D47]
 abbrev pub syncWriteBy : List ℕ → RegisteredWrite → ℕ → List ℕ → Reaction
 syncWriteBy table w address bytes = reacting (write table w address bytes) silent
 
@@ -116,6 +117,24 @@ heardSyncWrite all table w params =
     (λ slot at. syncWriteBy table w (wordAt params 0) (take (wordAt params 2) (drop (at + 1) params))))
     (reacting (refusing table w 0x02) (speaks 2 0))
 
+-- ---- Bulk lists: entries alone, each with an address and a length of its own
+
+-- an entry is an ID, an address and a length [D43 D44 D46]
+abbrev pub heardBulkRead : Bool → List ℕ → RegisteredWrite → List ℕ → Reaction
+heardBulkRead all table w params =
+    cond all
+    (byEntry (search bulkRead (ownId table) params 0) table w
+    (λ slot at. syncReadBy table w slot (wordAt params (at + 1)) (wordAt params (at + 3))))
+    (reacting (refusing table w 0x02) (ownOnly all 1))
+
+-- and then as many bytes as the length says [D43 D44 D47]
+abbrev pub heardBulkWrite : Bool → List ℕ → RegisteredWrite → List ℕ → Reaction
+heardBulkWrite all table w params =
+    cond all
+    (byEntry (search bulkWrite (ownId table) params 0) table w
+    (λ slot at. syncWriteBy table w (wordAt params (at + 1)) (take (wordAt params (at + 3)) (drop (at + 5) params))))
+    (reacting (refusing table w 0x02) (ownOnly all 2))
+
 -- ---- whatever is heard
 
 -- [D2 G4]
@@ -130,7 +149,9 @@ heardInstruction instruction all table w params =
     (cond (eqb instruction 0x08) (heardReboot all table w params)
     (cond (eqb instruction 0x55) (reacting (unchanged table w) silent)
     (cond (eqb instruction 0x82) (heardSyncRead all table w params)
-    (cond (eqb instruction 0x83) (heardSyncWrite all table w params) (heardUndefined all table w))))))))))
+    (cond (eqb instruction 0x83) (heardSyncWrite all table w params)
+    (cond (eqb instruction 0x92) (heardBulkRead all table w params)
+    (cond (eqb instruction 0x93) (heardBulkWrite all table w params) (heardUndefined all table w))))))))))))
 
 -- an empty body counts as an undefined instruction; a bad checksum has no body [D3 D27]
 abbrev pub reaction : Heard → Bool → List ℕ → RegisteredWrite → List ℕ → Reaction

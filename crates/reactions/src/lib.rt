@@ -4,6 +4,8 @@ use codes::ERROR_CHECKSUM;
 use codes::ERROR_DATA_LENGTH;
 use codes::ERROR_INSTRUCTION;
 use codes::INST_ACTION;
+use codes::INST_BULK_READ;
+use codes::INST_BULK_WRITE;
 use codes::INST_FACTORY_RESET;
 use codes::INST_PING;
 use codes::INST_READ;
@@ -17,6 +19,7 @@ use instructions::Done;
 use instructions::NOT_A_TABLE;
 use instructions::RESET_ALL;
 use instructions::RegisteredWrite;
+use parameters::EntryKind;
 use parameters::Found;
 use registers::REG_ID;
 use registers::TABLE_BYTES;
@@ -26,7 +29,7 @@ ghost use mathlib.Core.List.{[]};
 ghost use lib.Dec.{eqb};
 ghost use lib.ListN.{length};
 ghost use Rattle.registers.specs.Registers.{tableSize};
-ghost use Rattle.reactions.specs.Reactions.{silent, ownOnly, heardPing, heardRead, heardWrite, heardRegWrite, heardAction, heardReboot, heardFactoryReset, syncReadBy, syncWriteBy, heardSyncRead, heardSyncWrite, heardInstruction};
+ghost use Rattle.reactions.specs.Reactions.{silent, ownOnly, heardPing, heardRead, heardWrite, heardRegWrite, heardAction, heardReboot, heardFactoryReset, syncReadBy, syncWriteBy, heardSyncRead, heardSyncWrite, heardBulkRead, heardBulkWrite, heardInstruction};
 ghost use Rattle.reactions.specs.Reactions.{reaction as Reactions·reaction};
 ghost use Rattle.instructions.specs.Results.{doneWith};
 ghost use Rattle.reactions.specs.Results.{reactedBy, reactedOf, sizedReaction};
@@ -293,6 +296,47 @@ fn heard_sync_write(
     sync_write_by(table, registered, address, &params[from..to])
 }
 
+// A Bulk list begins with its first entry, and each entry has an address and a length of its own.
+
+fn heard_bulk_read(table: &[u8], registered: RegisteredWrite, all: bool, params: &[u8]) -> Reacted
+    requires { ⌜ length (now table) ≡ tableSize ⌝ }
+    ensures { λ r. ⌜ r ≡ reactedOf (heardBulkRead all (now (table .entry)) registered (now (params .entry))) ⌝ }
+{
+    if !all {
+        return nothing_done(registered, ERROR_INSTRUCTION, false, LEVEL_READ);
+    }
+    let Found::At(slot, at) = parameters::search(params, 0, EntryKind::BulkRead, table[REG_ID])
+    else {
+        return quiet(registered, 0);
+    };
+    let address = parameters::word_at(params, at + 1);
+    let n = parameters::word_at(params, at + 3);
+    sync_read_by(table, registered, slot, address, n)
+}
+
+fn heard_bulk_write(
+    table: &mut [u8],
+    registered: RegisteredWrite,
+    all: bool,
+    params: &[u8],
+) -> Reacted
+    requires { ⌜ length (now table) ≡ tableSize ⌝ }
+    ensures { λ r. ⌜ r ≡ reactedOf (heardBulkWrite all (now (table .entry)) registered (now (params .entry))) ⌝ }
+    ensures { λ _. ⌜ now (table .exit) ≡ heardBulkWrite all (now (table .entry)) registered (now (params .entry)) .effect .table ⌝ }
+{
+    if !all {
+        return nothing_done(registered, ERROR_INSTRUCTION, false, LEVEL_ALL);
+    }
+    let Found::At(_, at) = parameters::search(params, 0, EntryKind::BulkWrite, table[REG_ID]) else {
+        return quiet(registered, 0);
+    };
+    let address = parameters::word_at(params, at + 1);
+    let n = parameters::word_at(params, at + 3);
+    let from = at + 5;
+    let to = from + n as usize;
+    sync_write_by(table, registered, address, &params[from..to])
+}
+
 fn react(
     table: &mut [u8],
     registered: RegisteredWrite,
@@ -315,11 +359,13 @@ fn react(
         INST_STATUS => quiet(registered, 0),
         INST_SYNC_READ => heard_sync_read(&table[..], registered, all, params),
         INST_SYNC_WRITE => heard_sync_write(table, registered, all, params),
+        INST_BULK_READ => heard_bulk_read(&table[..], registered, all, params),
+        INST_BULK_WRITE => heard_bulk_write(table, registered, all, params),
         _ => nothing_done(registered, ERROR_INSTRUCTION, all, LEVEL_ALL),
     }
 }
 
-// An empty body counts as an undefined instruction; a bad checksum has no body. [D1-D27 D31-D34]
+// An empty body counts as an undefined instruction; a bad checksum has no body. [D1-D27 D31-D34 D43-D47]
 pub fn reaction(
     table: &mut [u8],
     registered: RegisteredWrite,

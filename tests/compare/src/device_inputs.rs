@@ -24,7 +24,7 @@ const WRITABLE: [(usize, usize); 10] = [(7, 1), (8, 1), (20, 4), (48, 4), (52, 4
 /// The writable items that lie side by side, and what a write of all of them has.
 const SIDE_BY_SIDE: [(usize, usize); 3] = [(7, 2), (48, 8), (64, 2)];
 
-pub const INSTRUCTIONS: [u8; 9] = [0x01, 0x02, 0x03, 0x04, 0x05, 0x06, 0x08, 0x82, 0x83];
+pub const INSTRUCTIONS: [u8; 11] = [0x01, 0x02, 0x03, 0x04, 0x05, 0x06, 0x08, 0x82, 0x83, 0x92, 0x93];
 
 /// The ends of the ranges, and numbers beside them.
 const ENDS: [i32; 29] = [
@@ -207,9 +207,8 @@ fn ids(rng: &mut Rng, own: u8, count: usize) -> Vec<u8> {
     ids
 }
 
-/// A Sync list, whole or broken in one of the ways that the rules name, far behind our entry too.
-fn sync(rng: &mut Rng, table: &[u8], with_bytes: bool) -> Vec<u8> {
-    let own = table[7];
+/// The IDs of a list; now and then one that none has, or one twice, far behind ours too.
+fn ids_of_a_list(rng: &mut Rng, own: u8) -> Vec<u8> {
     let count = if rng.one_in(6) { rng.between(100, 253) } else { rng.between(0, 12) };
     let mut ids = ids(rng, own, count);
     if !ids.is_empty() && rng.one_in(6) {
@@ -217,6 +216,24 @@ fn sync(rng: &mut Rng, table: &[u8], with_bytes: bool) -> Vec<u8> {
         let place = if rng.one_in(2) { ids.len() } else { rng.between(0, ids.len()) };
         ids.insert(place, wrong);
     }
+    ids
+}
+
+/// Now and then cut, or a byte longer.
+fn cut(rng: &mut Rng, parameters: &mut Vec<u8>) {
+    if rng.one_in(10) && !parameters.is_empty() {
+        let kept = parameters.len() - rng.between(1, parameters.len().min(6));
+        parameters.truncate(kept);
+    }
+    if rng.one_in(20) {
+        parameters.push(rng.byte());
+    }
+}
+
+/// A Sync list, whole or broken in one of the ways that the rules name.
+fn sync(rng: &mut Rng, table: &[u8], with_bytes: bool) -> Vec<u8> {
+    let own = table[7];
+    let ids = ids_of_a_list(rng, own);
     let first = if with_bytes { write(rng, table) } else { read(rng) };
     let length = if with_bytes { first.len() - 2 } else { usize::from(first[2]) + 256 * usize::from(first[3]) };
     let mut parameters = [&first[..2], &(length as u16).to_le_bytes()].concat();
@@ -227,13 +244,40 @@ fn sync(rng: &mut Rng, table: &[u8], with_bytes: bool) -> Vec<u8> {
             parameters.extend(data);
         }
     }
-    if rng.one_in(10) {
-        let kept = parameters.len() - rng.between(1, parameters.len().min(6));
-        parameters.truncate(kept);
+    cut(rng, &mut parameters);
+    parameters
+}
+
+/// What a Bulk list has behind an ID: address, length and, to write, data.
+fn bulk_entry(rng: &mut Rng, table: &[u8], with_bytes: bool) -> Vec<u8> {
+    if !with_bytes {
+        return read(rng);
     }
-    if rng.one_in(20) {
-        parameters.push(rng.byte());
+    let write = write(rng, table);
+    let (address, data) = write.split_at(2);
+    [address, &(data.len() as u16).to_le_bytes(), data].concat()
+}
+
+/// A Bulk list, whole or broken in one of the ways that the rules name. The other entries are for devices of any sort.
+fn bulk(rng: &mut Rng, table: &[u8], with_bytes: bool) -> Vec<u8> {
+    let own = table[7];
+    let ids = ids_of_a_list(rng, own);
+    let empty = if rng.one_in(8) { rng.pick(&[&[0][..], &ids].concat()) } else { own };
+    let mut parameters = Vec::new();
+    for id in ids {
+        let mut entry = bulk_entry(rng, table, with_bytes);
+        if id != own {
+            let length = rng.between(1, 6);
+            entry = [rng.bytes(2), vec![length as u8, 0], rng.bytes(if with_bytes { length } else { 0 })].concat();
+            if id == empty {
+                entry.truncate(4);
+                entry[2] = 0;
+            }
+        }
+        parameters.push(id);
+        parameters.extend(entry);
     }
+    cut(rng, &mut parameters);
     parameters
 }
 
@@ -245,6 +289,8 @@ pub fn body(rng: &mut Rng, table: &[u8], instruction: u8) -> Vec<u8> {
         0x06 => vec![if rng.one_in(6) { rng.byte() } else { rng.pick(&[1, 2, 255]) }],
         0x82 => sync(rng, table, false),
         0x83 => sync(rng, table, true),
+        0x92 => bulk(rng, table, false),
+        0x93 => bulk(rng, table, true),
         _ => vec![],
     };
     if rng.one_in(15) {
@@ -263,6 +309,11 @@ pub fn id(rng: &mut Rng, own: u8) -> u8 {
     }
 }
 
+/// Whether an instruction has a list, which is sent to all devices.
+pub fn has_list(instruction: u8) -> bool {
+    matches!(instruction, 0x82 | 0x83 | 0x92 | 0x93)
+}
+
 /// How often each instruction comes in a life: so that much is written and little reset.
 pub fn instruction_of_a_life(rng: &mut Rng) -> u8 {
     match rng.between(0, 99) {
@@ -273,8 +324,10 @@ pub fn instruction_of_a_life(rng: &mut Rng) -> u8 {
         69..=80 => 0x05,
         81 => 0x06,
         82..=83 => 0x08,
-        84..=88 => 0x82,
-        89..=97 => 0x83,
+        84..=86 => 0x82,
+        87..=91 => 0x83,
+        92..=93 => 0x92,
+        94..=97 => 0x93,
         _ => rng.byte(),
     }
 }

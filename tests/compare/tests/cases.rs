@@ -97,6 +97,34 @@ fn exchanges() {
     assert_eq!(table, wanted);
 }
 
+/// Lists with an entry for device 2 beside that of device 1, to a fresh device 1 and to one that has measured 166: Bulk Read of
+/// present position from 2 and of goal position from 1, and Bulk Write of goal position 512 to 1. [X21 X22]
+#[test]
+fn bulk_exchanges() {
+    let read =
+        [0xFF, 0xFF, 0xFD, 0x00, 0xFE, 0x0D, 0x00, 0x92, 0x02, 0x84, 0x00, 0x04, 0x00, 0x01, 0x74, 0x00, 0x04, 0x00, 0x60, 0x3A];
+    let status = [0xFF, 0xFF, 0xFD, 0x00, 0x01, 0x08, 0x00, 0x55, 0x00, 0x00, 0x00, 0x00, 0x00, 0xBF, 0xB8];
+    let write = [
+        0xFF, 0xFF, 0xFD, 0x00, 0xFE, 0x12, 0x00, 0x93, 0x01, 0x74, 0x00, 0x04, 0x00, 0x00, 0x02, 0x00, 0x00, 0x02, 0x1F, 0x00,
+        0x01, 0x00, 0x50, 0x19, 0xC4,
+    ];
+    for position in [0, 166] {
+        let mut table = [0; 136];
+        assert_eq!(exports::fresh(&mut table), 0);
+        assert_eq!(exports::measure(&mut table, position, 0), 0);
+        let before = table;
+        assert_eq!(exchange(&mut table, &read), status);
+        let (none, mut body, mut reply) = (exports::Registered::default(), [0; 1022], [0; 32]);
+        let answer = exports::exchange(&mut table, none, &read, &mut body, &mut reply);
+        assert_eq!((answer.count, answer.slot, table), (15, 1, before));
+
+        let mut wanted = before;
+        wanted[116..120].copy_from_slice(&512i32.to_le_bytes());
+        assert!(exchange(&mut table, &write).is_empty());
+        assert_eq!(table, wanted);
+    }
+}
+
 /// Bodies sent to a fresh device: the error of the status, and what is then stored from address on. [T11 X15-X18]
 #[test]
 fn writes() {

@@ -1,7 +1,7 @@
 //! The device and the rules of its control table: the proved call and the reference answer the same and leave the same table,
 //! registered write and reply buffer.
 
-use compare::device_inputs::{body, id, instruction_of_a_life, registered, table, value, INSTRUCTIONS};
+use compare::device_inputs::{body, has_list, id, instruction_of_a_life, registered, table, value, INSTRUCTIONS};
 use compare::{DevicePair, Told, BAD_CHECKSUM, PACKET};
 use reference::{fresh, Registered, Rng, TABLE_BYTES};
 use std::collections::BTreeMap;
@@ -24,7 +24,7 @@ fn count(errors: &mut Errors, kind: u8, body: &[u8], told: Told) {
 
 /// Every error that an instruction can meet with came up often.
 fn assert_all_seen(errors: &Errors, least: usize) {
-    let possible: [(u16, &[u8]); 11] = [
+    let possible: [(u16, &[u8]); 13] = [
         (0x01, &[0, 5]),
         (0x02, &[0, 5, 7]),
         (0x03, &[0, 4, 5, 6, 7]),
@@ -34,6 +34,8 @@ fn assert_all_seen(errors: &Errors, least: usize) {
         (0x08, &[0, 5]),
         (0x82, &[0, 2, 7]),
         (0x83, &[2]),
+        (0x92, &[0, 2, 7]),
+        (0x93, &[2]),
         (256, &[3]),
         (257, &[2]),
     ];
@@ -47,7 +49,7 @@ fn assert_all_seen(errors: &Errors, least: usize) {
     }
 }
 
-/// Every instruction byte to every sort of ID with 0 to 20 parameters. [D1-D5 D8-D14 D19 D21 D26 D27 D31-D34]
+/// Every instruction byte to every sort of ID with 0 to 20 parameters. [D1-D5 D8-D14 D19 D21 D26 D27 D31-D34 D43]
 #[test]
 fn every_instruction_id_and_parameter_count() {
     let mut rng = Rng::new(50);
@@ -66,7 +68,7 @@ fn every_instruction_id_and_parameter_count() {
     }
 }
 
-/// [D1-D37 D40 M5 N12 T6-T18]
+/// [D1-D37 D40 D43-D47 M5 N12 T6-T18]
 #[test]
 fn random_calls() {
     let mut rng = Rng::new(51);
@@ -113,7 +115,9 @@ fn every_address_and_length() {
                 let [low, high] = u16::to_le_bytes(address);
                 device.hear(PACKET, table[7], &[2, low, high, length as u8, 0]);
                 device.hear(PACKET, 254, &[0x82, low, high, length as u8, 0, table[7]]);
+                device.hear(PACKET, 254, &[0x92, table[7], low, high, length as u8, 0]);
                 let mut data = rng.bytes(length);
+                device.hear(PACKET, 254, &[&[0x93, table[7], low, high, length as u8, 0], &data[..]].concat());
                 device.hear(PACKET, table[7], &[&[4, low, high], &data[..]].concat());
                 device.hear(PACKET, table[7], &[&[3, low, high], &data[..]].concat());
                 data.fill(0);
@@ -204,7 +208,8 @@ fn refusals() {
 fn lives() {
     let mut rng = Rng::new(56);
     let mut errors = Errors::new();
-    let (mut synced, mut slots) = (0, 0);
+    // by Sync and by Bulk lists
+    let (mut stored, mut slots) = ([0; 2], [0; 2]);
     for _ in 0..60 {
         let mut device = DevicePair::new(&mut rng, &[0; TABLE_BYTES], Registered::default(), REPLY_BYTES);
         device.fresh();
@@ -226,15 +231,14 @@ fn lives() {
             let instruction = instruction_of_a_life(&mut rng);
             let body = if rng.one_in(60) { vec![] } else { body(&mut rng, device.table(), instruction) };
             let kind = if rng.one_in(40) { rng.pick(&[0, 2, 2, 9]) } else { PACKET };
-            let id = match instruction {
-                0x82 | 0x83 if !rng.one_in(5) => 254,
-                _ => id(&mut rng, device.table()[7]),
-            };
+            let id = if has_list(instruction) && !rng.one_in(5) { 254 } else { id(&mut rng, device.table()[7]) };
             let before = device.table().to_vec();
             let told = device.hear(kind, id, &body);
             count(&mut errors, kind, &body, told);
-            synced += usize::from(instruction == 0x83 && device.table() != before);
-            slots += usize::from(instruction == 0x82 && told.slot > 0);
+            for (i, [read, write]) in [[0x82, 0x83], [0x92, 0x93]].into_iter().enumerate() {
+                stored[i] += usize::from(instruction == write && device.table() != before);
+                slots[i] += usize::from(instruction == read && told.slot > 0);
+            }
             // a device that has gone quiet or is locked would try nothing any more
             if rng.one_in(40) {
                 device.hear(PACKET, 254, &[8]);
@@ -242,7 +246,7 @@ fn lives() {
         }
     }
     assert_all_seen(&errors, 20);
-    assert!(synced > 1_000 && slots > 500, "{synced} Sync Writes carried out, {slots} slots above 0");
+    assert!(stored.iter().all(|&n| n > 1_000) && slots.iter().all(|&n| n > 500), "{stored:?} stored, {slots:?} slots above 0");
 }
 
 /// A registered write is judged again by the table as it is at Action, and is dropped also where it is refused then. [D15 M4]
@@ -304,7 +308,93 @@ fn long_sync_lists() {
     }
 }
 
-/// Bodies longer than any packet carries, lengths whose low byte is 0, lists with more entries than there are IDs. [D4]
+/// A Bulk list of all devices but one, our entry at each place, and an end that is whole or bad in one way. The other entries
+/// have addresses and lengths of their own, so that none can stand in for ours. [D44-D47]
+#[test]
+fn long_bulk_lists() {
+    let mut rng = Rng::new(60);
+    for place in 0..=251 {
+        let mut table = table(&mut rng);
+        (table[64], table[68]) = (0, 2);
+        let (own, free) = (table[7], 5);
+        let mut ids: Vec<u8> = (0..=252).filter(|&id| id != own && id != free).collect();
+        ids.insert(place, own);
+        let (mut reads, mut writes) = (vec![0x92], vec![0x93]);
+        for &id in &ids {
+            let (address, data) = match id {
+                _ if id == own => ([104, 0], &[9, 1, 0, 0][..]),
+                _ => ([id, 1], &[1, 2, 3][..1 + usize::from(id % 3)]),
+            };
+            let entry = [&[id], &address[..], &[data.len() as u8, 0]].concat();
+            reads.extend(&entry);
+            writes.extend([&entry[..], data].concat());
+        }
+        // an end, and whether it is whole in a list to read and in one to write
+        let ends: [(&[u8], bool, bool); 12] = [
+            (&[], true, true),
+            (&[free, 104, 0, 1, 0], true, false),
+            (&[free, 104, 0, 1, 0, 1], false, true),
+            (&[free, 104, 0, 0, 0], false, false),
+            (&[253, 104, 0, 1, 0, 1], false, false),
+            (&[254, 104, 0, 1, 0], false, false),
+            (&[255, 104, 0, 1, 0, 1], false, false),
+            (&[own, 104, 0, 1, 0], false, false),
+            (&[ids[0], 104, 0, 1, 0, 1], false, false),
+            (&[free], false, false),
+            (&[free, 104, 0, 1], false, false),
+            (&[free, 104, 0, 1, 1, 1], false, false),
+        ];
+        for (end, good_read, good_write) in ends {
+            let mut device = DevicePair::new(&mut rng, &table, Registered::default(), REPLY_BYTES);
+            let told = device.hear(PACKET, 254, &[&reads[..], end].concat());
+            assert_eq!((told.count > 0, told.slot), (good_read, if good_read { place } else { 0 }), "{end:02x?}");
+            let told = device.hear(PACKET, 254, &[&writes[..], end].concat());
+            assert_eq!((told.count, device.table()[104..108] == [9, 1, 0, 0]), (0, good_write), "{end:02x?}");
+        }
+    }
+}
+
+/// Both Bulk instructions to the own ID: 02 with any parameters, Bulk Read from level 1 on and Bulk Write from level 2; the table
+/// stays. Fast Bulk Read is as undefined as before. [D32 D33 D43]
+#[test]
+fn bulk_to_the_own_id() {
+    let mut rng = Rng::new(61);
+    let lists: [&[u8]; 5] = [&[], &[1], &[1, 65, 0, 1, 0], &[1, 65, 0, 1, 0, 1], &[2, 65, 0, 0, 0]];
+    for (instruction, lowest) in [(0x92, 1), (0x93, 2), (0x9A, 2)] {
+        for level in [0, 1, 2, 3, 255] {
+            for list in lists {
+                let mut device = DevicePair::new(&mut rng, &fresh(), Registered::default(), REPLY_BYTES);
+                device.change(|table| table[68] = level);
+                let before = device.table().to_vec();
+                let told = device.hear(PACKET, 1, &[&[instruction], list].concat());
+                assert_eq!((told.error, told.slot), ((level >= lowest).then_some(2), 0), "{instruction:#x} at level {level}");
+                assert_eq!(device.table(), before);
+            }
+        }
+    }
+}
+
+/// Of what is sent to all devices only Bulk Read is answered, from level 1 on and where the read is refused too; a Bulk Write is
+/// silent, carried out or not. [D31-D34 D46 D47]
+#[test]
+fn bulk_to_all() {
+    let mut rng = Rng::new(62);
+    for level in [0, 1, 2, 255] {
+        let mut device = DevicePair::new(&mut rng, &fresh(), Registered::default(), REPLY_BYTES);
+        device.change(|table| table[68] = level);
+        let answered = level > 0;
+        for (address, error) in [(6, 0), (2, 7)] {
+            let told = device.hear(PACKET, 254, &[0x92, 9, 0, 0, 2, 0, 1, address, 0, 1, 0]);
+            assert_eq!((told.error, told.slot), (answered.then_some(error), usize::from(answered)));
+        }
+        for (value, stored) in [(1, 1), (2, 1), (0, 0)] {
+            let told = device.hear(PACKET, 254, &[0x93, 9, 65, 0, 2, 0, 7, 7, 1, 65, 0, 1, 0, value]);
+            assert_eq!((told.count, device.table()[65]), (0, stored));
+        }
+    }
+}
+
+/// Bodies longer than any packet carries, lengths whose low byte is 0, lists with more entries than there are IDs. [D4 D45]
 #[test]
 fn long_bodies() {
     let mut rng = Rng::new(59);
@@ -329,6 +419,13 @@ fn long_bodies() {
             let list = [&[other], &data[..], &[own], &data[..]].concat();
             for cut in [0, 1, length, length + 1] {
                 device.hear(PACKET, 254, &[&[0x83, a, b, low, high], &list[..list.len() - cut]].concat());
+            }
+            let told = device.hear(PACKET, 254, &[0x92, other, 0, 0, 0, 1, own, a, b, low, high]);
+            assert!(told.slot == 1 && told.error.is_some_and(|error| error & 0x7F == 7));
+            let entry = [&[a, b, low, high], &data[..]].concat();
+            let list = [&[other], &entry[..], &[own], &entry[..]].concat();
+            for cut in [0, 1, length, length + 1, length + 5] {
+                device.hear(PACKET, 254, &[&[0x93], &list[..list.len() - cut]].concat());
             }
         }
     }

@@ -10,7 +10,7 @@ const LONGEST_BODY: usize = 1_022;
 
 /// Packets for the device, packets of any body, bodies that are not well stuffed, and bytes that are no packet.
 fn received(rng: &mut Rng, table: &[u8]) -> Vec<u8> {
-    let instruction = rng.pick(&[0x01, 0x02, 0x03, 0x03, 0x04, 0x05, 0x06, 0x08, 0x55, 0x82, 0x83, 0x92]);
+    let instruction = rng.pick(&[0x01, 0x02, 0x03, 0x03, 0x04, 0x05, 0x06, 0x08, 0x55, 0x82, 0x83, 0x92, 0x93, 0x9A]);
     let mut bytes = match rng.between(0, 9) {
         0 => {
             let length = rng.between(0, 40);

@@ -141,6 +141,12 @@ fn told(table: &mut Table, registered: &mut Registered, sent: Sent, body: &[u8])
             sync_write(table, parameters);
             None
         }
+        0x92 if sent == Sent::ToAll => bulk_read(table, parameters),
+        0x92 => to_us(1, Err(2)),
+        0x93 if sent == Sent::ToAll => {
+            bulk_write(table, parameters);
+            None
+        }
         _ => to_us(2, Err(2)),
     }
 }
@@ -243,11 +249,12 @@ fn sync_list(parameters: &[u8], bytes_with_ids: bool) -> Option<Sync<'_>> {
     }
     let entries: Vec<(u8, &[u8])> = list.chunks(entry).map(|entry| (entry[0], &entry[1..])).collect();
     let ids: Vec<u8> = entries.iter().map(|&(id, _)| id).collect();
-    let twice = (0..ids.len()).any(|i| ids[..i].contains(&ids[i]));
-    if twice || ids.iter().any(|&id| id > 252) {
-        return None;
-    }
-    Some(Sync { address, length, entries })
+    usable(&ids).then_some(Sync { address, length, entries })
+}
+
+/// None of the IDs is above 252, and none comes twice.
+fn usable(ids: &[u8]) -> bool {
+    (0..ids.len()).all(|i| ids[i] <= 252 && !ids[..i].contains(&ids[i]))
 }
 
 fn sync_read(table: &Table, parameters: &[u8]) -> Option<Reply> {
@@ -264,6 +271,49 @@ fn sync_write(table: &mut Table, parameters: &[u8]) {
     if let Some((_, data)) = list.entries.iter().find(|&&(id, _)| id == own) {
         // nobody hears whether it was refused
         let _ = store(table, list.address, data);
+    }
+}
+
+/// What a Bulk list says to one device.
+struct Bulk<'a> {
+    id: u8,
+    address: usize,
+    length: usize,
+    /// None of Bulk Read.
+    data: &'a [u8],
+}
+
+/// All of a Bulk list, or nothing if any rule is broken anywhere in it.
+fn bulk_list(parameters: &[u8], with_data: bool) -> Option<Vec<Bulk<'_>>> {
+    let mut entries = Vec::new();
+    let mut rest = parameters;
+    while !rest.is_empty() {
+        let [id, a, b, c, d, ref behind @ ..] = *rest else {
+            return None;
+        };
+        let (address, length) = (number(a, b), number(c, d));
+        let count = if with_data { length } else { 0 };
+        entries.push(Bulk { id, address, length, data: behind.get(..count)? });
+        rest = &behind[count..];
+    }
+    let ids: Vec<u8> = entries.iter().map(|entry| entry.id).collect();
+    let some_empty = entries.iter().any(|entry| entry.length == 0);
+    (usable(&ids) && !some_empty).then_some(entries)
+}
+
+fn bulk_read(table: &Table, parameters: &[u8]) -> Option<Reply> {
+    let entries = bulk_list(parameters, false)?;
+    let slot = entries.iter().position(|entry| entry.id == table::own_id(table))?;
+    reply(1, slot as u8, table::read(table, entries[slot].address, entries[slot].length))
+}
+
+fn bulk_write(table: &mut Table, parameters: &[u8]) {
+    let own = table::own_id(table);
+    for entry in bulk_list(parameters, true).unwrap_or_default() {
+        if entry.id == own {
+            // nobody hears whether it was refused
+            let _ = store(table, entry.address, entry.data);
+        }
     }
 }
 
@@ -306,6 +356,26 @@ mod tests {
         wanted[116..120].copy_from_slice(&512i32.to_le_bytes());
         assert_eq!(table, wanted);
         assert_eq!(none, Registered::default());
+    }
+
+    /// Both lists have an entry of device 2 beside that of device 1.
+    #[test]
+    fn bulk_exchanges() {
+        let (mut table, mut none) = (fresh(), Registered::default());
+        let read = [
+            0xFF, 0xFF, 0xFD, 0x00, 0xFE, 0x0D, 0x00, 0x92, 0x02, 0x84, 0x00, 0x04, 0x00, 0x01, 0x74, 0x00, 0x04, 0x00, 0x60,
+            0x3A,
+        ];
+        let status = [0xFF, 0xFF, 0xFD, 0x00, 0x01, 0x08, 0x00, 0x55, 0x00, 0x00, 0x00, 0x00, 0x00, 0xBF, 0xB8];
+        assert_eq!(answer(&mut table, &mut none, &read), status);
+        let write = [
+            0xFF, 0xFF, 0xFD, 0x00, 0xFE, 0x12, 0x00, 0x93, 0x01, 0x74, 0x00, 0x04, 0x00, 0x00, 0x02, 0x00, 0x00, 0x02, 0x1F,
+            0x00, 0x01, 0x00, 0x50, 0x19, 0xC4,
+        ];
+        assert!(answer(&mut table, &mut none, &write).is_empty());
+        let mut wanted = fresh();
+        wanted[116..120].copy_from_slice(&512i32.to_le_bytes());
+        assert_eq!(table, wanted);
     }
 
     #[test]
@@ -354,9 +424,21 @@ mod tests {
             table[68] = level;
             error(&mut table, body).is_some()
         };
-        for (body, lowest) in
-            [(&[1][..], 0), (&[1, 1], 0), (&[2], 1), (&[2, 0, 0, 2, 0], 1), (&[0x82], 1), (&[0x83], 2), (&[8], 2), (&[9], 2)]
-        {
+        for (body, lowest) in [
+            (&[1][..], 0),
+            (&[1, 1], 0),
+            (&[2], 1),
+            (&[2, 0, 0, 2, 0], 1),
+            (&[0x82], 1),
+            (&[0x83], 2),
+            (&[0x92], 1),
+            (&[0x92, 1, 0, 0, 2, 0], 1),
+            (&[0x93], 2),
+            (&[0x93, 1, 65, 0, 1, 0, 1], 2),
+            (&[0x9A], 2),
+            (&[8], 2),
+            (&[9], 2),
+        ] {
             for level in [0, 1, 2, 3, 255] {
                 assert_eq!(answered(level, body), level >= lowest, "{body:02x?} at level {level}");
             }
@@ -375,7 +457,21 @@ mod tests {
         assert_eq!(slot(&[0x82, 0, 0, 2, 0, 7, 0, 1, 9]), (13, 2));
         // its own read is refused, in its slot
         assert_eq!(slot(&[0x82, 2, 0, 2, 0, 7, 1]), (11, 1));
-        for nothing in [&[0x82, 0, 0, 0, 0, 1][..], &[0x82, 0, 0, 1, 0, 1, 253], &[0x82, 0, 0, 1, 0, 1, 5, 5], &[0x82, 0, 0, 1]] {
+        assert_eq!(slot(&[0x92, 7, 0, 0, 1, 0, 0, 9, 9, 9, 9, 1, 0, 0, 2, 0, 9, 2, 0, 2, 0]), (13, 2));
+        assert_eq!(slot(&[0x92, 7, 0, 0, 1, 0, 1, 2, 0, 2, 0]), (11, 1));
+        for nothing in [
+            &[0x82, 0, 0, 0, 0, 1][..],
+            &[0x82, 0, 0, 1, 0, 1, 253],
+            &[0x82, 0, 0, 1, 0, 1, 5, 5],
+            &[0x82, 0, 0, 1],
+            // no list; not ours; a length 0, an ID that is none, an ID twice, a cut entry
+            &[0x92],
+            &[0x92, 7, 0, 0, 1, 0],
+            &[0x92, 1, 0, 0, 1, 0, 5, 0, 0, 0, 0],
+            &[0x92, 1, 0, 0, 1, 0, 253, 0, 0, 1, 0],
+            &[0x92, 1, 0, 0, 1, 0, 5, 0, 0, 1, 0, 5, 0, 0, 1, 0],
+            &[0x92, 1, 0, 0, 1, 0, 5, 0, 0, 1],
+        ] {
             assert_eq!(slot(nothing), (0, 0), "{nothing:02x?}");
         }
     }

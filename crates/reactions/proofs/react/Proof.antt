@@ -4,7 +4,7 @@ use Prim.Native.Nat.{ℕ}
 use Rattle.reactions.specs.Reactions.{Reaction, heardInstruction}
 use Rattle.reactions.specs.Results.{reactedOf}
 use Rattle.reactions.specs.declared.Reacted.{Reacted}
-use Rattle.reactions.proofs.Reactions.{by-number, ping-keeps, read-keeps, sync-read-keeps, undefined-instruction}
+use Rattle.reactions.proofs.Reactions.{by-number, ping-keeps, read-keeps, sync-read-keeps, bulk-read-keeps, undefined-instruction}
 use borrow.Author.Needs.{needs}
 use Rattle.reactions.proofs.react.Statement.{statement}
 use Rattle.reactions.proofs.react.Tie as tie
@@ -38,6 +38,12 @@ heard-sync-read-requires c κs = search needs
 
 heard-sync-write-requires : tie.Need-heard-sync-write-requires
 heard-sync-write-requires c κs = search needs
+
+heard-bulk-read-requires : tie.Need-heard-bulk-read-requires
+heard-bulk-read-requires c κs = search needs
+
+heard-bulk-write-requires : tie.Need-heard-bulk-write-requires
+heard-bulk-write-requires c κs = search needs
 
 nothing-done-requires : tie.Need-nothing-done-requires
 nothing-done-requires c κs = search needs
@@ -126,13 +132,31 @@ returns-10 : tie.Need-returns-10
 unfolding heardInstruction
 returns-10 c = let r = c .before .before in let k = r .before .before in arm (k .before .before .before) 0x83 _ _ (k .match .keys10) (r .heard-sync-write .ensures .0) (r .heard-sync-write .ensures .1)
 
+same-length-10 : tie.Need-same-length-10
+same-length-10 c = search needs
+
 returns-11 : tie.Need-returns-11
+unfolding heardInstruction
 returns-11 c =
+    let k = c .before .before in
+    let s = k .before .before .before in
+    arm s 0x92 _ _ (k .match .keys11) (c .heard-bulk-read .ensures) (bulk-read-keeps (s .args .table .now) (s .args .registered) (s .args .all) (s .args .params .now))
+
+same-length-11 : tie.Need-same-length-11
+same-length-11 c = search needs
+
+returns-12 : tie.Need-returns-12
+unfolding heardInstruction
+returns-12 c = let r = c .before .before in let k = r .before .before in arm (k .before .before .before) 0x93 _ _ (k .match .keys12) (r .heard-bulk-write .ensures .0) (r .heard-bulk-write .ensures .1)
+
+returns-13 : tie.Need-returns-13
+returns-13 c =
     let k = c .before in
     let a = k .before .before .before .args in
     let n = k .match .rest in
     let e = undefined-instruction (a .instruction) (a .all) (a .table .now) (a .registered) (a .params .now)
-    (n .0 .0 .0 .0 .0 .0 .0 .0 .0 .1) (n .0 .0 .0 .0 .0 .0 .0 .0 .1) (n .0 .0 .0 .0 .0 .0 .0 .1) (n .0 .0 .0 .0 .0 .0 .1) (n .0 .0 .0 .0 .0 .1)
+    (n .0 .0 .0 .0 .0 .0 .0 .0 .0 .0 .0 .1) (n .0 .0 .0 .0 .0 .0 .0 .0 .0 .0 .1) (n .0 .0 .0 .0 .0 .0 .0 .0 .0 .1)
+    (n .0 .0 .0 .0 .0 .0 .0 .0 .1) (n .0 .0 .0 .0 .0 .0 .0 .1) (n .0 .0 .0 .0 .0 .0 .1) (n .0 .0 .0 .0 .0 .1)
     (n .0 .0 .0 .0 .1) (n .0 .0 .0 .1) (n .0 .0 .1) (n .0 .1) (n .1) in
     (c .nothing-done .ensures ∙ ap reactedOf e, ap (λ (q : Reaction). q .effect .table) e)
 
@@ -150,6 +174,8 @@ react-spec =
     quiet-requires
     heard-sync-read-requires
     heard-sync-write-requires
+    heard-bulk-read-requires
+    heard-bulk-write-requires
     nothing-done-requires
     same-length
     returns
@@ -170,4 +196,8 @@ react-spec =
     returns-9
     same-length-9
     returns-10
-    returns-11)
+    same-length-10
+    returns-11
+    same-length-11
+    returns-12
+    returns-13)

@@ -1,7 +1,7 @@
 //! A device as a case goes on: the generator follows it by the reference, so that instructions meet what the table holds.
 
 use crate::Operation;
-use compare::device_inputs::{self, instruction_of_a_life, value};
+use compare::device_inputs::{self, has_list, instruction_of_a_life, value};
 use compare::{BAD_CHECKSUM, PACKET};
 use reference::{device_call, framed, fresh, packet_of, reading, unstuff, Event, Heard, Registered, Rng, Table, TABLE_BYTES};
 
@@ -108,10 +108,7 @@ impl Board {
             }
             _ => device_inputs::body(rng, &table, instruction),
         };
-        let id = match instruction {
-            0x82 | 0x83 if !rng.one_in(5) => 254,
-            _ => device_inputs::id(rng, table[7]),
-        };
+        let id = if has_list(instruction) && !rng.one_in(5) { 254 } else { device_inputs::id(rng, table[7]) };
         (id, body)
     }
 

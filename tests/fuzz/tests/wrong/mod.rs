@@ -37,6 +37,8 @@ pub fn all() -> Vec<Wrong> {
         wrong("dxl_exchange", "the body buffer", Calls { exchange: body_before_the_tests, ..PROVED }),
         wrong("dxl_exchange", "the answer", Calls { exchange: hears_a_wrong_checksum, ..PROVED }),
         wrong("dxl_device", "the bytes around the table", Calls { device: before_the_table, ..PROVED }),
+        wrong("dxl_device", "the answer", Calls { device: bulk_slot_of_the_id, ..PROVED }),
+        wrong("dxl_device", "the table", Calls { device: cut_entry_left_out, ..PROVED }),
     ]
 }
 
@@ -222,4 +224,29 @@ fn before_the_table(table: &mut [u8], registered: Registered, kind: u8, id: u8, 
         unsafe { *black_box(table.as_mut_ptr().wrapping_sub(1)) ^= 0x40 };
     }
     answer
+}
+
+/// A Bulk Read is answered in the slot of the ID, as a Ping is, and not in that of the entry.
+fn bulk_slot_of_the_id(table: &mut [u8], registered: Registered, kind: u8, id: u8, body: &[u8], reply: &mut [u8]) -> Answer {
+    let answer = exports::device(table, registered, kind, id, body, reply);
+    if answer.count > 0 && id == 254 && body.first() == Some(&0x92) {
+        return Answer { slot: usize::from(reply[4]), ..answer };
+    }
+    answer
+}
+
+/// The last entry of a Bulk Write, where it is cut short, does not void the list.
+fn cut_entry_left_out(table: &mut [u8], registered: Registered, kind: u8, id: u8, body: &[u8], reply: &mut [u8]) -> Answer {
+    let mut whole = body.len().min(1);
+    if body.first() == Some(&0x93) {
+        while let [_, _, _, low, high, ..] = body[whole..] {
+            let next = whole + 5 + usize::from(u16::from_le_bytes([low, high]));
+            if next > body.len() {
+                break;
+            }
+            whole = next;
+        }
+        return exports::device(table, registered, kind, id, &body[..whole], reply);
+    }
+    exports::device(table, registered, kind, id, body, reply)
 }

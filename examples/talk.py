@@ -247,6 +247,14 @@ def refusals(talk):
              "06: min above max", error=0x06)
 
 
+def narrow(talk):
+    # The goal position is 1024. Limits that leave it outside are refused, so that it is moved first.
+    talk.ask("Write of max position 1000", WRITE, at(MAX_POSITION, 1000), "06: the goal position is above it", error=0x06)
+    talk.ask("Write of goal position", WRITE, at(GOAL_POSITION, 900), "stored: 900")
+    talk.ask("Write of max position 1000", WRITE, at(MAX_POSITION, 1000), "stored: the goal position is inside")
+    talk.ask("Write of max position", WRITE, at(MAX_POSITION, 4095), "stored: 4095 again")
+
+
 def stuffing(talk):
     # -131073 is FF FF FD FF
     talk.ask("Write of homing offset, stuffed", WRITE, at(HOMING_OFFSET, -131073), "stored: -131073")
@@ -284,6 +292,7 @@ def talk_to(line, device, gap, slot):
     register_and_act(talk)
     damage(talk, gap)
     refusals(talk)
+    narrow(talk)
     stuffing(talk)
     sync(talk, slot)
     bulk(talk, slot)

@@ -176,7 +176,7 @@ enum {
     DXL_ERROR_CHECKSUM = 0x03,    /* a packet to the own ID with a wrong checksum */
     DXL_ERROR_DATA_RANGE = 0x04,  /* a value outside its register's range, or an unknown option of Factory Reset */
     DXL_ERROR_DATA_LENGTH = 0x05, /* a wrong count of parameters, a length of 0, or a register written in part */
-    DXL_ERROR_DATA_LIMIT = 0x06,  /* min above max, or a goal position outside them */
+    DXL_ERROR_DATA_LIMIT = 0x06,  /* min, max or goal position written, and the goal would lie outside the limits */
     DXL_ERROR_ACCESS = 0x07,      /* an undefined byte, a read-only one, or ROM while torque is on */
     DXL_ERROR_ALERT = 0x80
 };
@@ -390,6 +390,11 @@ struct dxl_answer {
  * The instruction changes the table. One that is refused with an error in the status leaves it as it was, except that Action
  * drops the registered write that it found and sets byte 69 to 0. The status packet starts at byte 0 of reply, and the bytes
  * after it stay as they were; for silence all of reply stays.
+ *
+ * On a table that dxl_fresh has filled and only calls of this library have changed, the goal position is never below the min
+ * position nor above the max position, whatever was heard. A write of the limits that would leave it outside is refused with
+ * DXL_ERROR_DATA_LIMIT: after dxl_fresh and after Reboot the goal position is the min position, so that the min position can be
+ * raised only once the goal position has moved.
  */
 struct dxl_answer dxl_device(uint8_t *table, size_t n_table, struct dxl_registered registered, uint8_t kind, uint8_t id,
                              const uint8_t *body, size_t n_body, uint8_t *reply, size_t n_reply);

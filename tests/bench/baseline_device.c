@@ -129,10 +129,8 @@ static uint8_t judge_write(const uint8_t *table, size_t address, const uint8_t *
     int goal = address <= GOAL && end > GOAL;
     if (limits || goal) {
         int32_t max = after(table, address, data, n, MAX, 4), min = after(table, address, data, n, MIN, 4);
-        if (limits && min > max)
-            return LIMIT;
         int32_t wanted = after(table, address, data, n, GOAL, 4);
-        if (goal && (wanted < min || wanted > max))
+        if (wanted < min || wanted > max)
             return LIMIT;
     }
     return GOOD;

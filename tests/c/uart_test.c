@@ -436,11 +436,18 @@ static void test_changes(void)
 static void test_rom(void)
 {
     const uint8_t limits[] = {DXL_REG_MAX_POSITION, 0, 0xE8, 0x03, 0, 0, 100, 0, 0, 0};
+    const uint8_t goal_256[] = {DXL_REG_GOAL_POSITION, 0, 0x00, 0x01, 0, 0};
     forget_store();
     power_up("ROM over a power cut");
     write_byte(1, DXL_REG_ID, 9);
     run(20000, 100);
     expect_status(1, 0, NOTHING, 0); /* under the ID from before */
+    instruct(9, DXL_INST_WRITE, limits, sizeof limits);
+    run(20000, 100);
+    expect_status(9, DXL_ERROR_DATA_LIMIT, NOTHING, 0); /* the goal is 0, below the new min position */
+    instruct(9, DXL_INST_WRITE, goal_256, sizeof goal_256);
+    run(20000, 100);
+    expect_status(9, 0, NOTHING, 0);
     instruct(9, DXL_INST_WRITE, limits, sizeof limits);
     run(20000, 100);
     expect_status(9, 0, NOTHING, 0);

@@ -15,6 +15,7 @@ ghost use Rattle.stuffing.specs.Answers.{removalAnswer, removalOut};
 ghost use Rattle.encoder.specs.Encoding.{encodeAnswer, encodeOut};
 ghost use Rattle.encoder.specs.RoundTrip.{RoundTrip};
 ghost use Rattle.table_rules.specs.Outcomes.{inTable};
+ghost use Rattle.table_rules.specs.Fence.{Fence};
 ghost use Rattle.control_table.specs.Answers.{freshOut, measureOut};
 ghost use Rattle.reading.specs.Calls.{feed as Call·feed, gap as Call·gap};
 ghost use Rattle.packet.specs.Burst.{BurstDetected};
@@ -23,6 +24,7 @@ ghost use Rattle.device.specs.Answers.{callAnswer, callRegistered, callTable, c
 ghost use Rattle.device.specs.Promises.{DevicePromises};
 ghost use Rattle.exchange.specs.Exchange.{exchangeAnswer, exchangeRegistered, exchangeTable, exchangeBody, exchangeOut};
 ghost use Rattle.exchange.specs.Stays.{StaysAccepted};
+ghost use Rattle.exchange.specs.GoalWithinLimits.{GoalWithinLimits};
 ghost use Rattle.exchange.specs.Promises.{ExchangePromises};
 ghost use Rattle.cases.specs.Cases.{CasesHold};
 ghost use Rattle.numbers.specs.Exported.{exported, exportedRefusal, stepNumbers, deviceNumbers};
@@ -72,22 +74,23 @@ pub extern "C" fn dxl_unstuff(body: &[u8], out: &mut [u8]) -> i64
     numbers::unstuffed(stuffing::unstuff_into(body, out))
 }
 
-// The table as it comes from the factory: 0, or minus 21 for a table that is not 136 bytes long. [D42 G5 N5 N13 T1 T2 T4]
+// The table as it comes from the factory: 0, or minus 21 for a table that is not 136 bytes long.
+// [D42 G5 N5 N13 T1 T2 T4 T20]
 #[no_mangle]
 pub extern "C" fn dxl_fresh(table: &mut [u8]) -> i64
     ensures { λ r. ⌜ r ≡ exportedRefusal (inTable (now (table .entry)) none) ⌝ }
     ensures { λ _. ⌜ now (table .exit) ≡ freshOut (now (table .entry)) ⌝ }
-    ensures { λ _. ⌜ StaysAccepted ⌝ }
+    ensures { λ _. ⌜ StaysAccepted × GoalWithinLimits ⌝ }
 {
     numbers::change(control_table::fresh(table))
 }
 
-// Present position and hardware error: 0, or minus 21. [D42 G5 N5 N13 T5]
+// Present position and hardware error: 0, or minus 21. [D42 G5 N5 N13 T5 T20]
 #[no_mangle]
 pub extern "C" fn dxl_measure(table: &mut [u8], position: i32, hardware_error: u8) -> i64
     ensures { λ r. ⌜ r ≡ exportedRefusal (inTable (now (table .entry)) none) ⌝ }
     ensures { λ _. ⌜ now (table .exit) ≡ measureOut (now (table .entry)) position «hardware_error» ⌝ }
-    ensures { λ _. ⌜ StaysAccepted ⌝ }
+    ensures { λ _. ⌜ StaysAccepted × GoalWithinLimits ⌝ }
 {
     numbers::change(control_table::measure(table, position, hardware_error))
 }
@@ -189,7 +192,7 @@ fn id_of_kind(kind: u8, id: u8) -> u8
 }
 
 // Kind 1 is a packet, 2 a bad checksum. With any other kind nothing was heard: it counts as sent to an ID that no device has.
-// [D1-D37 D40-D47 G5 N5-N8 N10-N12 T1-T3 T6-T18]
+// [D1-D37 D40-D47 G5 N5-N8 N10-N12 T1-T3 T6-T20]
 #[no_mangle]
 pub extern "C" fn dxl_device(
     table: &mut [u8],
@@ -204,7 +207,7 @@ pub extern "C" fn dxl_device(
         (callRegistered (now (table .entry)) registered (heardBy kind) (idOfKind kind id) (now (body .entry)) (now (reply .entry))) ⌝ }
     ensures { λ _. ⌜ (now (table .exit) ≡ callTable (now (table .entry)) registered (heardBy kind) (idOfKind kind id) (now (body .entry)) (now (reply .entry)))
         × (now (reply .exit) ≡ callOut (now (table .entry)) registered (heardBy kind) (idOfKind kind id) (now (body .entry)) (now (reply .entry))) ⌝ }
-    ensures { λ _. ⌜ DevicePromises × StaysAccepted ⌝ }
+    ensures { λ _. ⌜ DevicePromises × StaysAccepted × GoalWithinLimits × Fence ⌝ }
 {
     let heard = heard_by(kind);
     let heard_id = id_of_kind(kind, id);
@@ -212,7 +215,7 @@ pub extern "C" fn dxl_device(
 }
 
 // The device call on a packet as received; its body is written to `body` without its stuffing. What is no well-formed packet is
-// met with silence. [D38-D42 G5 N3 N4]
+// met with silence. [D38-D42 G5 N3 N4 T20]
 #[no_mangle]
 pub extern "C" fn dxl_exchange(
     table: &mut [u8],

@@ -28,7 +28,7 @@ use Rattle.lists.specs.Numbers.{numberAt, bytesOf}
 use Rattle.items.specs.Items.{valueAt, put}
 use Rattle.control_table.specs.Fresh.{freshened}
 use Rattle.registers.specs.Registers.{everyByte}
-use Rattle.table_rules.specs.Rules.{everyTouched, limitsOrdered, goalWithin, writeRule, readRule}
+use Rattle.table_rules.specs.Rules.{everyTouched, goalInside, limitsKept, writeRule, readRule}
 use Rattle.instructions.specs.Instructions.{read, write, action}
 use Rattle.parameters.specs.Entries.{occurs, searchFrom}
 use Rattle.reactions.specs.Reactions.{heardInstruction}
@@ -163,5 +163,5 @@ each (d ∷ cs) e c m =
 
 -- the test is computed here
 pub cases-hold : CasesHold
-unfolding reachesAcross reduceIf shift shifts crcByte crcFrom stuffAfter wellAfter unstuffAfter lengthOf bodyOf checksumRight withChecksum packetOf frontAgrees lengthAgrees verdict registers permitsBy numberAt valueAt bytesOf put freshened everyByte everyTouched limitsOrdered goalWithin writeRule readRule read write action occurs searchFrom heardInstruction executed stateRefusal roomRefusal callRefusal removalRefusal idHeard
+unfolding reachesAcross reduceIf shift shifts crcByte crcFrom stuffAfter wellAfter unstuffAfter lengthOf bodyOf checksumRight withChecksum packetOf frontAgrees lengthAgrees verdict registers permitsBy numberAt valueAt bytesOf put freshened everyByte everyTouched goalInside limitsKept writeRule readRule read write action occurs searchFrom heardInstruction executed stateRefusal roomRefusal callRefusal removalRefusal idHeard
 cases-hold = each table refl

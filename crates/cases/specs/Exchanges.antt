@@ -3,7 +3,7 @@ use mathlib.Core.List.{List, [], _∷_, _++_}
 use Prim.Native.Nat.{ℕ, _-_}
 use lib.IntN.{pos}
 use lib.ListN.{length, replicate}
-use Rattle.registers.specs.Registers.{maxPosition, minPosition, registeredInstruction}
+use Rattle.registers.specs.Registers.{maxPosition, minPosition, goalPosition, registeredInstruction}
 use Rattle.items.specs.Items.{put}
 use Rattle.control_table.specs.Fresh.{freshTable, measured}
 use Rattle.device.specs.Answers.{DeviceAnswer}
@@ -49,6 +49,10 @@ left table w n body status =
 abbrev pub at166 : List ℕ
 at166 = measured freshTable (pos 166) 0
 
+-- one with the goal position at 512
+abbrev pub goalAt512 : List ℕ
+goalAt512 = put freshTable goalPosition 512
+
 -- one that says that a write is registered, and such a write: goal position 4096, which is out of range
 abbrev pub registeredTable : List ℕ
 registeredTable = put freshTable registeredInstruction 1
@@ -82,6 +86,13 @@ actionToAll = 0xFF ∷ 0xFF ∷ 0xFD ∷ 0x00 ∷ 0xFE ∷ 0x03 ∷ 0x00 ∷ 0x0
 
 abbrev pub rangeStatus : List ℕ
 rangeStatus = 0xFF ∷ 0xFF ∷ 0xFD ∷ 0x00 ∷ 0x01 ∷ 0x04 ∷ 0x00 ∷ 0x55 ∷ 0x04 ∷ 0xBA ∷ 0x8C ∷ []
+
+-- Write of 512 at 52; the status with error 06
+abbrev pub raiseMin : List ℕ
+raiseMin = 0xFF ∷ 0xFF ∷ 0xFD ∷ 0x00 ∷ 0x01 ∷ 0x09 ∷ 0x00 ∷ 0x03 ∷ 0x34 ∷ 0x00 ∷ 0x00 ∷ 0x02 ∷ 0x00 ∷ 0x00 ∷ 0x8D ∷ 0x09 ∷ []
+
+abbrev pub limitStatus : List ℕ
+limitStatus = 0xFF ∷ 0xFF ∷ 0xFD ∷ 0x00 ∷ 0x01 ∷ 0x04 ∷ 0x00 ∷ 0x55 ∷ 0x06 ∷ 0xB5 ∷ 0x0C ∷ []
 
 -- Sync Read of four bytes at 132 from 3, 2 and 1
 abbrev pub syncReadPosition : List ℕ

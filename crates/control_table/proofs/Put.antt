@@ -1,7 +1,8 @@
 -- A number in the place of a register, as stores of its bytes.
 use mathlib.Core.Path.{_≡_, refl, sym, ap, _∙_}
+use mathlib.Core.Bool.{false}
 use mathlib.Core.List.{List}
-use Prim.Native.Nat.{ℕ, _/_, _%_, _≤_, _<_}
+use Prim.Native.Nat.{ℕ, _+_, _/_, _%_, _≤_, _<_}
 use native.Mathlib.Nat.{mod-eq-of-lt}
 use native.Mathlib.Omega.{arith}
 use lib.IntN.{ℤ}
@@ -10,8 +11,9 @@ use lib.Seq.{sets}
 use Rattle.registers.specs.Registers.{Register, tableSize, endOf, presentPosition, hardwareError}
 use Rattle.lists.specs.Numbers.{bytesOf}
 use Rattle.lists.proofs.Numbers.{bytes-length}
-use Rattle.items.specs.Items.{put, unsigned}
-use Rattle.table_rules.proofs.Stored.{stored-sets, stored-length}
+use Rattle.items.specs.Items.{valueAt, valueOf, put, unsigned}
+use Rattle.table_rules.specs.Rules.{touches}
+use Rattle.table_rules.proofs.Stored.{value-at, value-kept, stored-sets, stored-length}
 use Rattle.control_table.specs.Fresh.{measured}
 
 module _ (table : List ℕ) (r : Register) (u : ℕ) (inside : endOf r ≤ length table) where
@@ -22,6 +24,20 @@ module _ (table : List ℕ) (r : Register) (u : ℕ) (inside : endOf r ≤ lengt
   pub put-length : length (put table r u) ≡ length table
   unfolding put
   put-length = stored-length table (r .address) (bytesOf (r .bytes) u) (omega (arith, bytes-length (r .bytes) u))
+
+  -- the register's value, and that of one that has none of its bytes
+  pub put-value : valueOf r (put table r u) ≡ valueAt (bytesOf (r .bytes) u) 0 (r .bytes)
+  unfolding put
+  put-value =
+      let l = bytes-length (r .bytes) u in
+      let e : r .address + 0 ≡ r .address = omega arith in
+      rw e at (value-at table (r .address) (bytesOf (r .bytes) u) (omega arith) 0 (r .bytes) (omega arith))
+
+  pub put-kept : (s : Register) → touches (r .address) (r .bytes) s ≡ false → valueOf s (put table r u) ≡ valueOf s table
+  unfolding put
+  put-kept s e =
+      let l = bytes-length (r .bytes) u in
+      value-kept table (r .address) (bytesOf (r .bytes) u) (omega arith) s (rw l e)
 
 -- a register of one byte
 pub put-byte : (table : List ℕ) (r : Register) (b : ℕ) → r .bytes ≡ 1 → r .address < length table → b < 256 → put table r b ≡ set table (r .address) b

@@ -69,7 +69,7 @@ module _ (table : List ℕ) (w : RegisteredWrite) (sized : length table ≡ tabl
       to-whomever table w heard id body (λ (r : Reaction). Small (r .effect))
       (λ all. every (λ acting. Small) table w (λ error le. none-small _ refl le) (none-small _ refl (omega arith)) ping-small read-small (write-small table w)
       reg-write-small action-small (none-small _ refl (omega arith))
-      (each-option Small table w (λ keeps. none-small _ refl (omega arith)) (none-small _ refl (omega arith))) heard all body)
+      (each-option Small table w (λ keeps low high. none-small _ refl (omega arith)) (none-small _ refl (omega arith))) heard all body)
       (none-small _ refl (omega arith))
 
   -- the reply can be sent

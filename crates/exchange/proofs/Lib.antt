@@ -1,5 +1,7 @@
 pub mod Hearing
 pub mod Theorems
 pub mod Demand1
+pub mod Kept
 pub mod Stays
+pub mod GoalWithinLimits
 pub mod Promises

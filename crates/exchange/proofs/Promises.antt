@@ -5,6 +5,7 @@ use Rattle.exchange.specs.Promises.{ExchangePromises}
 use Rattle.exchange.proofs.Theorems.{only-packets}
 use Rattle.exchange.proofs.Demand1.{demand-1, passed}
 use Rattle.exchange.proofs.Stays.{stays-accepted}
+use Rattle.exchange.proofs.GoalWithinLimits.{goal-within-limits}
 
 status-written : StatusWritten
 status-written table w packet body out n slot e h =
@@ -13,4 +14,10 @@ status-written table w packet body out n slot e h =
 
 pub exchange-promises : ExchangePromises
 exchange-promises =
-    record { only-packets = only-packets; demand-1 = demand-1; status-written = status-written; stays-accepted = stays-accepted }
+    record {
+      only-packets = only-packets;
+      demand-1 = demand-1;
+      status-written = status-written;
+      stays-accepted = stays-accepted;
+      goal-within-limits = goal-within-limits;
+    }

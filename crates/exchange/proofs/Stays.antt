@@ -10,48 +10,34 @@ use borrow.Author.Tests.{le-leb, eq-eqb}
 use Rattle.lists.specs.Answer.{firstFailing}
 use Rattle.registers.specs.Registers.{tableSize}
 use Rattle.reactions.specs.Reactions.{ownId}
-use Rattle.instructions.proofs.Fit.{FitTable, fresh-fit, measure-fit}
+use Rattle.instructions.proofs.Fit.{FitTable, fit-kept}
 use Rattle.device.specs.Answers.{stateRefusal}
 use Rattle.device.proofs.Calls.{state-accepted}
-use Rattle.device.proofs.Stays.{call-fit, call-count}
+use Rattle.device.proofs.Stays.{call-count}
 use Rattle.instructions.specs.declared.RegisteredWrite.{RegisteredWrite}
 use Rattle.reactions.specs.declared.Heard.the-variants.{Packet}
-use Rattle.exchange.specs.Exchange.{heardOf, bodyRefusal, exchangeTable, exchangeRegistered}
+use Rattle.exchange.specs.Exchange.{heardOf, bodyRefusal, exchangeRegistered}
 use Rattle.exchange.specs.Calls.{State, DeviceCall, fresh, measurement, device, exchange, lend, afterCall, afterAll, refusalIn}
 use Rattle.exchange.specs.Stays.{lentBy, lastLent, StaysAccepted}
+use Rattle.exchange.proofs.Kept.{after-keeps}
 
 -- ---- one call
 
-module _ (table : List ℕ) (w : RegisteredWrite) (f : FitTable table) (packet body out : List ℕ) where
-  exchange-fit : FitTable (exchangeTable table w packet body out)
-  exchange-fit = by-refusal (bodyRefusal table w packet body out) refl
-    where
-      by-refusal : (r : Option ℕ) → bodyRefusal table w packet body out ≡ r → FitTable (exchangeTable table w packet body out)
-      by-refusal none e = rw e (call-fit table w f Packet (heardOf packet .id) (heardOf packet .body) out)
-      by-refusal (some number) e = rw e f
-
-  exchange-count : leb (exchangeRegistered table w packet body out .count) 8 ≡ leb (w .count) 8
-  exchange-count = by-refusal (bodyRefusal table w packet body out) refl
-    where
-      by-refusal : (r : Option ℕ) → bodyRefusal table w packet body out ≡ r → leb (exchangeRegistered table w packet body out .count) 8 ≡ leb (w .count) 8
-      by-refusal none e = rw e (call-count table w f Packet (heardOf packet .id) (heardOf packet .body) out)
-      by-refusal (some number) e = rw e refl
-
-after-fit : (s : State) → FitTable (s .table) → (call : DeviceCall) → FitTable (afterCall s call .table)
-after-fit s f fresh = fresh-fit (s .table) f
-after-fit s f (measurement position error) = measure-fit (s .table) f position error
-after-fit s f (device heard id body out) = call-fit (s .table) (s .registered) f heard id body out
-after-fit s f (exchange packet body out) = exchange-fit (s .table) (s .registered) f packet body out
-after-fit s f (lend w) = f
+exchange-count : (table : List ℕ) (w : RegisteredWrite) (packet body out : List ℕ) → leb (exchangeRegistered table w packet body out .count) 8 ≡ leb (w .count) 8
+exchange-count table w packet body out = by-refusal (bodyRefusal table w packet body out) refl
+  where
+    by-refusal : (r : Option ℕ) → bodyRefusal table w packet body out ≡ r → leb (exchangeRegistered table w packet body out .count) 8 ≡ leb (w .count) 8
+    by-refusal none e = rw e (call-count table w Packet (heardOf packet .id) (heardOf packet .body) out)
+    by-refusal (some number) e = rw e refl
 
 -- the count is as good as that of the registered write that was lent last
-after-count : (s : State) → FitTable (s .table) → (w : RegisteredWrite) → leb (s .registered .count) 8 ≡ leb (w .count) 8 → (call : DeviceCall)
+after-count : (s : State) (w : RegisteredWrite) → leb (s .registered .count) 8 ≡ leb (w .count) 8 → (call : DeviceCall)
     → leb (afterCall s call .registered .count) 8 ≡ leb (lentBy w call .count) 8
-after-count s f w e fresh = e
-after-count s f w e (measurement position error) = e
-after-count s f w e (device heard id body out) = call-count (s .table) (s .registered) f heard id body out ∙ e
-after-count s f w e (exchange packet body out) = exchange-count (s .table) (s .registered) f packet body out ∙ e
-after-count s f w e (lend new) = refl
+after-count s w e fresh = e
+after-count s w e (measurement position error) = e
+after-count s w e (device heard id body out) = call-count (s .table) (s .registered) heard id body out ∙ e
+after-count s w e (exchange packet body out) = exchange-count (s .table) (s .registered) packet body out ∙ e
+after-count s w e (lend new) = refl
 
 -- ---- a list of calls
 
@@ -62,7 +48,8 @@ fit-refusal s f = rw (eq-eqb (length (s .table)) tableSize (f .sized), le-leb (o
 refusal-after : (calls : List DeviceCall) (s : State) → FitTable (s .table) → (w : RegisteredWrite) → leb (s .registered .count) 8 ≡ leb (w .count) 8
     → refusalIn (afterAll s calls) ≡ firstFailing ((leb (lastLent w calls .count) 8, 23) ∷ [])
 refusal-after [] s f w e = fit-refusal s f ∙ ap (λ (b : Bool). firstFailing ((b, 23) ∷ [])) e
-refusal-after (call ∷ calls) s f w e = refusal-after calls (afterCall s call) (after-fit s f call) (lentBy w call) (after-count s f w e call)
+refusal-after (call ∷ calls) s f w e =
+    refusal-after calls (afterCall s call) (after-keeps FitTable fit-kept s f call) (lentBy w call) (after-count s w e call)
 
 -- the one that was lent last is one of those lent
 last-short : (calls : List DeviceCall) (w : RegisteredWrite) → w .count ≤ 8 → ((v : RegisteredWrite) → List·Memᴰ (lend v) calls → v .count ≤ 8)

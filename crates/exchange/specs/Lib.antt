@@ -4,4 +4,5 @@ pub mod Demand1
 pub mod Written
 pub mod Calls
 pub mod Stays
+pub mod GoalWithinLimits
 pub mod Promises

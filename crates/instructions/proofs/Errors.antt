@@ -12,7 +12,7 @@ use Rattle.lists.specs.Answer.{firstFailing}
 use Rattle.lists.proofs.Bools.{and-left, and-right}
 use Rattle.registers.specs.Registers.{registers, everyByte}
 use Rattle.items.specs.Items.{valueInRange}
-use Rattle.table_rules.specs.Rules.{leastToWrite, covers, everyTouched, limitsOrdered, goalWithin, stored, readRule, writeRule}
+use Rattle.table_rules.specs.Rules.{leastToWrite, covers, everyTouched, limitsKept, stored, readRule, writeRule}
 use Rattle.instructions.specs.Instructions.{errorOf}
 
 record Numbered (r : Option ℕ) : Type 0 where
@@ -45,6 +45,6 @@ write-number table address bytes =
     ∷ (everyByte (leastToWrite table) address n, 0x07)
     ∷ (everyTouched address n (covers address n) registers, 0x05)
     ∷ (everyTouched address n (valueInRange new) registers, 0x04)
-    ∷ (limitsOrdered address n new && goalWithin address n new, 0x06)
+    ∷ (limitsKept address n new, 0x06)
     ∷ [])
     refl .at-most-7

@@ -1,16 +1,15 @@
--- What an instruction finds it leaves: a table of its size with an ID up to 252, and a registered write of at most 8 bytes.
+-- What a call finds it leaves: a table of its size with an ID up to 252; and a good Reg Write leaves at most 8 bytes.
 use mathlib.Core.Path.{_≡_, refl, sym, ap, _∙_}
 use mathlib.Core.Bool.{Bool, true, false, not, cond, _&&_, _||_}
 use mathlib.Core.List.{List, [], _∷_}
 use mathlib.Core.Option.{Option, none, some}
 use Prim.Native.Nat.{ℕ, _+_, _-_, _≤_, _<_}
 use native.Mathlib.Omega.{arith}
-use lib.Dec.{eqb, leb, ltb}
+use lib.Dec.{leb, ltb}
 use lib.ListN.{length, getD, replicate, length-take}
 use lib.Signed.{leZ}
 use lib.IntN.{ℤ, pos}
 use borrow.Author.Tests.{eq-eqb, lt-ltb, ltb-true, ltb-false, leb-true}
-use Rattle.lists.specs.Answer.{unlessRefused}
 use Rattle.lists.proofs.Bools.{and-left, and-right, or-right}
 use Rattle.registers.specs.Registers.{Register, registers, tableSize, endOf, deviceId, goalPosition, minPosition, presentPosition, hardwareError, registeredInstruction}
 use Rattle.lists.specs.Numbers.{bytesOf}
@@ -21,23 +20,20 @@ use Rattle.table_rules.specs.Outcomes.{inTable}
 use Rattle.table_rules.proofs.Stored.{stored-before, stored-at, stored-after, stored-length}
 use Rattle.table_rules.proofs.Walks.{each}
 use Rattle.table_rules.proofs.Judged.{good-write}
+use Rattle.table_rules.proofs.Size.{in-table}
 use Rattle.control_table.specs.Fresh.{freshened}
 use Rattle.control_table.specs.Answers.{freshOut, measureOut}
 use Rattle.lists.proofs.Numbers.{bytes-length}
 use Rattle.control_table.proofs.Theorems.{write-short, write-inside}
 use Rattle.resets.specs.Resets.{only, resetAtReboot, rebooted, resetRom}
-use Rattle.instructions.specs.Registered.{registering, dropped, bytesToWrite, keptBy}
-use Rattle.instructions.specs.Instructions.{Effect, leaving, errorOf, write, regWrite, action, reboot, factoryReset}
-use Rattle.instructions.proofs.Options.{pick, each-option}
+use Rattle.instructions.specs.Registered.{registering, keptBy}
+use Rattle.instructions.specs.Instructions.{regWrite}
+use Rattle.instructions.proofs.Kept.{Kept}
 use Rattle.instructions.specs.declared.RegisteredWrite.{RegisteredWrite}
 
 pub record FitTable (table : List ℕ) : Type 0 where
   pub sized : length table ≡ tableSize
   pub known : getD table (deviceId .address) 0 ≤ 252
-
-pub record Fit (e : Effect) : Type 0 where
-  pub fit-table : FitTable (e .table)
-  pub short : e .registered .count ≤ 8
 
 -- ---- the table
 
@@ -150,64 +146,38 @@ reset-fit : (table : List ℕ) → FitTable table → (keeps : Register → Bool
 unfolding resetRom
 reset-fit table f keeps = registers-fit table f _
 
--- ---- fresh and measurement calls
+-- ---- every call
 
 zeros-fit : FitTable (replicate tableSize 0)
 zeros-fit = record { sized = refl; known = omega arith }
 
-module _ (table : List ℕ) (f : FitTable table) where
-  pub fresh-fit : FitTable (freshOut table)
-  unfolding registers bytesOf
-  fresh-fit = rw (eq-eqb (length table) tableSize (f .sized)) (freshened-fit (λ r. true) registers refl (replicate tableSize 0) zeros-fit)
+fresh-fit : (table : List ℕ) → FitTable table → FitTable (freshOut table)
+unfolding registers bytesOf
+fresh-fit table f = rw (eq-eqb (length table) tableSize (f .sized)) (freshened-fit (λ r. true) registers refl (replicate tableSize 0) zeros-fit)
 
-  pub measure-fit : (position : ℤ) (error : ℕ) → FitTable (measureOut table position error)
-  measure-fit position error =
-      rw (eq-eqb (length table) tableSize (f .sized))
-      (put-behind _ (put-behind table f presentPosition (unsigned position) (omega arith) (omega arith)) hardwareError error (omega arith) (omega arith))
+measure-fit : (table : List ℕ) → FitTable table → (position : ℤ) (error : ℕ) → FitTable (measureOut table position error)
+measure-fit table f position error =
+    rw (eq-eqb (length table) tableSize (f .sized))
+    (put-behind _ (put-behind table f presentPosition (unsigned position) (omega arith) (omega arith)) hardwareError error (omega arith) (omega arith))
 
--- ---- each instruction
+pub fit-kept : Kept FitTable
+fit-kept =
+    record {
+      by-fresh = fresh-fit;
+      by-measurement = measure-fit;
+      by-write = λ table f address bytes e. good-fit table f address bytes (in-table table (f .sized) _ ∙ e);
+      by-mark = λ table f b. put-behind table f registeredInstruction b (omega arith) (omega arith);
+      by-reboot = rebooted-fit;
+      by-reset = λ table f keeps low high. rebooted-fit (resetRom keeps table) (reset-fit table f keeps);
+    }
 
-module _ (table : List ℕ) (f : FitTable table) where
-  -- the table that says whether a write is registered
-  said-fit : (b : ℕ) → FitTable (put table registeredInstruction b)
-  said-fit b = put-behind table f registeredInstruction b (omega arith) (omega arith)
+-- ---- the registered write
 
-  in-table : (r : Option ℕ) → r ≡ none → inTable table r ≡ none
-  in-table r e = rw (eq-eqb (length table) tableSize (f .sized), e)
-
-module _ (table : List ℕ) (w : RegisteredWrite) (f : FitTable table) where
-  pub reboot-fit : Fit (reboot table w)
-  reboot-fit = record { fit-table = rebooted-fit table f; short = omega arith }
-
-  module _ (short : w .count ≤ 8) where
-    pub kept-fit : (error : ℕ) (bytes : List ℕ) → Fit (leaving table w error bytes)
-    kept-fit error bytes = record { fit-table = f; short = short }
-
-    pub write-fit : (address : ℕ) (bytes : List ℕ) → Fit (write table w address bytes)
-    unfolding write
-    write-fit address bytes = by-rule (writeRule table address bytes) refl
-      where
-        by-rule : (r : Option ℕ) → writeRule table address bytes ≡ r
-            → Fit (leaving (unlessRefused r table (stored table address bytes)) w (errorOf r) [])
-        by-rule none e = record { fit-table = good-fit table f address bytes (in-table table f _ e); short = short }
-        by-rule (some number) e = kept-fit number []
-
-    pub reg-write-fit : (address : ℕ) (bytes : List ℕ) → Fit (regWrite table w address bytes)
-    unfolding regWrite
-    reg-write-fit address bytes = by-rule (writeRule table address bytes) refl
-      where
-        by-rule : (r : Option ℕ) → writeRule table address bytes ≡ r
-            → Fit (leaving (unlessRefused r table (put table registeredInstruction 1)) (keptBy r w (registering table address bytes)) (errorOf r) [])
-        by-rule none e = record { fit-table = said-fit table f 1; short = write-short table address bytes (in-table table f _ e) }
-        by-rule (some number) e = kept-fit number []
-
-module _ (table : List ℕ) (w : RegisteredWrite) (f : FitTable table) (short : w .count ≤ 8) where
-  pub action-fit : Fit (action table w)
-  unfolding action
-  action-fit =
-      pick Fit (eqb (w .count) 0) _ _ (kept-fit table w f short 0x02 [])
-      (write-fit (put table registeredInstruction 0) dropped (said-fit table f 0) (omega arith) (w .address) (bytesToWrite w))
-
-  pub factory-reset-fit : (option : ℕ) → Fit (factoryReset table w option)
-  factory-reset-fit =
-      each-option Fit table w (λ keeps. reboot-fit (resetRom keeps table) w (reset-fit table f keeps)) (kept-fit table w f short 0x04 [])
+pub reg-write-short : (table : List ℕ) (w : RegisteredWrite) → length table ≡ tableSize → w .count ≤ 8 → (address : ℕ) (bytes : List ℕ)
+    → regWrite table w address bytes .registered .count ≤ 8
+unfolding regWrite
+reg-write-short table w sized short address bytes = by-rule (writeRule table address bytes) refl
+  where
+    by-rule : (r : Option ℕ) → writeRule table address bytes ≡ r → keptBy r w (registering table address bytes) .count ≤ 8
+    by-rule none e = write-short table address bytes (in-table table sized _ ∙ e)
+    by-rule (some number) e = short

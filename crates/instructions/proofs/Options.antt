@@ -1,5 +1,5 @@
 -- What Ping answers, and the options of Factory Reset.
-use mathlib.Core.Path.{_≡_, sym, ap, _∙_}
+use mathlib.Core.Path.{_≡_, refl, sym, ap, _∙_}
 use mathlib.Core.Bool.{Bool, true, false, cond}
 use mathlib.Core.List.{List, [], _∷_, _++_}
 use Prim.Native.Nat.{ℕ, _+_}
@@ -8,7 +8,7 @@ use lib.Dec.{eqb}
 use borrow.Author.Tests.{ne-eqb}
 use lib.ListN.{length, take, getD}
 use lib.Seq.{drop-cons}
-use Rattle.registers.specs.Registers.{Register, tableSize, modelNumber, firmwareVersion}
+use Rattle.registers.specs.Registers.{Register, tableSize, modelNumber, firmwareVersion, minPosition, maxPosition}
 use Rattle.items.specs.Items.{itemBytes}
 use Rattle.instructions.specs.declared.RegisteredWrite.{RegisteredWrite}
 use Rattle.instructions.specs.Instructions.{Effect, refusing, reboot, factoryReset}
@@ -60,10 +60,11 @@ module _ (P : Effect → Type 0) where
   pick true x y f g = f
   pick false x y f g = g
 
-  -- and of Factory Reset what holds of Reboot after each reset of ROM, and of the refusal
-  pub each-option : (table : List ℕ) (w : RegisteredWrite) → ((keeps : Register → Bool) → P (reboot (resetRom keeps table) w))
+  -- and of Factory Reset what holds of Reboot after each reset of ROM, which has both limits, and of the refusal
+  pub each-option : (table : List ℕ) (w : RegisteredWrite)
+      → ((keeps : Register → Bool) → keeps minPosition ≡ false → keeps maxPosition ≡ false → P (reboot (resetRom keeps table) w))
       → P (refusing table w 0x04) → (option : ℕ) → P (factoryReset table w option)
   unfolding factoryReset
   each-option table w reset refusal option =
-      pick (eqb option 0xFF) _ _ (reset keepsNone)
-      (pick (eqb option 0x01) _ _ (reset keepsId) (pick (eqb option 0x02) _ _ (reset keepsIdAndBaud) refusal))
+      pick (eqb option 0xFF) _ _ (reset keepsNone refl refl)
+      (pick (eqb option 0x01) _ _ (reset keepsId refl refl) (pick (eqb option 0x02) _ _ (reset keepsIdAndBaud refl refl) refusal))

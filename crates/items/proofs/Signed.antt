@@ -1,6 +1,6 @@
 -- Two's complement: what the machine's reading of a word is, below 2 ^ 31 and from there on, and the way back.
 use mathlib.Core.Path.{_≡_, refl, ap, _∙_}
-use mathlib.Core.Bool.{Bool, true, false, not, _||_}
+use mathlib.Core.Bool.{Bool, true, false, not, _||_, false≢true}
 use Prim.Native.Nat.{ℕ, zero, suc, _-_, _<_, _≤_, _^_}
 use native.Mathlib.Nat.{zero-add}
 use native.Mathlib.Omega.{arith}
@@ -10,7 +10,7 @@ use lib.Signed.{leZ, ltZ, mag}
 use mir.Syntax.{w32}
 use mir.Val.{toZ, ofZ, SFits}
 use mir.Facts.{toZ-ofZ}
-use borrow.Author.Tests.{lt-ltb, le-ltb, lt-leb, le-leb, ltb-true, ltb-false, eqb-true, ne-eqb}
+use borrow.Author.Tests.{lt-ltb, le-ltb, lt-leb, le-leb, leb-true, ltb-true, ltb-false, eqb-true, ne-eqb}
 use mathlib.Core.List.{List}
 use lib.ListN.{getD}
 use Rattle.registers.specs.Rows.{oneOrFour}
@@ -49,6 +49,27 @@ le-not-lt (pos a) (pos b) = turnℕ a b
 le-not-lt (pos a) (negsuc b) = refl
 le-not-lt (negsuc a) (pos b) = refl
 le-not-lt (negsuc a) (negsuc b) = turnℕ b a
+
+-- the order, as its test says it
+pub le-refl : (a : ℤ) → leZ a a ≡ true
+le-refl (pos a) = le-leb a a (omega arith)
+le-refl (negsuc a) = le-leb a a (omega arith)
+
+transℕ : (a b c : ℕ) → leb a b ≡ true → leb b c ≡ true → leb a c ≡ true
+transℕ a b c h k =
+    let x = leb-true a b h in
+    let y = leb-true b c k in
+    le-leb a c (omega arith)
+
+pub le-trans : (a b c : ℤ) → leZ a b ≡ true → leZ b c ≡ true → leZ a c ≡ true
+le-trans (pos a) (pos b) (pos c) h k = transℕ a b c h k
+le-trans (pos a) (pos b) (negsuc c) h k = k
+le-trans (pos a) (negsuc b) (pos c) h k = absurd (false≢true h)
+le-trans (pos a) (negsuc b) (negsuc c) h k = h
+le-trans (negsuc a) (pos b) (pos c) h k = refl
+le-trans (negsuc a) (pos b) (negsuc c) h k = absurd (false≢true k)
+le-trans (negsuc a) (negsuc b) (pos c) h k = refl
+le-trans (negsuc a) (negsuc b) (negsuc c) h k = transℕ c b a k h
 
 -- the value of an item of four bytes, and of one
 pub value-word : (table : List ℕ) (a n : ℕ) → n ≡ 4 → valueAt table a n ≡ signed (numberAt table a 4)

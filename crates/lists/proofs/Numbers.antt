@@ -1,9 +1,10 @@
 -- Laws of bytes and the numbers that they make.
-use mathlib.Core.Path.{_≡_, refl, ap}
+use mathlib.Core.Path.{_≡_, refl, ap, _∙_}
 use mathlib.Core.List.{List, [], _∷_}
 use Prim.Native.Nat.{ℕ, zero, suc, _+_, _*_, _/_, _<_}
 use native.Mathlib.Omega.{arith}
-use lib.ListN.{length, getD}
+use lib.ListN.{length, take, drop, getD}
+use lib.Seq.{getD-take, getD-drop}
 use Rattle.lists.specs.Numbers.{numberAt, bytesOf}
 
 pub bytes-length : (n u : ℕ) → length (bytesOf n u) ≡ n
@@ -23,6 +24,12 @@ same-number (suc n) xs ys a b f =
     let e₁ : a + 0 ≡ a = omega arith in
     let e₂ : b + 0 ≡ b = omega arith in
     rw (rw (e₁, e₂) at (f 0 (omega arith)), rest)
+
+-- the number of a part by itself
+pub part-number : (s : List ℕ) (a n : ℕ) → numberAt (take n (drop a s)) 0 n ≡ numberAt s a n
+part-number s a n =
+    same-number n (take n (drop a s)) s 0 a (λ k h.
+    let e : 0 + k ≡ k = omega arith in rw e (getD-take n (drop a s) k 0 h ∙ getD-drop a s k 0))
 
 -- the number of four bytes, as the code adds it up
 pub sum-is : (a b c d : ℕ) → a + b * 256 + c * 65536 + d * 16777216 ≡ numberAt (a ∷ b ∷ c ∷ d ∷ []) 0 4

@@ -70,7 +70,7 @@ module _ (table : List ℕ) (w : RegisteredWrite) (sized : length table ≡ tabl
   unfolding read
   left =
       every Refused table w (λ error le. stays _ _) (good _ _ refl) (good _ _ refl) (λ a n. stays _ _) refused-write refused-reg-write
-      refused-action (good _ _ refl) (each-option (Refused false) table w (λ keeps. good _ _ refl) (stays _ _))
+      refused-action (good _ _ refl) (each-option (Refused false) table w (λ keeps low high. good _ _ refl) (stays _ _))
 
   -- a refused instruction leaves table and registered write, except that an Action has dropped the one it found
   pub refused : (heard : Heard) (all : Bool) (body : List ℕ) → ¬ (reaction heard all table w body .effect .error ≡ 0)

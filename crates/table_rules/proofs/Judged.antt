@@ -1,6 +1,6 @@
 -- The write rule by its stages: what each of them says, and what a good write has passed.
 use mathlib.Core.Path.{_≡_, refl, sym, _∙_}
-use mathlib.Core.Bool.{Bool, true, false, cond, _&&_, false≢true, true≢false}
+use mathlib.Core.Bool.{Bool, true, false, cond, false≢true, true≢false}
 use mathlib.Core.List.{List}
 use mathlib.Core.Option.{Option, none, some, Option·some-ne-none}
 use Prim.Native.Nat.{ℕ, _≤_, _<_}
@@ -9,10 +9,9 @@ use lib.Dec.{eqb, ltb}
 use lib.ListN.{length, getD}
 use borrow.Author.Tests.{eq-eqb, ne-eqb, eqb-true, lt-ltb, le-ltb, ltb-true}
 use Rattle.lists.specs.Answer.{unlessRefused}
-use Rattle.lists.proofs.Bools.{and-left, and-right}
 use Rattle.registers.specs.Registers.{registers, tableSize, torqueEnable, everyByte}
 use Rattle.items.specs.Items.{valueInRange}
-use Rattle.table_rules.specs.Rules.{leastToWrite, covers, everyTouched, limitsOrdered, goalWithin, stored, readRule, writeRule}
+use Rattle.table_rules.specs.Rules.{leastToWrite, covers, everyTouched, limitsKept, stored, readRule, writeRule}
 use Rattle.table_rules.specs.Stages.{itemsRule}
 use Rattle.table_rules.specs.Outcomes.{isDone, refusalOf, inTable}
 use Rattle.table_rules.specs.declared.Outcome.{Outcome}
@@ -97,7 +96,7 @@ module _ (table : List ℕ) (address : ℕ) (bytes : List ℕ) where
       -- the items are good, so the limits decide
       pub by-limits : (o : Outcome) → isDone o ≡ true → refusalOf o ≡ itemsRule address (length bytes) (stored table address bytes)
           → inTable table (writeRule table address bytes)
-          ≡ cond (limitsOrdered address (length bytes) (stored table address bytes) && goalWithin address (length bytes) (stored table address bytes)) none (some 0x06)
+          ≡ cond (limitsKept address (length bytes) (stored table address bytes)) none (some 0x06)
       unfolding writeRule itemsRule
       by-limits o e h =
           let c = stage-passed (everyTouched address (length bytes) (covers address (length bytes)) registers) 0x05 _ (sym h ∙ done-none o e) in
@@ -112,8 +111,7 @@ pub record GoodWrite (table : List ℕ) (address : ℕ) (bytes : List ℕ) : Typ
   pub access : everyByte (leastToWrite table) address (length bytes) ≡ true
   pub items-covered : everyTouched address (length bytes) (covers address (length bytes)) registers ≡ true
   pub in-range : everyTouched address (length bytes) (valueInRange (stored table address bytes)) registers ≡ true
-  pub ordered : limitsOrdered address (length bytes) (stored table address bytes) ≡ true
-  pub goal : goalWithin address (length bytes) (stored table address bytes) ≡ true
+  pub limits : limitsKept address (length bytes) (stored table address bytes) ≡ true
 
 pub good-write : (table : List ℕ) (address : ℕ) (bytes : List ℕ) → inTable table (writeRule table address bytes) ≡ none
     → GoodWrite table address bytes
@@ -126,7 +124,7 @@ good-write table address bytes e =
     let a = stage-passed (everyByte (leastToWrite table) address n) 0x07 _ (d .1) in
     let c = stage-passed (everyTouched address n (covers address n) registers) 0x05 _ (a .1) in
     let r = stage-passed (everyTouched address n (valueInRange new) registers) 0x04 _ (c .1) in
-    let l = stage-passed (limitsOrdered address n new && goalWithin address n new) 0x06 _ (r .1) in
+    let l = stage-passed (limitsKept address n new) 0x06 _ (r .1) in
     let z = ltb-true 0 n (d .0) in
     record {
       sized = eqb-true (length table) tableSize (t .0);
@@ -134,8 +132,7 @@ good-write table address bytes e =
       access = a .0;
       items-covered = c .0;
       in-range = r .0;
-      ordered = and-left (limitsOrdered address n new) (goalWithin address n new) (l .0);
-      goal = and-right (limitsOrdered address n new) (goalWithin address n new) (l .0);
+      limits = l .0;
     }
 
 pub record GoodRead (table : List ℕ) (address n : ℕ) : Type 0 where

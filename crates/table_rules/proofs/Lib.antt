@@ -2,3 +2,5 @@ pub mod Stored
 pub mod Walks
 pub mod Judged
 pub mod Size
+pub mod Limits
+pub mod Fence

@@ -1,15 +1,20 @@
 -- The table that a write leaves, byte by byte: those before the written ones, these, and those after them.
-use mathlib.Core.Path.{_≡_, sym, ap, _∙_}
+use mathlib.Core.Path.{_≡_, refl, sym, ap, _∙_}
+use mathlib.Core.Bool.{Bool, true, false, cond}
 use mathlib.Core.List.{List, _++_, append-assoc}
 use Prim.Native.Nat.{ℕ, _+_, _-_, _≤_, _<_}
 use native.Mathlib.Omega.{arith}
+use lib.Dec.{ltb, eqb}
+use lib.IntN.{pos}
 use lib.ListN.{length, take, drop, getD, length-append, length-drop, List·getD-append}
 use lib.Seq.{length-take-le, drop-drop, getD-append-add, getD-take, getD-drop, sets, sets-eq}
 use Rattle.lists.specs.Write.{overwritten}
 use Rattle.lists.proofs.Numbers.{same-number}
 use Rattle.lists.specs.Numbers.{numberAt}
-use Rattle.items.specs.Items.{valueAt}
-use Rattle.table_rules.specs.Rules.{stored}
+use borrow.Author.Tests.{ltb-false}
+use Rattle.registers.specs.Registers.{Register, endOf}
+use Rattle.items.specs.Items.{signed, valueAt, valueOf}
+use Rattle.table_rules.specs.Rules.{touches, stored}
 
 module _ (table : List ℕ) (address : ℕ) (bytes : List ℕ) (fits : address + length bytes ≤ length table) where
   front : length (take address table) ≡ address
@@ -55,6 +60,17 @@ module _ (table : List ℕ) (address : ℕ) (bytes : List ℕ) (fits : address +
 
   pub number-after : (a n : ℕ) → address + length bytes ≤ a → numberAt (stored table address bytes) a n ≡ numberAt table a n
   number-after a n h = same-number n (stored table address bytes) table a a (λ j l. stored-after (a + j) (omega arith))
+
+  -- by its register
+  pub value-kept : (r : Register) → touches address (length bytes) r ≡ false → valueOf r (stored table address bytes) ≡ valueOf r table
+  unfolding valueAt
+  value-kept r e =
+      ap (λ (u : ℕ). cond (eqb (r .bytes) 4) (signed u) (pos u)) (by-start (ltb (r .address) (address + length bytes)) refl)
+    where
+      by-start : (b : Bool) → ltb (r .address) (address + length bytes) ≡ b
+          → numberAt (stored table address bytes) (r .address) (r .bytes) ≡ numberAt table (r .address) (r .bytes)
+      by-start false s = number-after (r .address) (r .bytes) (ltb-false (r .address) (address + length bytes) s)
+      by-start true s = number-before (r .address) (r .bytes) (ltb-false address (endOf r) (rw s at e))
 
   joined : (take address table ++ bytes) ++ drop (address + length bytes) table ≡ stored table address bytes
   joined =

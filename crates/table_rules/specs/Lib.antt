@@ -1,3 +1,4 @@
 pub mod Rules
+pub mod Fence
 pub mod Outcomes
 pub mod Stages

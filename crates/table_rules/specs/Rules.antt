@@ -29,16 +29,18 @@ everyTouched a n test (r ∷ rs) = (not (touches a n r) || test r) && everyTouch
 abbrev pub leastToWrite : List ℕ → ℕ
 leastToWrite table = cond (eqb (getD table (torqueEnable .address) 0) 0) 2 3
 
--- the limits of the position, as the new table stands: in order where either was written [T11]
-unfoldable pub limitsOrdered : ℕ → ℕ → List ℕ → Bool
-limitsOrdered a n new =
-    not (touches a n minPosition || touches a n maxPosition) || leZ (valueOf minPosition new) (valueOf maxPosition new)
+-- the n bytes from `a` on have a byte of a limit of the position, or of the goal position [T11 T14]
+abbrev pub touchesLimits : ℕ → ℕ → Bool
+touchesLimits a n = touches a n minPosition || touches a n maxPosition || touches a n goalPosition
 
--- and a goal position that was written between them [T11 T14]
-unfoldable pub goalWithin : ℕ → ℕ → List ℕ → Bool
-goalWithin a n new =
-    not (touches a n goalPosition)
-    || (leZ (valueOf minPosition new) (valueOf goalPosition new) && leZ (valueOf goalPosition new) (valueOf maxPosition new))
+-- the goal position is not below min position and not above max position [T11 T20]
+unfoldable pub goalInside : List ℕ → Bool
+goalInside table =
+    leZ (valueOf minPosition table) (valueOf goalPosition table) && leZ (valueOf goalPosition table) (valueOf maxPosition table)
+
+-- where one of the three was written, the new table has it so [T11 T14]
+unfoldable pub limitsKept : ℕ → ℕ → List ℕ → Bool
+limitsKept a n new = not (touchesLimits a n) || goalInside new
 
 -- the table that a write leaves if it is good [T11 T12]
 abbrev pub stored : List ℕ → ℕ → List ℕ → List ℕ
@@ -54,7 +56,7 @@ writeRule table address bytes =
     ∷ (everyByte (leastToWrite table) address n, 0x07)
     ∷ (everyTouched address n (covers address n) registers, 0x05)
     ∷ (everyTouched address n (valueInRange new) registers, 0x04)
-    ∷ (limitsOrdered address n new && goalWithin address n new, 0x06)
+    ∷ (limitsKept address n new, 0x06)
     ∷ [])
 
 -- a byte has to permit reading [T15 T16]

@@ -17,11 +17,11 @@ ghost use Prim.Native.Nat.{_+_, _≤_, _<_};
 ghost use lib.Dec.{leb, ltb};
 ghost use lib.ListN.{length};
 ghost use lib.Signed.{leZ};
-ghost use Rattle.registers.specs.Registers.{registers, tableSize, minPosition, maxPosition, everyByte};
+ghost use Rattle.registers.specs.Registers.{registers, tableSize, everyByte};
 ghost use Rattle.registers.specs.Rows.{oneOrFour};
 ghost use Rattle.lists.specs.Numbers.{numberAt};
-ghost use Rattle.items.specs.Items.{signed, valueAt, valueOf};
-ghost use Rattle.table_rules.specs.Rules.{covers, everyTouched, leastToWrite, limitsOrdered, goalWithin, stored, writeRule};
+ghost use Rattle.items.specs.Items.{signed, valueAt};
+ghost use Rattle.table_rules.specs.Rules.{covers, everyTouched, leastToWrite, touchesLimits, limitsKept, stored, writeRule};
 ghost use Rattle.table_rules.specs.Outcomes.{isDone, refusalOf, inTable};
 ghost use Rattle.table_rules.specs.Stages.{whole, itemsRule};
 
@@ -132,45 +132,33 @@ fn judge_items(table: &[u8], address: usize, bytes: &[u8]) -> Outcome
     }
 }
 
-// Min position is not above max position.
-fn in_order(table: &[u8], address: usize, bytes: &[u8]) -> bool
-    requires { ⌜ (address + length (now bytes) ≤ length (now table)) × (length (now table) ≡ tableSize) × (everyTouched address (length (now bytes)) (covers address (length (now bytes))) registers ≡ true) ⌝ }
-    ensures { λ r. ⌜ r ≡ leZ (valueOf minPosition (stored (now (table .entry)) address (now (bytes .entry)))) (valueOf maxPosition (stored (now (table .entry)) address (now (bytes .entry)))) ⌝ }
+// The write has a byte of a limit of the position, or of the goal position.
+fn touches_limits(address: usize, n: usize) -> bool
+    requires { ⌜ address + n ≤ tableSize ⌝ }
+    ensures { λ r. ⌜ r ≡ touchesLimits address n ⌝ }
 {
-    let min = word_after(table, address, bytes, REG_MIN_POSITION);
-    let max = word_after(table, address, bytes, REG_MAX_POSITION);
-    min <= max
-}
-
-// Where the write touches a limit, the limits are in order.
-fn limits_ordered(table: &[u8], address: usize, bytes: &[u8]) -> bool
-    requires { ⌜ (address + length (now bytes) ≤ length (now table)) × (length (now table) ≡ tableSize) × (everyTouched address (length (now bytes)) (covers address (length (now bytes))) registers ≡ true) ⌝ }
-    ensures { λ r. ⌜ r ≡ limitsOrdered address (length (now (bytes .entry))) (stored (now (table .entry)) address (now (bytes .entry))) ⌝ }
-{
-    let end = address + bytes.len();
+    let end = address + n;
     if touched(REG_MIN_POSITION, SIZE_MIN_POSITION, address, end) {
-        return in_order(table, address, bytes);
-    }
-    if touched(REG_MAX_POSITION, SIZE_MAX_POSITION, address, end) {
-        return in_order(table, address, bytes);
-    }
-    true
-}
-
-// Where the write touches the goal position, that lies between the limits.
-fn goal_within(table: &[u8], address: usize, bytes: &[u8]) -> bool
-    requires { ⌜ (address + length (now bytes) ≤ length (now table)) × (length (now table) ≡ tableSize) × (everyTouched address (length (now bytes)) (covers address (length (now bytes))) registers ≡ true) ⌝ }
-    ensures { λ r. ⌜ r ≡ goalWithin address (length (now (bytes .entry))) (stored (now (table .entry)) address (now (bytes .entry))) ⌝ }
-{
-    let end = address + bytes.len();
-    if !touched(REG_GOAL_POSITION, SIZE_GOAL_POSITION, address, end) {
         return true;
     }
-    items::within(
-        word_after(table, address, bytes, REG_GOAL_POSITION),
-        word_after(table, address, bytes, REG_MIN_POSITION),
-        word_after(table, address, bytes, REG_MAX_POSITION),
-    )
+    if touched(REG_MAX_POSITION, SIZE_MAX_POSITION, address, end) {
+        return true;
+    }
+    touched(REG_GOAL_POSITION, SIZE_GOAL_POSITION, address, end)
+}
+
+// Where it has, the goal position lies between the limits.
+fn limits_kept(table: &[u8], address: usize, bytes: &[u8]) -> bool
+    requires { ⌜ (address + length (now bytes) ≤ length (now table)) × (length (now table) ≡ tableSize) × (everyTouched address (length (now bytes)) (covers address (length (now bytes))) registers ≡ true) ⌝ }
+    ensures { λ r. ⌜ r ≡ limitsKept address (length (now (bytes .entry))) (stored (now (table .entry)) address (now (bytes .entry))) ⌝ }
+{
+    if !touches_limits(address, bytes.len()) {
+        return true;
+    }
+    let goal = word_after(table, address, bytes, REG_GOAL_POSITION);
+    let min = word_after(table, address, bytes, REG_MIN_POSITION);
+    let max = word_after(table, address, bytes, REG_MAX_POSITION);
+    items::within(goal, min, max)
 }
 
 // What each touched byte has to permit: while torque is on, no byte of ROM is written.
@@ -203,10 +191,7 @@ pub fn judge(table: &[u8], address: u16, bytes: &[u8]) -> Outcome
     if !is_done(items) {
         return items;
     }
-    if !limits_ordered(table, at, bytes) {
-        return Outcome::DataLimit;
-    }
-    if !goal_within(table, at, bytes) {
+    if !limits_kept(table, at, bytes) {
         return Outcome::DataLimit;
     }
     Outcome::Done

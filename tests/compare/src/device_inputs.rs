@@ -59,15 +59,15 @@ const ENDS: [i32; 29] = [
     -256,
 ];
 
-/// Numbers at the ends of the ranges and beside them; near the limits that the table has.
+/// Numbers at the ends of the ranges and beside them; near the limits and the goal position that the table has.
 pub fn value(rng: &mut Rng, table: &[u8]) -> i32 {
     let stored = |address: usize| i32::from_le_bytes(table[address..address + 4].try_into().unwrap());
     match rng.between(0, 4) {
         0 | 1 => rng.between(0, 4_095) as i32,
         2 => rng.pick(&ENDS),
         3 => {
-            let limit = stored(rng.pick(&[48, 52]));
-            limit.wrapping_add(rng.pick(&[-1, 0, 0, 1]))
+            let near = stored(rng.pick(&[48, 52, 116]));
+            near.wrapping_add(rng.pick(&[-1, 0, 0, 1]))
         }
         _ => rng.word() as i32,
     }

@@ -145,6 +145,23 @@ fn writes() {
     }
 }
 
+/// Write of 512 to min position: a fresh device refuses it, one whose goal position is 512 stores it. [T14 X23 X24]
+#[test]
+fn min_position_up_to_the_goal() {
+    let raise = [0xFF, 0xFF, 0xFD, 0x00, 0x01, 0x09, 0x00, 0x03, 0x34, 0x00, 0x00, 0x02, 0x00, 0x00, 0x8D, 0x09];
+    let mut table = [0; 136];
+    assert_eq!(exports::fresh(&mut table), 0);
+    let mut wanted = table;
+    assert_eq!(exchange(&mut table, &raise), packet_of(1, &[0x55, 6]));
+    assert_eq!(table, wanted);
+    for address in [116, 52] {
+        wanted[address..address + 4].copy_from_slice(&512i32.to_le_bytes());
+    }
+    assert_eq!(exchange(&mut table, &packet_of(1, &[3, 116, 0, 0, 2, 0, 0])), packet_of(1, &[0x55, 0]));
+    assert_eq!(exchange(&mut table, &raise), packet_of(1, &[0x55, 0]));
+    assert_eq!(table, wanted);
+}
+
 /// [X8-X10]
 #[test]
 fn stuffing() {

@@ -3,7 +3,7 @@
 
 use compare::device_inputs::{body, has_list, id, instruction_of_a_life, registered, table, value, INSTRUCTIONS};
 use compare::{DevicePair, Told, BAD_CHECKSUM, PACKET};
-use reference::{fresh, Registered, Rng, TABLE_BYTES};
+use reference::{fresh, Registered, Rng, Table, TABLE_BYTES};
 use std::collections::BTreeMap;
 
 const REPLY_BYTES: usize = 32;
@@ -145,11 +145,14 @@ fn ends_of_the_ranges() {
             (i32::MIN, false),
             (i32::MAX, false),
         ] {
-            let mut device = DevicePair::new(&mut rng, &fresh(), Registered::default(), REPLY_BYTES);
+            // min position goes as high as the goal position, max position as low
+            let goal: i32 = if address == 52 { 4_095 } else { 0 };
+            let table = stored(4_095, 0, goal);
+            let mut device = DevicePair::new(&mut rng, &table, Registered::default(), REPLY_BYTES);
             let told = device.hear(PACKET, 1, &[&[3, address, 0][..], &value.to_le_bytes()].concat());
             assert_eq!(told.error, Some(if good { 0 } else { 4 }), "{value} at {address}");
-            let stored = device.table()[usize::from(address)..usize::from(address) + 4] == value.to_le_bytes();
-            assert_eq!(stored, good, "{value} at {address}");
+            let same = device.table()[usize::from(address)..usize::from(address) + 4] == value.to_le_bytes();
+            assert_eq!(same, good, "{value} at {address}");
         }
     }
     for (address, highest) in [(7, 252), (8, 7), (64, 1), (65, 1), (68, 2)] {
@@ -249,26 +252,32 @@ fn lives() {
     assert!(stored.iter().all(|&n| n > 1_000) && slots.iter().all(|&n| n > 500), "{stored:?} stored, {slots:?} slots above 0");
 }
 
-/// A registered write is judged again by the table as it is at Action, and is dropped also where it is refused then. [D15 M4]
+/// A registered write is judged again by the table as it is at Action, and is dropped also where it is refused then.
+/// [D15 M4 T14]
 #[test]
 fn overtaken_registered_writes() {
     let mut rng = Rng::new(58);
-    let cases: [(&[u8], &[u8], u8); 6] = [
+    let cases: [(&[u8], &[&[u8]], u8); 8] = [
         // the goal lies outside the limits by now
-        (&[116, 0, 0, 8, 0, 0], &[3, 48, 0, 0, 4, 0, 0], 6),
-        (&[116, 0, 0, 4, 0, 0], &[3, 52, 0, 0, 8, 0, 0], 6),
+        (&[116, 0, 0, 8, 0, 0], &[&[3, 48, 0, 0, 4, 0, 0]], 6),
+        (&[116, 0, 0, 4, 0, 0], &[&[3, 116, 0, 0, 8, 0, 0], &[3, 52, 0, 0, 8, 0, 0]], 6),
         // the other limit has moved
-        (&[48, 0, 100, 0, 0, 0], &[3, 52, 0, 200, 0, 0, 0], 6),
+        (&[48, 0, 100, 0, 0, 0], &[&[3, 116, 0, 200, 0, 0, 0], &[3, 52, 0, 200, 0, 0, 0]], 6),
+        // the goal has moved, and the limit would pass it
+        (&[48, 0, 100, 0, 0, 0], &[&[3, 116, 0, 101, 0, 0, 0]], 6),
+        (&[48, 0, 100, 0, 0, 0], &[&[3, 116, 0, 100, 0, 0, 0]], 0),
         // the torque locks ROM by now, and not RAM
-        (&[8, 0, 3], &[3, 64, 0, 1], 7),
-        (&[65, 0, 1], &[3, 64, 0, 1], 0),
-        (&[116, 0, 0, 8, 0, 0], &[3, 48, 0, 0, 8, 0, 0], 0),
+        (&[8, 0, 3], &[&[3, 64, 0, 1]], 7),
+        (&[65, 0, 1], &[&[3, 64, 0, 1]], 0),
+        (&[116, 0, 0, 8, 0, 0], &[&[3, 48, 0, 0, 8, 0, 0]], 0),
     ];
     for (turn, between, error) in cases {
         let mut device = DevicePair::new(&mut rng, &fresh(), Registered::default(), REPLY_BYTES);
         assert_eq!(device.hear(PACKET, 1, &[&[4], turn].concat()).error, Some(0));
         assert_eq!((device.table()[69], usize::from(device.registered.count)), (1, turn.len() - 2));
-        assert_eq!(device.hear(PACKET, 1, between).error, Some(0));
+        for body in between {
+            assert_eq!(device.hear(PACKET, 1, body).error, Some(0));
+        }
         let stored = device.table().to_vec();
         // a refused Reg Write and an Action with a parameter leave it
         assert_eq!(device.hear(PACKET, 1, &[4, 104, 0, 1]).error, Some(5));
@@ -280,6 +289,148 @@ fn overtaken_registered_writes() {
         assert_eq!(device.table()[at..at + turn.len() - 2] == turn[2..], error == 0);
         assert_eq!(device.hear(PACKET, 1, &[5]).error, Some(2));
     }
+}
+
+/// A fresh table with these numbers in it.
+fn stored(max: i32, min: i32, goal: i32) -> Table {
+    let mut table = fresh();
+    for (address, number) in [(48, max), (52, min), (116, goal)] {
+        table[address..address + 4].copy_from_slice(&number.to_le_bytes());
+    }
+    table
+}
+
+fn number(table: &[u8], address: usize) -> i32 {
+    i32::from_le_bytes(table[address..address + 4].try_into().unwrap())
+}
+
+fn goal_inside(table: &[u8]) -> bool {
+    (number(table, 52)..=number(table, 48)).contains(&number(table, 116))
+}
+
+/// What is stored as max, min and goal position; numbers written from an address on; the error. Of each device that is wrong in
+/// one of these something is answered otherwise: it looks at the limits alone, at max or at min alone, at the limits from before,
+/// at the goal as an unsigned number.
+const AROUND_THE_GOAL: [([i32; 3], u8, &[i32], u8); 24] = [
+    // one limit, up to the goal and past it
+    ([4_095, 0, 100], 48, &[100], 0),
+    ([4_095, 0, 100], 48, &[99], 6),
+    ([4_095, 0, 100], 52, &[100], 0),
+    ([4_095, 0, 100], 52, &[101], 6),
+    // both in one write
+    ([4_095, 0, 100], 48, &[100, 100], 0),
+    ([4_095, 0, 100], 48, &[99, 50], 6),
+    ([4_095, 0, 100], 48, &[200, 101], 6),
+    ([4_095, 0, 100], 48, &[99, 101], 6),
+    ([4_095, 0, 0], 52, &[1], 6),
+    ([4_095, 0, 4_095], 48, &[4_094], 6),
+    // the goal lies outside already: wider limits have to reach it
+    ([50, 0, 100], 48, &[99], 6),
+    ([50, 0, 100], 48, &[100], 0),
+    ([50, 10, 100], 52, &[0], 6),
+    ([500, 200, 100], 52, &[101], 6),
+    ([500, 200, 100], 52, &[100], 0),
+    ([500, 200, 100], 48, &[4_095], 6),
+    // a goal that is written goes by the limits, as ever
+    ([50, 10, 100], 116, &[50], 0),
+    ([50, 10, 20], 116, &[51], 6),
+    ([50, 10, 20], 116, &[9], 6),
+    // below zero: -3 is between -5 and 4,095, and -1 is below 0
+    ([100, -5, -3], 48, &[4_095], 0),
+    ([100, -5, -6], 48, &[4_095], 6),
+    ([100, 0, -1], 48, &[4_095], 6),
+    ([-1, -1, -1], 48, &[0], 0),
+    // whatever is not one of the three leaves a goal that is outside where it is
+    ([50, 0, 100], 104, &[7], 0),
+];
+
+/// Write, Reg Write and Sync Write go by the goal position that is stored. [D12 T3 T11 T14 T19]
+#[test]
+fn limits_around_the_stored_goal() {
+    let mut rng = Rng::new(60);
+    for ([max, min, goal], address, numbers, error) in AROUND_THE_GOAL {
+        let table = stored(max, min, goal);
+        let data: Vec<u8> = numbers.iter().flat_map(|number| number.to_le_bytes()).collect();
+        let mut after = table;
+        if error == 0 {
+            after[usize::from(address)..usize::from(address) + data.len()].copy_from_slice(&data);
+        }
+        let shown = format!("{numbers:?} at {address}, with {max}, {min}, {goal}");
+        let write = [&[3, address, 0], &data[..]].concat();
+        let mut device = DevicePair::new(&mut rng, &table, Registered::default(), REPLY_BYTES);
+        assert_eq!(device.hear(PACKET, 1, &write).error, Some(error), "{shown}");
+        assert_eq!(device.table(), after, "{shown}");
+
+        let mut device = DevicePair::new(&mut rng, &table, Registered::default(), REPLY_BYTES);
+        device.hear(PACKET, 254, &[&[0x83, address, 0, data.len() as u8, 0, 1], &data[..]].concat());
+        assert_eq!(device.table(), after, "{shown}");
+
+        // an older registered write stays where this one is refused
+        let older = Registered { address: 65, count: 1, bytes: [1, 0, 0, 0, 0, 0, 0, 0] };
+        let mut device = DevicePair::new(&mut rng, &table, older, REPLY_BYTES);
+        assert_eq!(device.hear(PACKET, 1, &[&[4], &write[1..]].concat()).error, Some(error), "{shown}");
+        assert_eq!(device.registered == older, error != 0, "{shown}");
+        assert_eq!(device.hear(PACKET, 1, &[5]).error, Some(0), "{shown}");
+        let lamp = if error == 0 { 0 } else { 1 };
+        after[65] = lamp;
+        assert_eq!(device.table(), after, "{shown}");
+    }
+}
+
+/// Reboot puts the goal position at min position, Factory Reset at that of the limits which it has just reset. [D16 D17 T20]
+#[test]
+fn resets_around_the_goal() {
+    let mut rng = Rng::new(61);
+    for [max, min, goal] in [[600, 500, 550], [500, 500, 500], [4_095, 1, 4_095], [-5, -10, -7], [9_000, 5_000, 6_000]] {
+        for (body, limits) in [(&[8][..], [max, min]), (&[6, 1], [4_095, 0]), (&[6, 2], [4_095, 0]), (&[6, 0xFF], [4_095, 0])] {
+            let mut device = DevicePair::new(&mut rng, &stored(max, min, goal), Registered::default(), REPLY_BYTES);
+            assert_eq!(device.hear(PACKET, 1, body).error, Some(0));
+            assert_eq!([48, 52, 116].map(|at| number(device.table(), at)), [limits[0], limits[1], limits[1]], "{body:?}");
+        }
+    }
+}
+
+/// From a fresh call on, and from any table in which it is so, the goal position stays between the limits: after every call,
+/// refused ones too, whatever is lent to it. [T20]
+#[test]
+fn goal_stays_within_the_limits() {
+    let mut rng = Rng::new(62);
+    let (mut moved, mut refused, mut resets) = (0, 0, 0);
+    for life in 0..60 {
+        let mut start = table(&mut rng);
+        if !goal_inside(&start) {
+            let (max, min) = (number(&start, 48), number(&start, 52));
+            start = if max < min { stored(min, max, max) } else { stored(max, min, min) };
+        }
+        let mut device = DevicePair::new(&mut rng, &start, Registered::default(), REPLY_BYTES);
+        if life % 2 == 0 {
+            device.change(|table| table.fill(0xA5));
+            device.fresh();
+        }
+        for _ in 0..3_000 {
+            let before = device.table().to_vec();
+            match rng.between(0, 99) {
+                0..=3 => {
+                    let position = value(&mut rng, &before);
+                    device.measure(position, rng.byte());
+                }
+                // any registered write, also one that no call has left and one that is refused
+                4..=7 => device.registered = registered(&mut rng, &before),
+                8 => {
+                    device.hear(PACKET, 254, &[8]);
+                }
+                _ => {}
+            }
+            let instruction = instruction_of_a_life(&mut rng);
+            let body = body(&mut rng, &before, instruction);
+            let told = device.hear(PACKET, if rng.one_in(3) { 254 } else { before[7] }, &body);
+            assert!(goal_inside(device.table()), "{body:02x?}, {before:02x?}");
+            moved += usize::from(before[48..56] != device.table()[48..56]);
+            refused += usize::from(told.error.is_some_and(|error| error & 0x7F == 6));
+            resets += usize::from(instruction == 6 && before != device.table());
+        }
+    }
+    assert!(moved > 2_000 && refused > 2_000 && resets > 200, "{moved} moved limits, {refused} refusals, {resets} resets");
 }
 
 /// Every place of our own entry in a list of 253, and lists that go wrong only at their last entry. [D22-D25]

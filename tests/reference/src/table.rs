@@ -164,10 +164,15 @@ pub fn write(table: &Table, address: usize, data: &[u8]) -> Result<Table, u8> {
     }
 
     let (min, max, goal) = (MIN_POSITION.value(&new), MAX_POSITION.value(&new), GOAL_POSITION.value(&new));
-    if (written.contains(&MIN_POSITION) || written.contains(&MAX_POSITION)) && min > max {
+    let (goal_outside, limit_written) = (goal < min || goal > max, written.contains(&MIN_POSITION) || written.contains(&MAX_POSITION));
+    if limit_written && min > max {
         return Err(6);
     }
-    if written.contains(&GOAL_POSITION) && (goal < min || goal > max) {
+    if written.contains(&GOAL_POSITION) && goal_outside {
+        return Err(6);
+    }
+    // the goal that is stored already
+    if limit_written && goal_outside {
         return Err(6);
     }
     Ok(new)
@@ -251,11 +256,17 @@ mod tests {
         let both = [100i32.to_le_bytes(), 200i32.to_le_bytes()].concat();
         assert_eq!(write(&fresh(), 48, &both), Err(6));
         let both = [200i32.to_le_bytes(), 200i32.to_le_bytes()].concat();
-        let narrow = table(&[(48, &both)]);
-        assert_eq!(write(&fresh(), 48, &both), Ok(narrow));
+        // the goal of a fresh table is 0
+        assert_eq!(write(&fresh(), 48, &both), Err(6));
+        let moved = table(&[(116, &200i32.to_le_bytes())]);
+        let narrow = table(&[(48, &both), (116, &200i32.to_le_bytes())]);
+        assert_eq!(write(&moved, 48, &both), Ok(narrow));
         assert_eq!(write(&narrow, 116, &201i32.to_le_bytes()), Err(6));
         assert_eq!(write(&narrow, 116, &199i32.to_le_bytes()), Err(6));
         assert!(write(&narrow, 116, &200i32.to_le_bytes()).is_ok());
+        for (address, value, answer) in [(48, 199, Some(6)), (48, 200, None), (52, 200, None), (52, 201, Some(6))] {
+            assert_eq!(write(&moved, address, &i32::to_le_bytes(value)).err(), answer, "{value} at {address}");
+        }
     }
 
     /// The order of the tests: no data, then forbidden bytes, then cut items, then ranges.

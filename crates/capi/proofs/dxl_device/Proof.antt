@@ -1,6 +1,8 @@
 use mathlib.Core.Path.{sym, ap₂, _∙_}
 use Rattle.device.proofs.Promises.{device-promises}
+use Rattle.table_rules.proofs.Fence.{fence}
 use Rattle.exchange.proofs.Stays.{stays-accepted}
+use Rattle.exchange.proofs.GoalWithinLimits.{goal-within-limits}
 use Rattle.numbers.specs.Exported.{deviceNumbers}
 use borrow.Author.Needs.{needs}
 use Rattle.capi.proofs.dxl_device.Statement.{statement}
@@ -30,7 +32,7 @@ returns c =
     let e = h .hear .ensures in
     let i = h .before .before .before in
     rw (sym (i .before .heard-by .ensures), sym (i .id-of-kind .ensures))
-    (c .response .ensures ∙ ap₂ deviceNumbers (e .0) (e .1 .0), ((e .1 .1 .0, e .1 .1 .1), (device-promises, stays-accepted)))
+    (c .response .ensures ∙ ap₂ deviceNumbers (e .0) (e .1 .0), ((e .1 .1 .0, e .1 .1 .1), (device-promises, stays-accepted, goal-within-limits, fence)))
 
 pub dxl-device-spec : {M : Type 1} → statement M
 dxl-device-spec =

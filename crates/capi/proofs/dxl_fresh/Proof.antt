@@ -2,6 +2,7 @@ use mathlib.Core.Path.{ap, _∙_}
 use mir.Facts.{toZ-ofZ}
 use mir.Syntax.{w64}
 use Rattle.exchange.proofs.Stays.{stays-accepted}
+use Rattle.exchange.proofs.GoalWithinLimits.{goal-within-limits}
 use Rattle.numbers.specs.Exported.{exportedRefusal}
 use borrow.Author.Needs.{needs}
 use Rattle.capi.proofs.dxl_fresh.Statement.{statement}
@@ -20,7 +21,7 @@ returns : tie.Need-returns
 returns c =
     let e = c .before .before .before .fresh in (
       toZ-ofZ {w = w64} (record { sfits = c .change .ok }) ∙ c .change .ensures ∙ ap exportedRefusal (e .ensures .0),
-      (e .ensures .1, stays-accepted),
+      (e .ensures .1, (stays-accepted, goal-within-limits)),
     )
 
 pub dxl-fresh-spec : {M : Type 1} → statement M

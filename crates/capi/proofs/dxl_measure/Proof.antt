@@ -4,6 +4,7 @@ use mir.Syntax.{w32, w64}
 use lib.IntN.{ℤ}
 use Rattle.control_table.specs.Answers.{measureOut}
 use Rattle.exchange.proofs.Stays.{stays-accepted}
+use Rattle.exchange.proofs.GoalWithinLimits.{goal-within-limits}
 use Rattle.numbers.specs.Exported.{exportedRefusal}
 use borrow.Author.Needs.{needs}
 use Rattle.capi.proofs.dxl_measure.Statement.{statement}
@@ -23,7 +24,7 @@ returns c =
     let a = c .before .before .before .before .before .before in
     let e = c .before .before .before .measure in (
       toZ-ofZ {w = w64} (record { sfits = c .change .ok }) ∙ c .change .ensures ∙ ap exportedRefusal (e .ensures .0),
-      (e .ensures .1 ∙ ap (λ (z : ℤ). measureOut (a .args .table .now) z (a .args .hardware-error)) (toZ-ofZ {w = w32} (a .fits .position)), stays-accepted),
+      (e .ensures .1 ∙ ap (λ (z : ℤ). measureOut (a .args .table .now) z (a .args .hardware-error)) (toZ-ofZ {w = w32} (a .fits .position)), (stays-accepted, goal-within-limits)),
     )
 
 pub dxl-measure-spec : {M : Type 1} → statement M

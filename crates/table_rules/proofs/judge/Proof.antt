@@ -1,5 +1,5 @@
 use mathlib.Core.Path.{_≡_, sym, ap, _∙_}
-use mathlib.Core.Bool.{true, cond, _&&_}
+use mathlib.Core.Bool.{true, cond}
 use mathlib.Core.Option.{none, some}
 use Prim.Native.Nat.{ℕ, _+_, _≤_}
 use native.Mathlib.Omega.{arith}
@@ -7,7 +7,7 @@ use lib.ListN.{length}
 use borrow.Author.Tests.{not-true, not-false}
 use Rattle.registers.specs.Registers.{registers, everyByte}
 use Rattle.registers.proofs.Permits.{every-inside, every-weaker}
-use Rattle.table_rules.specs.Rules.{covers, everyTouched, leastToWrite, limitsOrdered, goalWithin, stored, writeRule}
+use Rattle.table_rules.specs.Rules.{covers, everyTouched, leastToWrite, limitsKept, stored, writeRule}
 use Rattle.table_rules.specs.Outcomes.{inTable}
 use Rattle.table_rules.proofs.Judged.{least-two, least-some, items-covered, not-table, no-data, no-access, by-items, by-limits}
 use borrow.Author.Needs.{needs}
@@ -82,15 +82,14 @@ whole-items c =
     let j = c .before .before .judge-items in
     items-covered _ _ _ (j .result) (sym (c .before .is-done .ensures) ∙ not-false _ (c .if4 .left)) (j .ensures)
 
-limits-ordered-requires : tie.Need-limits-ordered-requires
-limits-ordered-requires c κs = let g = c .before .before .before in (inside g, g .before .before .before .before .if1 .left, whole-items c)
+limits-kept-requires : tie.Need-limits-kept-requires
+limits-kept-requires c κs = let g = c .before .before .before in (inside g, g .before .before .before .before .if1 .left, whole-items c)
 
 -- what the limits decide
 limits : (c : tie.Else4)
     → let a = c .before .before .before .before .before .before .before .before .before .before .args in
-    let new = stored (a .table .now) (a .address) (a .bytes .now) in
     inTable (a .table .now) (writeRule (a .table .now) (a .address) (a .bytes .now))
-    ≡ cond (limitsOrdered (a .address) (length (a .bytes .now)) new && goalWithin (a .address) (length (a .bytes .now)) new) none (some 0x06)
+    ≡ cond (limitsKept (a .address) (length (a .bytes .now)) (stored (a .table .now) (a .address) (a .bytes .now))) none (some 0x06)
 limits c =
     let g = c .before .before .before in
     let b = g .before .before .before in
@@ -99,24 +98,10 @@ limits c =
     (c .before .before .judge-items .ensures)
 
 returns-5 : tie.Need-returns-5
-returns-5 c = sym (limits (c .before .before) ∙ rw (sym (c .before .limits-ordered .ensures) ∙ not-true _ (c .if5 .taken)))
-
-goal-within-requires : tie.Need-goal-within-requires
-goal-within-requires c κs =
-    let g = c .before .before .before .before .before in
-    (inside g, g .before .before .before .before .if1 .left, whole-items (c .before .before))
+returns-5 c = sym (limits (c .before .before) ∙ rw (sym (c .before .limits-kept .ensures) ∙ not-true _ (c .if5 .taken)))
 
 returns-6 : tie.Need-returns-6
-returns-6 c =
-    let b = c .before .before in
-    sym (limits (b .before .before)
-    ∙ rw (sym (b .before .limits-ordered .ensures) ∙ not-false _ (b .if5 .left), sym (c .before .goal-within .ensures) ∙ not-true _ (c .if6 .taken)))
-
-returns-7 : tie.Need-returns-7
-returns-7 c =
-    let b = c .before .before in
-    sym (limits (b .before .before)
-    ∙ rw (sym (b .before .limits-ordered .ensures) ∙ not-false _ (b .if5 .left), sym (c .before .goal-within .ensures) ∙ not-false _ (c .if6 .left)))
+returns-6 c = sym (limits (c .before .before) ∙ rw (sym (c .before .limits-kept .ensures) ∙ not-false _ (c .if5 .left)))
 
 pub judge-spec : {M : Type 1} → statement M
 judge-spec =
@@ -130,8 +115,6 @@ judge-spec =
     judge-items-requires
     is-done-requires
     returns-4
-    limits-ordered-requires
+    limits-kept-requires
     returns-5
-    goal-within-requires
-    returns-6
-    returns-7)
+    returns-6)

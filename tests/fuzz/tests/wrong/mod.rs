@@ -33,6 +33,7 @@ pub fn all() -> Vec<Wrong> {
         wrong("dxl_measure", "the table", Calls { measure: short_position, ..PROVED }),
         wrong("dxl_device", "the reply buffer", Calls { device: other_error, ..PROVED }),
         wrong("dxl_device", "the table", Calls { device: stores_one_by_one, ..PROVED }),
+        wrong("dxl_device", "the table", Calls { device: narrows_past_the_goal, ..PROVED }),
         wrong("dxl_device", "the answer", Calls { device: keeps_registered, ..PROVED }),
         wrong("dxl_exchange", "the body buffer", Calls { exchange: body_before_the_tests, ..PROVED }),
         wrong("dxl_exchange", "the answer", Calls { exchange: hears_a_wrong_checksum, ..PROVED }),
@@ -185,6 +186,22 @@ fn stores_one_by_one(table: &mut [u8], registered: Registered, kind: u8, id: u8,
     let answer = exports::device(table, registered, kind, id, body, reply);
     if answer.count == 11 && body.len() == 11 && body[..3] == [3, 48, 0] && reply[8] & 0x7F == 6 {
         table[48..52].copy_from_slice(&body[3..7]);
+    }
+    answer
+}
+
+/// A limit is stored also where it leaves the goal position outside, as long as min is not above max.
+fn narrows_past_the_goal(table: &mut [u8], registered: Registered, kind: u8, id: u8, body: &[u8], reply: &mut [u8]) -> Answer {
+    let answer = exports::device(table, registered, kind, id, body, reply);
+    if let (11, &[3, at @ (48 | 52), 0, ref data @ ..]) = (answer.count, body) {
+        if reply[8] & 0x7F == 6 && data.len() == 4 {
+            let mut new = table.to_vec();
+            new[usize::from(at)..usize::from(at) + 4].copy_from_slice(data);
+            let number = |at: usize| i32::from_le_bytes(new[at..at + 4].try_into().unwrap());
+            if number(52) <= number(48) {
+                table.copy_from_slice(&new);
+            }
+        }
     }
     answer
 }

@@ -5,21 +5,18 @@ use borrow.Author.Tests.{not-true, not-false}
 use native.Mathlib.Omega.{arith}
 use Rattle.registers.specs.Registers.{registers}
 use Rattle.items.specs.Items.{valueAt}
-use Rattle.table_rules.specs.Rules.{covers, goalWithin}
+use Rattle.table_rules.specs.Rules.{covers, goalInside, limitsKept}
 use Rattle.table_rules.proofs.Walks.{each}
 use borrow.Author.Needs.{needs}
-use Rattle.table_rules.proofs.goal_within.Statement.{statement}
-use Rattle.table_rules.proofs.goal_within.Tie as tie
+use Rattle.table_rules.proofs.limits_kept.Statement.{statement}
+use Rattle.table_rules.proofs.limits_kept.Tie as tie
 
-add-end : tie.Need-add-end
-add-end c = search needs
-
-touched-requires : tie.Need-touched-requires
-touched-requires c κs = search needs
+touches-limits-requires : tie.Need-touches-limits-requires
+touches-limits-requires c κs = search needs
 
 returns : tie.Need-returns
-unfolding goalWithin
-returns c = rw (sym (c .before .touched .ensures) ∙ not-true _ (c .if1 .taken))
+unfolding limitsKept
+returns c = rw (sym (c .before .touches-limits .ensures) ∙ not-true _ (c .if1 .taken))
 
 word-after-requires : tie.Need-word-after-requires
 unfolding registers
@@ -37,7 +34,7 @@ within-requires : tie.Need-within-requires
 within-requires c κs = search needs
 
 returns-2 : tie.Need-returns-2
-unfolding goalWithin valueAt
+unfolding limitsKept goalInside valueAt
 returns-2 c =
     let w₃ = c .before in
     let w₂ = w₃ .before in
@@ -46,14 +43,13 @@ returns-2 c =
     let min = toZ-ofZ {w = w32} {z = w₂ .word-after2 .result} (record { sfits = w₂ .word-after2 .ok }) in
     let max = toZ-ofZ {w = w32} {z = w₃ .word-after3 .result} (record { sfits = w₃ .word-after3 .ok }) in
     let e = simp (w₁ .word-after .ensures, w₂ .word-after2 .ensures, w₃ .word-after3 .ensures) at (simp (goal, min, max) at (c .within .ensures)) in
-    rw (sym (w₁ .before .before .touched .ensures) ∙ not-false _ (w₁ .before .if1 .left)) e
+    rw (sym (w₁ .before .before .touches-limits .ensures) ∙ not-false _ (w₁ .before .if1 .left)) e
 
-pub goal-within-spec : {M : Type 1} → statement M
-goal-within-spec =
+pub limits-kept-spec : {M : Type 1} → statement M
+limits-kept-spec =
     tie.close
     (tie.spec
-    add-end
-    touched-requires
+    touches-limits-requires
     returns
     word-after-requires
     word-after-requires-2

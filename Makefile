@@ -5,7 +5,7 @@ SHELL := /bin/sh
 .DELETE_ON_ERROR:
 # rt works in one target/ folder, so two of its runs must never overlap.
 .NOTPARALLEL:
-.PHONY: help run checksum demo lib install test fuzz replay bench memory mutants promises fmt clean kit format promises_test constants_test vectors_test c_test header_test demo_test programs_test install_test docs_test make_test rust_test leaf_test
+.PHONY: help run checksum segment demo lib install test fuzz replay bench memory mutants promises fmt clean kit format promises_test constants_test vectors_test c_test header_test demo_test programs_test install_test docs_test make_test rust_test leaf_test
 .PHONY: fuzz_program replay_file
 
 # Each crate listed here becomes an archive for C: capi is libmednukals.a, capi_NAME is libmednukals_NAME.a.
@@ -38,6 +38,8 @@ step = sh tools/step.sh $(1) '$(2)'
 define HELP
 use it
   make run                 print the packets and bad checksums in a capture, by the proved program line
+      CAPTURE=FILE         a capture of your own; - is standard input
+  make segment             print the same with the place of each, of a capture of any length, by an example in C
       CAPTURE=FILE         a capture of your own; - is standard input
   make checksum            print the checksum and byte count of a file, likewise
       CAPTURE=FILE         a file of your own; - is standard input
@@ -91,11 +93,14 @@ help:
 	@:
 
 # The name goes to the shell through the environment, and unexpanded: quotes, dollars and spaces in it are its own.
-run checksum: export MEDNUKALS_CAPTURE := $(value CAPTURE)
+run segment checksum: export MEDNUKALS_CAPTURE := $(value CAPTURE)
 unexport CAPTURE
 
 run: build/bin/line
 	@sh tools/run_program.sh $< 'end [0-9]+' 'events in' "$${MEDNUKALS_CAPTURE:-examples/capture.bin}"
+
+segment: build/c/segment
+	@$< "$${MEDNUKALS_CAPTURE:-examples/capture.bin}"
 
 checksum: build/bin/checksum
 	@sh tools/run_program.sh $< '[0-9a-f]{4} [0-9]+' 'checksum and byte count of' "$${MEDNUKALS_CAPTURE:-examples/ping.bin}"
@@ -148,10 +153,12 @@ kit:
 format:
 	@$(call step,format,layout of the Rattle files (make fmt puts it right)) rt fmt --check
 
-c_test: build/c/published build/c/exchange build/c/parts build/c/uart_test
+c_test: build/c/published build/c/exchange build/c/parts build/c/segment build/c/uart_test
+	@$(call need,python3)
 	@$(call step,published,published packets through the archive) build/c/published tests/vectors/packets.txt
 	@$(call step,exchange,the loop that the header shows) build/c/exchange
 	@$(call step,parts,example that sends a packet in parts) build/c/parts
+	@$(call step,segment_test,example that prints the events of a capture) python3 tests/segment_test.py build/c/segment
 	@$(call step,uart_test,example board on a simulated UART) build/c/uart_test
 
 build/c/published build/c/exchange: build/c/%: tests/c/%.c include/mednukals.h build/lib/libmednukals.a
@@ -164,6 +171,11 @@ build/c/parts: tests/c/parts.c examples/parts.c examples/parts.h include/mednuka
 	@mkdir -p $(@D)
 	@$(CC) $(WARNINGS) -O2 -Iinclude -Iexamples -o $@ tests/c/parts.c examples/parts.c build/lib/libmednukals.a \
 	    || $(call failed,compiling the example that sends in parts)
+
+build/c/segment: examples/segment.c include/mednukals.h build/lib/libmednukals.a
+	@$(call need,$(CC))
+	@mkdir -p $(@D)
+	@$(CC) $(WARNINGS) -O2 -Iinclude -o $@ $< build/lib/libmednukals.a || $(call failed,compiling the example that prints events)
 
 BOARD_SOURCES := examples/board.c examples/pty_line.c
 build/c/board: $(BOARD_SOURCES) examples/pty_line.h include/mednukals.h build/lib/libmednukals.a

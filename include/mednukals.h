@@ -216,7 +216,7 @@ int64_t dxl_encode(uint8_t id, uint8_t instruction, const uint8_t *params, size_
  */
 int64_t dxl_unstuff(const uint8_t *body, size_t n_body, uint8_t *out, size_t n_out);
 
-/* Kinds of events, from a reader's call and for dxl_device. A reader's call has a fourth kind, DXL_BAD_READER. */
+/* Kinds of events, from a reader's call, from dxl_next_event and for dxl_device. A reader's call can also give DXL_BAD_READER. */
 enum {
     DXL_NO_EVENT = 0,    /* no event; from a gap call: nothing is left */
     DXL_PACKET = 1,      /* a well-formed packet */
@@ -339,6 +339,39 @@ struct dxl_step dxl_reader_gap(struct dxl_reader *reader, uint8_t packet[1031]);
 struct dxl_step dxl_feed(uint8_t held[1030], size_t *count, const uint8_t *chunk, size_t n, uint8_t packet[1031]);
 struct dxl_step dxl_gap(uint8_t held[1030], size_t *count, uint8_t packet[1031]);
 
+/* The answer of dxl_next_event. Where there is no event, all of it is 0. */
+struct dxl_event {
+    size_t offset; /* where in the segment the event begins */
+    size_t count;  /* DXL_PACKET: the packet's byte count, 10 to 1,031; otherwise 0 */
+    size_t next;   /* where reading goes on: behind the packet; of DXL_BAD_CHECKSUM at offset + 1 */
+    uint8_t kind;  /* DXL_NO_EVENT, DXL_PACKET or DXL_BAD_CHECKSUM */
+    uint8_t id;    /* DXL_PACKET, DXL_BAD_CHECKSUM: the packet's ID, 0 to 252 or 254; otherwise 0 */
+};
+
+/*
+ * The plain reader, for a whole segment that lies in memory, such as a capture on a bench computer. It finds the next event at an
+ * offset or behind it, by the same rule as the reader above, and keeps no bytes.
+ *
+ * segment, n   all bytes between two gaps; any bytes, any number of them
+ * from         where to begin: 0, or next of the event before; any number, also past the end
+ *
+ * Returns the first event of the reading that begins at from, or DXL_NO_EVENT where there is none. The bytes of a packet are the
+ * count bytes from segment + offset on. No more bytes follow, so a packet that is not all there is passed over byte by byte.
+ *
+ *     struct dxl_event event = dxl_next_event(segment, n, 0);
+ *     while (event.kind != DXL_NO_EVENT) {
+ *         printf("%zu: kind %d, ID %d\n", event.offset, event.kind, event.id);
+ *         event = dxl_next_event(segment, n, event.next);
+ *     }
+ *
+ * Of each event from <= offset < next <= n, so that this loop ends. The loop gives the events that dxl_reader_feed and
+ * dxl_reader_gap give of the same bytes, in the same order, however these are cut into chunks, once the gap is finished. And a
+ * packet of which one byte, or two side by side, were changed after the length field and before the checksum is no packet here.
+ *
+ * It refuses nothing and writes no memory. examples/segment.c prints the events of a file so.
+ */
+struct dxl_event dxl_next_event(const uint8_t *segment, size_t n, size_t from);
+
 /*
  * Fills a control table as it comes from the factory: every register has its fresh value, undefined bytes are 0.
  *
@@ -393,8 +426,8 @@ struct dxl_answer {
  *
  * On a table that dxl_fresh has filled and only calls of this library have changed, the goal position is never below the min
  * position nor above the max position, whatever was heard. A write of the limits that would leave it outside is refused with
- * DXL_ERROR_DATA_LIMIT: after dxl_fresh and after Reboot the goal position is the min position, so that the min position can be
- * raised only once the goal position has moved.
+ * DXL_ERROR_DATA_LIMIT: after dxl_fresh, Reboot and Factory Reset the goal position is the min position, so that the min position
+ * can be raised only once the goal position has moved.
  */
 struct dxl_answer dxl_device(uint8_t *table, size_t n_table, struct dxl_registered registered, uint8_t kind, uint8_t id,
                              const uint8_t *body, size_t n_body, uint8_t *reply, size_t n_reply);

@@ -147,3 +147,21 @@ struct fed_value baseline_feed_value(const uint8_t held[1030], size_t count, con
     fed.step = read_on(fed.reader.bytes, &fed.reader.count, chunk, n, fed.packet, 0);
     return fed;
 }
+
+/* The row is the segment alone, and nothing is copied. */
+struct dxl_event baseline_next_event(const uint8_t *segment, size_t n, size_t from)
+{
+    struct row row = {segment, segment, 0, n};
+    for (size_t at = from; at < n; at++) {
+        size_t size = 0;
+        if (look(&row, at, &size) != WHOLE)
+            continue;
+        const uint8_t *packet = segment + at;
+        uint16_t crc = baseline_crc16(0x0E28, packet + 4, size - 6);
+        if (packet[size - 2] != (crc & 255) || packet[size - 1] != crc >> 8)
+            return (struct dxl_event){at, 0, at + 1, DXL_BAD_CHECKSUM, packet[4]};
+        if (well_stuffed(packet + BEFORE_BODY, size - BEFORE_BODY - 2))
+            return (struct dxl_event){at, size, at + size, DXL_PACKET, packet[4]};
+    }
+    return (struct dxl_event){0, 0, 0, DXL_NO_EVENT, 0};
+}

@@ -232,6 +232,31 @@ static uint16_t read_baseline(uint16_t last, size_t n)
     return read_line(baseline_feed, baseline_gap, last, n);
 }
 
+typedef struct dxl_event finder(const uint8_t *segment, size_t n, size_t from);
+
+/* The whole line as one segment. */
+static uint16_t find_events(finder *next_event, uint16_t last)
+{
+    struct dxl_event event = next_event(line, n_line, 0);
+    while (event.kind != DXL_NO_EVENT) {
+        last = mixed(last, event.offset, event.count, event.kind, event.id, line[event.next - 1]);
+        event = next_event(line, n_line, event.next);
+    }
+    return last;
+}
+
+static uint16_t plain_ours(uint16_t last, size_t n)
+{
+    (void)n;
+    return find_events(dxl_next_event, last);
+}
+
+static uint16_t plain_baseline(uint16_t last, size_t n)
+{
+    (void)n;
+    return find_events(baseline_next_event, last);
+}
+
 /* What the device hears: a body that has a goal position at an offset, or none. */
 static uint8_t table[DXL_TABLE_BYTES];
 static uint8_t body[1 + 4 + 200 * 5];
@@ -401,6 +426,11 @@ static int measure_line(const char *what, size_t chunk)
     return measure(what, read_ours, read_baseline, chunk, (double)n_line * 1e-6, "MB/s");
 }
 
+static int measure_plain(const char *what)
+{
+    return measure(what, plain_ours, plain_baseline, n_line, (double)n_line * 1e-6, "MB/s");
+}
+
 static int measure_device(const char *what, size_t n)
 {
     return measure(what, device_ours, device_baseline, n, 1e-6, "Mcalls/s");
@@ -416,13 +446,13 @@ static int measure_reader(void)
 {
     clean_line();
     int good = measure_value() && measure_line("read, packets of 14", 1) && measure_line("read, packets of 14", 64)
-               && measure_line("read, packets of 14", 4096);
+               && measure_line("read, packets of 14", 4096) && measure_plain("plain, packets of 14");
     mixed_line();
     good = good && measure_line("read, mixed packets", 1) && measure_line("read, mixed packets", 64)
-           && measure_line("read, mixed packets", 4096);
+           && measure_line("read, mixed packets", 4096) && measure_plain("plain, mixed packets");
     worst_line();
     return good && measure_line("read, worst noise", 1) && measure_line("read, worst noise", 64)
-           && measure_line("read, worst noise", 4096);
+           && measure_line("read, worst noise", 4096) && measure_plain("plain, worst noise");
 }
 
 static int measure_instructions(void)
@@ -476,7 +506,9 @@ int main(int n_words, char **words)
         longest[i + 2] = 0xFD;
     }
     printf("ours: the archives of %s, compiled at -O3; baseline: plain C by\n%s\n", words[1], BASELINE_BUILD);
-    printf("size: bytes of a call, for the reader of a chunk; ratio: ours to baseline, median of %d rounds\n\n", ROUNDS);
+    printf("size: bytes of a call, for the reader of a chunk, for the plain one of the segment; ratio: ours to baseline,\n"
+           "median of %d rounds\n\n",
+           ROUNDS);
     printf("%-30s %8s %-8s %10s %10s %8s\n", "what", "size", "unit", "ours", "baseline", "ratio");
     int good = measure_bytes("checksum", crc_ours, crc_baseline, 14) && measure_bytes("checksum", crc_ours, crc_baseline, 1031)
                && measure_bytes("checksum", crc_ours, crc_baseline, LARGEST) && measure_small() && measure_flips(14)

@@ -24,6 +24,7 @@ int main(void)
     tell("together", lent);
     printf("answers, by value, in bytes\n");
     tell("of the reader, struct dxl_step", sizeof(struct dxl_step));
+    tell("of the plain reader, struct dxl_event", sizeof(struct dxl_event));
     tell("of the device, struct dxl_answer", sizeof(struct dxl_answer));
     return 0;
 }

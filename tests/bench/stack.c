@@ -109,6 +109,14 @@ static void call_reader_gap(void)
     } while (step.kind != DXL_NO_EVENT);
 }
 
+/* All kinds of events, from every offset to the next of them. */
+static void call_next_event(void)
+{
+    MARK_TOP();
+    for (size_t from = 0; from <= n_line; from++)
+        answered = dxl_next_event(line, n_line, from).kind;
+}
+
 static void call_fresh(void)
 {
     MARK_TOP();
@@ -287,6 +295,7 @@ int main(void)
     tell("dxl_gap", deepest(full_record, call_gap));
     tell("dxl_reader_feed", deepest(all_kinds, call_reader_feed));
     tell("dxl_reader_gap", deepest(full_record, call_reader_gap));
+    tell("dxl_next_event", deepest(all_kinds, call_next_event));
     tell("dxl_fresh", deepest(nothing, call_fresh));
     tell("dxl_measure", deepest(nothing, call_measure));
     tell("dxl_device", deepest_device(call_device));

@@ -2,6 +2,7 @@
 // slices; include/mednukals.h declares and documents them. A `&[u8]` is a pointer and a length in C.
 use instructions::RegisteredWrite;
 use numbers::DeviceNumbers;
+use numbers::EventNumbers;
 use numbers::StepNumbers;
 use reactions::Heard;
 use reader::Reader;
@@ -19,7 +20,9 @@ ghost use Rattle.table_rules.specs.Fence.{Fence};
 ghost use Rattle.control_table.specs.Answers.{freshOut, measureOut};
 ghost use Rattle.reading.specs.Calls.{feed as Call·feed, gap as Call·gap};
 ghost use Rattle.packet.specs.Burst.{BurstDetected};
-ghost use Rattle.reader.specs.Records.{stepOn, leftBy, lent, packetOn, ReaderPromises};
+ghost use Rattle.reader.specs.Records.{stepOn, leftBy, lent, packetOn, records, ReaderPromises};
+ghost use Rattle.plain_reader.specs.Next.{nextEvent};
+ghost use Rattle.plain_reader.specs.Plain.{PlainPromises};
 ghost use Rattle.device.specs.Answers.{callAnswer, callRegistered, callTable, callOut};
 ghost use Rattle.device.specs.Promises.{DevicePromises};
 ghost use Rattle.exchange.specs.Exchange.{exchangeAnswer, exchangeRegistered, exchangeTable, exchangeBody, exchangeOut};
@@ -27,7 +30,7 @@ ghost use Rattle.exchange.specs.Stays.{StaysAccepted};
 ghost use Rattle.exchange.specs.GoalWithinLimits.{GoalWithinLimits};
 ghost use Rattle.exchange.specs.Promises.{ExchangePromises};
 ghost use Rattle.cases.specs.Cases.{CasesHold};
-ghost use Rattle.numbers.specs.Exported.{exported, exportedRefusal, stepNumbers, deviceNumbers};
+ghost use Rattle.numbers.specs.Exported.{exported, exportedRefusal, stepNumbers, nextNumbers, deviceNumbers};
 ghost use Rattle.capi.specs.Heard.{heardBy, idOfKind};
 
 // The checksum of the bytes, going on from an earlier one; 0 starts a packet's. The laws of the sum are promised too.
@@ -168,6 +171,17 @@ pub extern "C" fn dxl_reader_gap<'r, 'p>(
     let step = framer::gap_in(&mut reader.bytes, n, packet);
     reader.count = step.held;
     numbers::step(step)
+}
+
+// The plain reader: the next event of a whole segment at an offset or behind it. That calls one after the other give the reading of
+// the segment is promised too, and that the calls above give the same events, however the segment is cut. [G5 P11 R1-R7]
+#[no_mangle]
+pub extern "C" fn dxl_next_event(segment: &[u8], from: usize) -> EventNumbers
+    ensures { λ r. ⌜ r ≡ nextNumbers (nextEvent (now (segment .entry)) from) ⌝ }
+    ensures { λ _. ⌜ PlainPromises records ⌝ }
+    ensures { λ _. ⌜ BurstDetected ⌝ }
+{
+    numbers::next(plain_reader::next_event(segment, from))
 }
 
 fn heard_by(kind: u8) -> Heard

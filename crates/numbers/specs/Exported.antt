@@ -6,9 +6,12 @@ use Rattle.lists.specs.Answer.{Answer, count, refused}
 use Rattle.framer.specs.declared.Step.{Step}
 use Rattle.framer.specs.declared.StepEvent.{StepEvent}
 use Rattle.framer.specs.declared.StepEvent.the-variants.{Packet, BadChecksum, Silent, Refused}
+use Rattle.plain_reader.specs.declared.Next.{Next}
+use Rattle.plain_reader.specs.declared.Next.the-variants.{Packet as Next·Packet, BadChecksum as Next·BadChecksum, Nothing}
 use Rattle.device.specs.Answers.{sent, DeviceAnswer, refused as Device·refused}
 use Rattle.instructions.specs.declared.RegisteredWrite.{RegisteredWrite}
 use Rattle.numbers.specs.declared.StepNumbers.{StepNumbers}
+use Rattle.numbers.specs.declared.EventNumbers.{EventNumbers}
 use Rattle.numbers.specs.declared.DeviceNumbers.{DeviceNumbers}
 
 -- a count that no 64-bit signed number holds is answered as the largest one (no buffer of a real machine is that long) [G5 N11]
@@ -32,6 +35,13 @@ eventNumbers taken Refused = record { taken = taken; count = 0; kind = 25; id = 
 -- [G5]
 abbrev pub stepNumbers : Step → StepNumbers
 stepNumbers s = eventNumbers (s .taken) (s .event)
+
+-- what the plain reader answers: where the event begins, of a packet its byte count, where reading goes on, the kind (1 a packet, 2 a
+-- bad checksum) and the ID; all 0 where there is no event [G5 N11 R3-R5]
+abbrev pub nextNumbers : Next → EventNumbers
+nextNumbers (Next·Packet p n q id) = record { offset = p; count = n; next = q; kind = 1; id = id }
+nextNumbers (Next·BadChecksum p q id) = record { offset = p; count = 0; next = q; kind = 2; id = id }
+nextNumbers Nothing = record { offset = 0; count = 0; next = 0; kind = 0; id = 0 }
 
 -- the device's answer and the registered write that it leaves [G5]
 abbrev pub deviceNumbers : DeviceAnswer → RegisteredWrite → DeviceNumbers

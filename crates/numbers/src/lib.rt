@@ -8,6 +8,7 @@ use exchange::Exchanged;
 use framer::Step;
 use framer::StepEvent;
 use instructions::RegisteredWrite;
+use plain_reader::Next;
 use stuffing::Unstuffed;
 use table_rules::Change;
 ghost use mathlib.Core.Path.{_≡_};
@@ -17,7 +18,7 @@ ghost use Rattle.table_rules.specs.Outcomes.{changeRefusal};
 ghost use Rattle.device.specs.Answers.{repliedAnswer};
 ghost use Rattle.exchange.specs.Exchange.{exchangedAnswer};
 ghost use Rattle.lists.specs.Answer.{count as Answer·count};
-ghost use Rattle.numbers.specs.Exported.{exported, exportedRefusal, stepNumbers, deviceNumbers};
+ghost use Rattle.numbers.specs.Exported.{exported, exportedRefusal, stepNumbers, nextNumbers, deviceNumbers};
 
 // What a feeding or gap call returns. kind 0: no event, from a gap call: nothing is left; 1: a packet of `count` bytes; 2: a bad
 // checksum; 25: the reader's count is above 1,030. `id` is that of the packet or of the bad checksum.
@@ -25,6 +26,17 @@ ghost use Rattle.numbers.specs.Exported.{exported, exportedRefusal, step
 pub struct StepNumbers {
     pub taken: usize,
     pub count: usize,
+    pub kind: u8,
+    pub id: u8,
+}
+
+// What the plain reader returns: where the event begins, of a packet its byte count, where reading goes on, the kind as above, and
+// the ID. All of it is 0 where there is no event.
+#[repr(C)]
+pub struct EventNumbers {
+    pub offset: usize,
+    pub count: usize,
+    pub next: usize,
     pub kind: u8,
     pub id: u8,
 }
@@ -107,6 +119,40 @@ pub fn step(answer: Step) -> StepNumbers
             taken,
             count: 0,
             kind: 25,
+            id: 0,
+        },
+    }
+}
+
+// The packet's bytes are in the caller's segment.
+pub fn next(answer: Next) -> EventNumbers
+    ensures { λ r. ⌜ r ≡ nextNumbers answer ⌝ }
+{
+    match answer {
+        Next::Packet {
+            offset,
+            count,
+            next,
+            id,
+        } => EventNumbers {
+            offset,
+            count,
+            next,
+            kind: 1,
+            id,
+        },
+        Next::BadChecksum { offset, next, id } => EventNumbers {
+            offset,
+            count: 0,
+            next,
+            kind: 2,
+            id,
+        },
+        Next::Nothing => EventNumbers {
+            offset: 0,
+            count: 0,
+            next: 0,
+            kind: 0,
             id: 0,
         },
     }

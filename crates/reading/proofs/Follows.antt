@@ -50,7 +50,7 @@ module _ (R : Rules) (M : AnyReader) (Legal : M .State → Type 0) (held : M .St
       → EndsSilent (model R) h cs c
   ends-silent x h cs c l e s = (s .0, s .1, sym (follows-answer x h (s .0) c l e) ∙ s .2)
 
-  at-start : (x : M .State) (h : List ℕ) (cs : List Call) → Legal x → held x ≡ h → AtStart M x cs → AtStart (model R) h cs
+  pub at-start : (x : M .State) (h : List ℕ) (cs : List Call) → Legal x → held x ≡ h → AtStart M x cs → AtStart (model R) h cs
   at-start x h cs l e (inl s) = inl s
   at-start x h cs l e (inr s) = inr (ends-silent x h cs gap l e s)
 

@@ -1,4 +1,4 @@
-use exports::{Answer, Reader, Registered, Step};
+use exports::{Answer, Event, Reader, Registered, Step};
 
 /// Table, registered write, kind, ID, body and reply buffer.
 pub type DeviceCall = fn(&mut [u8], Registered, u8, u8, &[u8], &mut [u8]) -> Answer;
@@ -17,6 +17,7 @@ pub struct Calls {
     pub gap: fn(&mut [u8; 1030], &mut usize, &mut [u8; 1031]) -> Step,
     pub reader_feed: fn(&mut Reader, &[u8], &mut [u8; 1031]) -> Step,
     pub reader_gap: fn(&mut Reader, &mut [u8; 1031]) -> Step,
+    pub next_event: fn(&[u8], usize) -> Event,
     pub fresh: fn(&mut [u8]) -> i64,
     pub measure: fn(&mut [u8], i32, u8) -> i64,
     pub device: DeviceCall,
@@ -32,6 +33,7 @@ pub const PROVED: Calls = Calls {
     gap: exports::gap,
     reader_feed: exports::reader_feed,
     reader_gap: exports::reader_gap,
+    next_event: exports::next_event,
     fresh: exports::fresh,
     measure: exports::measure,
     device: exports::device,

@@ -1,7 +1,7 @@
 //! The calls that keep nothing: each goes to an export and to the reference, and all that is answered and left must be the same.
 
 use crate::{hex, number, Calls, Comparison, Difference, Lent};
-use reference::Rng;
+use reference::{Event, Found, Rng};
 
 pub fn compare_checksum(calls: &Calls, rng: &mut Rng, start: u16, bytes: &[u8]) -> Result<u16, Difference> {
     let mut ours = Lent::new(rng, bytes, 0);
@@ -63,4 +63,24 @@ pub fn compare_unstuff(calls: &Calls, rng: &mut Rng, body: &[u8], room: usize) -
     comparison.same("the answer", answer, number(wanted))?;
     comparison.same_lent(&ours, &expected)?;
     Ok((answer, ours.output()[..answer.max(0) as usize].to_vec()))
+}
+
+/// An event in numbers. Kind 1: a packet of `count` bytes; 2: a bad checksum; all 0: there is none.
+fn in_numbers(found: Option<Found>) -> exports::Event {
+    let Some(Found { at: offset, next, event }) = found else { return exports::Event::default() };
+    match event {
+        Event::Packet { id, bytes } => exports::Event { offset, count: bytes.len(), next, kind: 1, id },
+        Event::BadChecksum { id } => exports::Event { offset, count: 0, next, kind: 2, id },
+    }
+}
+
+pub fn compare_next_event(calls: &Calls, rng: &mut Rng, segment: &[u8], from: usize) -> Result<exports::Event, Difference> {
+    let mut ours = Lent::new(rng, segment, 0);
+    let expected = ours.clone();
+    let answer = ours.call(|segment, _| (calls.next_event)(segment, from));
+    let given = || format!("from {from}, {} bytes {}", segment.len(), hex(segment));
+    let comparison = Comparison { export: "dxl_next_event", given: &given };
+    comparison.same("the answer", answer, in_numbers(reference::next_event(segment, from)))?;
+    comparison.same_lent(&ours, &expected)?;
+    Ok(answer)
 }

@@ -525,7 +525,7 @@ fn bulk_to_the_own_id() {
     }
 }
 
-/// Of what is sent to all devices only Bulk Read is answered, from level 1 on and where the read is refused too; a Bulk Write is
+/// Of the two Bulk instructions only Bulk Read is answered, from level 1 on and where the read is refused too; a Bulk Write is
 /// silent, carried out or not. [D31-D34 D46 D47]
 #[test]
 fn bulk_to_all() {

@@ -20,6 +20,17 @@ pub struct Step {
     pub id: u8,
 }
 
+/// What the plain reader answers: all 0 where there is no event.
+#[repr(C)]
+#[derive(Clone, Copy, PartialEq, Eq, Debug, Default)]
+pub struct Event {
+    pub offset: usize,
+    pub count: usize,
+    pub next: usize,
+    pub kind: u8,
+    pub id: u8,
+}
+
 /// What the device answers.
 #[repr(C)]
 #[derive(Clone, Copy, PartialEq, Eq, Debug)]
@@ -39,7 +50,7 @@ pub struct Reader {
 
 mod raw {
     use super::test::Fed;
-    use super::{Answer, Reader, Registered, Step};
+    use super::{Answer, Event, Reader, Registered, Step};
 
     #[repr(C)]
     pub struct Verdict {
@@ -66,6 +77,7 @@ mod raw {
         pub fn dxl_gap(held: *mut u8, count: *mut usize, packet: *mut u8) -> Step;
         pub fn dxl_reader_feed(reader: *mut Reader, chunk: *const u8, n: usize, packet: *mut u8) -> Step;
         pub fn dxl_reader_gap(reader: *mut Reader, packet: *mut u8) -> Step;
+        pub fn dxl_next_event(segment: *const u8, n: usize, from: usize) -> Event;
 
         pub fn dxl_fresh(table: *mut u8, n: usize) -> i64;
         pub fn dxl_measure(table: *mut u8, n: usize, position: i32, hardware_error: u8) -> i64;
@@ -133,6 +145,10 @@ pub fn reader_feed(reader: &mut Reader, chunk: &[u8], packet: &mut [u8; 1031]) -
 
 pub fn reader_gap(reader: &mut Reader, packet: &mut [u8; 1031]) -> Step {
     unsafe { raw::dxl_reader_gap(reader, packet.as_mut_ptr()) }
+}
+
+pub fn next_event(segment: &[u8], from: usize) -> Event {
+    unsafe { raw::dxl_next_event(segment.as_ptr(), segment.len(), from) }
 }
 
 pub fn fresh(table: &mut [u8]) -> i64 {

@@ -23,6 +23,11 @@ pub enum Operation {
         room: usize,
         body: Vec<u8>,
     },
+    /// The plain reader's calls from an offset on, until there is no event.
+    Plain {
+        from: usize,
+        segment: Vec<u8>,
+    },
     /// Another record for the reader. What is not given of its 1,030 bytes is `past`.
     Record {
         count: usize,
@@ -93,6 +98,7 @@ impl Operation {
             Operation::Flip { flips, .. } => flips.len(),
             Operation::Encode { params, .. } => params.len(),
             Operation::Unstuff { body, .. } | Operation::Hear { body, .. } => body.len(),
+            Operation::Plain { segment, .. } => segment.len(),
             Operation::Record { held, .. } => held.len(),
             Operation::Feed { chunk } | Operation::Arrive { chunk } | Operation::Exchange { chunk } => chunk.len(),
             Operation::Board { table, .. } => table.len(),

@@ -1,7 +1,7 @@
 //! Runs a case: every call goes to an export and to the reference, and all that is answered and left must be the same.
 
 use crate::{Case, Operation};
-use compare::{compare_checksum, compare_encode, compare_flipped, compare_unstuff, BAD_CHECKSUM, PACKET};
+use compare::{compare_checksum, compare_encode, compare_flipped, compare_next_event, compare_unstuff, BAD_CHECKSUM, PACKET};
 use compare::{hex, Calls, Comparison, DevicePair, Difference, Encoded, Guarded, ReaderPair, Stepped, Told};
 use reference::{fresh, Event, Registered, Rng, MOST_HELD};
 use std::collections::BTreeMap;
@@ -87,6 +87,7 @@ impl<'a> World<'a> {
                 self.tally.call("dxl_encode", answer.min(0));
             }
             Operation::Unstuff { room, body } => drop(self.unstuff(body, *room)?),
+            Operation::Plain { from, segment } => self.plain(segment, *from)?,
             Operation::Record { count, past, held } => self.record(*count, *past, held),
             Operation::Scribble { byte } => self.reader.scribble(*byte),
             Operation::Feed { chunk } => drop(self.feed(chunk)?),
@@ -134,6 +135,17 @@ impl<'a> World<'a> {
         let (answer, unstuffed) = compare_unstuff(self.calls, &mut self.rng, body, room)?;
         self.tally.call("dxl_unstuff", answer.min(0));
         Ok(unstuffed)
+    }
+
+    fn plain(&mut self, segment: &[u8], mut from: usize) -> Result<(), Difference> {
+        loop {
+            let answer = compare_next_event(self.calls, &mut self.rng, segment, from)?;
+            self.tally.call("dxl_next_event", i64::from(answer.kind));
+            if answer.kind == 0 {
+                return Ok(());
+            }
+            from = answer.next;
+        }
     }
 
     fn record(&mut self, count: usize, past: u8, bytes: &[u8]) {

@@ -42,6 +42,7 @@ fn line(operation: &Operation) -> String {
             format!("encode id={id} instruction=0x{instruction:02x} room={room} at={at} params={}", hex(params))
         }
         Operation::Unstuff { room, body } => format!("unstuff room={room} body={}", hex(body)),
+        Operation::Plain { from, segment } => format!("plain from={from} segment={}", hex(segment)),
         Operation::Record { count, past, held } => format!("record count={count} past=0x{past:02x} held={}", hex(held)),
         Operation::Scribble { byte } => format!("scribble byte=0x{byte:02x}"),
         Operation::Feed { chunk } => format!("feed chunk={}", hex(chunk)),
@@ -103,6 +104,7 @@ fn operation(line: &str) -> Result<Operation, String> {
             params: fields.bytes("params")?,
         },
         "unstuff" => Operation::Unstuff { room: fields.room("room")?, body: fields.bytes("body")? },
+        "plain" => Operation::Plain { from: fields.number("from")?, segment: fields.bytes("segment")? },
         "record" => record(&mut fields)?,
         "scribble" => Operation::Scribble { byte: fields.number("byte")? },
         "feed" => Operation::Feed { chunk: fields.bytes("chunk")? },

@@ -22,6 +22,7 @@ fn every_operation_by_hand() {
         flip crc=0x4e19 after=18446744073709551615 flips=10\n\
         encode id=254 instruction=0x03 room=40 at=18446744073709551615 params=\n\
         unstuff room=3 body=fffffdfd\n\
+        plain from=18446744073709551615 segment=fffffd\n\
         record count=1031 past=0x07 held=ff\n\
         scribble byte=0x2a\n\
         feed chunk=ff\n\
@@ -45,6 +46,7 @@ fn every_operation_by_hand() {
         Operation::Flip { crc: 0x4E19, after: usize::MAX, flips: vec![0x10] },
         Operation::Encode { id: 254, instruction: 3, room: 40, at: usize::MAX, params: vec![] },
         Operation::Unstuff { room: 3, body: vec![0xFF, 0xFF, 0xFD, 0xFD] },
+        Operation::Plain { from: usize::MAX, segment: vec![0xFF, 0xFF, 0xFD] },
         Operation::Record { count: 1_031, past: 7, held: vec![0xFF] },
         Operation::Scribble { byte: 42 },
         Operation::Feed { chunk: vec![0xFF] },

@@ -4,6 +4,7 @@
 mod checksum;
 mod device;
 mod packet;
+mod plain;
 mod reader;
 mod rng;
 mod stuffing;
@@ -12,6 +13,7 @@ mod table;
 pub use checksum::{checksum, flipped};
 pub use device::{device_call, packet_call, Answer as DeviceAnswer, Heard, Registered};
 pub use packet::{encode, framed, packet_of, verdict, well_formed, Verdict, LONGEST_LENGTH, SHORTEST_LENGTH};
+pub use plain::next_event;
 pub use reader::{feed, feed_record, gap, gap_record, reading, Event, Found, Given, Step, LONGEST_PACKET, MOST_HELD};
 pub use rng::Rng;
 pub use stuffing::{stuff, stuff_into, unstuff, unstuff_into, well_stuffed};

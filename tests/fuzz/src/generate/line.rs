@@ -22,6 +22,17 @@ pub fn reader(rng: &mut Rng) -> Vec<Operation> {
     operations
 }
 
+/// A whole segment for the plain reader, from its start, from some offset, or from past its end.
+pub fn plain(rng: &mut Rng) -> Operation {
+    let segment = line(rng);
+    let from = match rng.between(0, 9) {
+        0 => rng.pick(&[segment.len(), segment.len() + 1, 1 << 32, usize::MAX - 9, usize::MAX]),
+        1..=3 => rng.between(0, segment.len()),
+        _ => 0,
+    };
+    Operation::Plain { from, segment }
+}
+
 fn line(rng: &mut Rng) -> Vec<u8> {
     match rng.between(0, 99) {
         0 => return worst_noise(rng.between(1, 250)),

@@ -1,7 +1,7 @@
 //! Exports that are wrong in one thing each.
 
 use compare::{Calls, PROVED};
-use exports::{Answer, Reader, Registered, Step};
+use exports::{Answer, Event, Reader, Registered, Step};
 use std::hint::black_box;
 
 pub struct Wrong {
@@ -29,6 +29,11 @@ pub fn all() -> Vec<Wrong> {
         wrong("dxl_gap", "the packet buffer", Calls { gap: leaves_the_packet, ..PROVED }),
         wrong("dxl_reader_feed", "the count of held bytes", Calls { reader_feed: forgets_the_count, ..PROVED }),
         wrong("dxl_reader_gap", "the held bytes", Calls { reader_gap: leaves_a_held_byte, ..PROVED }),
+        wrong("dxl_next_event", "the answer", Calls { next_event: passes_a_failed_packet, ..PROVED }),
+        wrong("dxl_next_event", "the answer", Calls { next_event: counts_from_one, ..PROVED }),
+        wrong("dxl_next_event", "the answer", Calls { next_event: loses_the_last, ..PROVED }),
+        wrong("dxl_next_event", "the answer", Calls { next_event: stops_where_one_waits, ..PROVED }),
+        wrong("dxl_next_event", "the lent input", Calls { next_event: writes_its_segment, ..PROVED }),
         wrong("dxl_fresh", "the answer", Calls { fresh: any_length, ..PROVED }),
         wrong("dxl_measure", "the table", Calls { measure: short_position, ..PROVED }),
         wrong("dxl_device", "the reply buffer", Calls { device: other_error, ..PROVED }),
@@ -159,6 +164,50 @@ fn leaves_a_held_byte(reader: &mut Reader, packet: &mut [u8; 1031]) -> Step {
         reader.bytes[0] = first;
     }
     step
+}
+
+/// Reading goes on behind a packet with a wrong checksum and not at the next byte.
+fn passes_a_failed_packet(segment: &[u8], from: usize) -> Event {
+    let event = exports::next_event(segment, from);
+    if event.kind == 2 {
+        let size = 7 + usize::from(segment[event.offset + 5]) + 256 * usize::from(segment[event.offset + 6]);
+        return Event { next: event.offset + size, ..event };
+    }
+    event
+}
+
+/// Places are counted from 1.
+fn counts_from_one(segment: &[u8], from: usize) -> Event {
+    let event = exports::next_event(segment, from);
+    Event { offset: event.offset + usize::from(event.kind > 0), ..event }
+}
+
+/// A packet that ends with the segment is not found.
+fn loses_the_last(segment: &[u8], from: usize) -> Event {
+    let event = exports::next_event(segment, from);
+    if event.kind == 1 && event.next == segment.len() {
+        return Event::default();
+    }
+    event
+}
+
+/// A packet that is not all there ends the reading.
+fn stops_where_one_waits(segment: &[u8], from: usize) -> Event {
+    let event = exports::next_event(segment, from);
+    let waits = |place| exports::test::verdict(segment, place).0 == 3;
+    if event.kind > 0 && (from..event.offset).any(waits) {
+        return Event::default();
+    }
+    event
+}
+
+fn writes_its_segment(segment: &[u8], from: usize) -> Event {
+    let event = exports::next_event(segment, from);
+    if segment.len() > 20 {
+        // the segment is a copy that the comparison made, in memory that can be written
+        unsafe { *black_box(segment.as_ptr().cast_mut()) ^= 1 };
+    }
+    event
 }
 
 fn any_length(table: &mut [u8]) -> i64 {

@@ -5,8 +5,10 @@ SHELL := /bin/sh
 .DELETE_ON_ERROR:
 # rt works in one target/ folder, so two of its runs must never overlap.
 .NOTPARALLEL:
-.PHONY: help run checksum segment demo lib install test fuzz replay bench memory mutants promises fmt clean kit format promises_test constants_test vectors_test c_test header_test demo_test programs_test install_test docs_test make_test rust_test leaf_test
+.PHONY: help run checksum segment demo lib install test fuzz replay bench counts memory mutants promises fmt clean kit format promises_test constants_test vectors_test c_test header_test demo_test programs_test install_test docs_test make_test counts_test rust_test leaf_test
 .PHONY: fuzz_program replay_file
+
+comma := ,
 
 # Each crate listed here becomes an archive for C: capi is libmednukals.a, capi_NAME is libmednukals_NAME.a.
 EXPORT_CRATES := capi capi_test
@@ -14,10 +16,13 @@ PROGRAMS := checksum line
 
 archive = build/lib/$(patsubst capi%,libmednukals%,$(1)).a
 LIBS := $(foreach crate,$(EXPORT_CRATES),$(call archive,$(crate)))
-SMALL := build/lib/libmednukals_small.a
-MADE_LIBS := $(if $(filter small,$(LEAF)),$(SMALL),$(LIBS))
-$(if $(filter-out small,$(LEAF)),$(error mednukals: LEAF=$(LEAF): only LEAF=small is known))
-$(if $(LEAF),$(if $(filter-out lib,$(MAKECMDGOALS)),$(error mednukals: LEAF=small is for make lib alone)))
+# The same over another checksum function, crc16_LEAF: its exports, and those of the tests beside them.
+LEAVES := small fold
+leaf_libs = build/lib/libmednukals_$(1).a build/$(1)/libmednukals_test.a
+LEAF_LIBS := $(LEAVES:%=build/lib/libmednukals_%.a)
+MADE_LIBS := $(if $(LEAF),$(call leaf_libs,$(LEAF)),$(LIBS))
+$(if $(filter-out $(LEAVES),$(LEAF)),$(error mednukals: LEAF=$(LEAF): only $(LEAVES:%=LEAF=%) are known))
+$(if $(LEAF),$(if $(filter-out lib bench counts memory,$(MAKECMDGOALS)),$(error mednukals: LEAF is for make lib$(comma) make bench$(comma) make counts and make memory)))
 # Folders stand in the list too, so that a file added or removed counts as a change.
 SOURCES := crates.txt $(shell find crates -path '*/must-fail' -prune -o -print)
 
@@ -26,7 +31,6 @@ CXX := g++
 WARNINGS := -std=c99 -Wall -Wextra -Wpedantic -Werror
 CXX_WARNINGS := -std=c++11 -Wall -Wextra -Wpedantic -Werror
 
-comma := ,
 # $(call need,TOOL): one clear line where a tool is missing.
 need = command -v $(1) >/dev/null 2>&1 || { echo "mednukals: $(1) is needed and is not on the PATH" >&2; exit 1; }
 # COMMAND || $(call failed,WHAT)
@@ -46,6 +50,7 @@ use it
   make demo                run a device in C on a pseudo-terminal, talk to it and show the exchanges
   make lib                 prove the exports and build the archives that C links, under build/lib
       LEAF=small           over the small checksum function, for boards with little flash
+      LEAF=fold            over the one without a table, the fastest
   make install             put header, archive and a pkg-config file below /usr/local
       PREFIX=DIR           below that folder
       DESTDIR=DIR          staged below that one, for a package
@@ -64,8 +69,9 @@ prove and test it
   make docs_test           links, commands and code in the documents
   make programs_test       the programs line and checksum where something is wrong
   make demo_test           the example board and its master
+  make counts_test         the instructions that each export takes beside tests/instructions.txt
   make rust_test           every export beside the second implementation
-  make leaf_test           the exports over the small checksum function: no large table, and the same beside it
+  make leaf_test           the exports over the other checksum functions: no large table, and the same beside it
   make fuzz                the same on random cases, for ten minutes
       SECONDS=N            for so long
       SEED=S               the cases of an earlier run
@@ -78,7 +84,12 @@ prove and test it
 measure it
   make bench               the exports beside plain C, as ratios
       RUNS=N               so many times, with the medians
+      LEAF=NAME            over the checksum function small or fold
+  make counts              count the instructions that each export takes, into tests/instructions.txt
+      LEAF=NAME            over the checksum function small or fold: printed, and not written
+      PLAIN=1              of the plain C that the benchmark has beside them: printed likewise
   make memory              records, answers, stack depths and the archive's size
+      LEAF=NAME            likewise
 
 keep it tidy
   make promises            write docs/PROMISES.md from the comments in the tree, and say what a rule lacks
@@ -110,16 +121,20 @@ $(PROGRAMS:%=build/bin/%): build/bin/%: $(SOURCES)
 	@$(call step,program-$*,proving and building the program $*) rt check $*
 	@mkdir -p $(@D) && cp target/bin/$* $@
 
-# LEAF=small: the exports over the checksum function for boards with little flash.
 lib: $(MADE_LIBS)
 	@echo 'archives: $(MADE_LIBS)'
 
-# The callers of that function are proved over the other one in a copy of the tree, so that this may run beside rt.
-$(SMALL): $(SOURCES) KIT tests/other_leaf.py
-	@$(call need,rt)
-	@$(call need,python3)
-	@$(call step,archive-small,proving the exports over the small checksum and building $@) python3 tests/other_leaf.py crc16_small build/small
-	@mkdir -p $(@D) && cp build/small/libmednukals.a $@
+# The callers of the checksum function are proved over another one in a copy of the tree, so that this may run beside rt.
+define leaf_rule
+build/lib/libmednukals_$(1).a: $(SOURCES) KIT tests/other_leaf.py
+	@$$(call need,rt)
+	@$$(call need,python3)
+	@$$(call step,archive-$(1),proving the exports over crc16_$(1) and building $$@) python3 tests/other_leaf.py crc16_$(1) build/$(1)
+	@mkdir -p $$(@D) && cp build/$(1)/libmednukals.a $$@
+
+build/$(1)/libmednukals_test.a: build/lib/libmednukals_$(1).a ;
+endef
+$(foreach leaf,$(LEAVES),$(eval $(call leaf_rule,$(leaf))))
 
 # As CAPTURE above, these names are their own.
 install: export MEDNUKALS_PREFIX := $(if $(value PREFIX),$(value PREFIX),/usr/local)
@@ -147,6 +162,7 @@ kit:
 	@$(call need,$(CXX))
 	@$(call need,cargo)
 	@$(call need,python3)
+	@$(call need,valgrind)
 	@echo "kit: $$(rt version)"
 	@[ "$$(rt version)" = "$$(cat KIT)" ] || echo "WARNING: the project is written for the kit $$(cat KIT)" >&2
 
@@ -258,15 +274,18 @@ rust_test: $(LIBS) build/bin/line
 	@$(call need,cargo)
 	@$(call step,rust_test,comparison with the second implementation) sh -c 'cd tests && exec cargo test --release --offline --quiet'
 
-# Over the small checksum function: the header, the table that must not be there, and the comparison tests.
-leaf_test: $(LIBS) $(SMALL) build/bin/line
+# Over the other checksum functions: the tables that must not be there, the header, and the comparison tests.
+leaf_test: $(LIBS) $(LEAF_LIBS) build/bin/line
 	@$(call need,cargo)
 	@$(call need,python3)
 	@$(call need,size)
-	@$(call step,small,small archive: no large table) python3 tests/check_small.py build/lib/libmednukals.a $(SMALL)
-	@$(call step,small-header,header beside the small archive) python3 tests/check_header.py include/mednukals.h $(SMALL)
-	@$(call step,small-rust,small archive beside the second implementation) env MEDNUKALS_ARCHIVES=build/small CARGO_TARGET_DIR=../build/rust_small \
-	    sh -c 'cd tests && cargo test --release --offline --quiet --package compare'
+	@$(call step,leaves,other archives: no large table$(comma) and none) python3 tests/check_leaves.py build/lib/libmednukals.a $(LEAF_LIBS)
+	@$(foreach leaf,$(LEAVES),$(call leaf_steps,$(leaf)) &&) true
+
+leaf_steps = $(call step,$(1)-header,header beside the archive over crc16_$(1)) \
+    python3 tests/check_header.py include/mednukals.h build/lib/libmednukals_$(1).a && \
+    $(call step,$(1)-rust,archive over crc16_$(1) beside the second implementation) \
+    env MEDNUKALS_ARCHIVES=build/$(1) CARGO_TARGET_DIR=../build/rust_leaf sh -c 'cd tests && cargo test --release --offline --quiet --package compare'
 
 # Ends at the first difference, with a file under build/fuzz that replays it. The same seed gives the same cases.
 SECONDS ?= 600
@@ -289,30 +308,68 @@ fuzz_program: $(LIBS)
 	    sh -c 'cd tests && exec cargo build --release --offline --quiet --bin fuzz'
 
 RUNS ?= 1
-BENCH_SOURCES := tests/bench/bench.c tests/bench/baseline.c tests/bench/baseline_reader.c tests/bench/baseline_device.c
-BENCH_HEADERS := tests/bench/baseline.h tests/bench/test_exports.h include/mednukals.h
+BASELINE := baseline baseline_reader baseline_device
+BENCH_SOURCES := $(patsubst %,tests/bench/%.c,bench lines $(BASELINE))
+BENCH_HEADERS := $(addprefix tests/bench/,lines.h baseline.h test_exports.h) include/mednukals.h
 BENCH_FLAGS := -O3 -fno-lto
-bench: build/c/bench
+# What is measured over another checksum function has its name behind it.
+OVER := $(LEAF:%=_%)
+bench: build/c/bench$(OVER)
 	@$(call need,python3)
-	@python3 tools/bench_runs.py '$(RUNS)' build/c/bench "$$(cat KIT)" || $(call failed,the benchmark)
+	@$(call need,rt)
+	@python3 tools/bench_runs.py '$(RUNS)' $< "$$(rt version)" || $(call failed,the benchmark)
 
 # The baseline is a file of its own and there is no link-time optimization: its calls stay calls, as ours are.
-build/c/bench: $(BENCH_SOURCES) $(BENCH_HEADERS) $(LIBS)
+build/c/bench$(OVER): $(BENCH_SOURCES) $(BENCH_HEADERS) $(MADE_LIBS)
 	@$(call need,$(CC))
 	@mkdir -p $(@D)
 	@build="$$($(CC) --version | head -n 1), -std=c99 $(BENCH_FLAGS)" && \
-	    $(CC) $(WARNINGS) $(BENCH_FLAGS) -DBASELINE_BUILD="\"$$build\"" -Iinclude -o $@ $(BENCH_SOURCES) $(LIBS) \
+	    $(CC) $(WARNINGS) $(BENCH_FLAGS) -DBASELINE_BUILD="\"$$build\"" -Iinclude -o $@ $(BENCH_SOURCES) $(MADE_LIBS) \
 	    || $(call failed,compiling the benchmark)
 
-memory: build/c/memory build/c/stack
-	@$(call need,size)
-	@build/c/memory && build/c/stack || $(call failed,the memory figures)
-	@echo 'the archive that firmware links, in bytes' && size -t build/lib/libmednukals.a
-
-build/c/memory build/c/stack: build/c/%: tests/bench/%.c include/mednukals.h build/lib/libmednukals.a
+# -O0, so that `counted` stays a function of its own; what is counted lies in the archives.
+COUNTS_SOURCES := tests/counts/counts.c tests/bench/lines.c
+COUNTED := $(MADE_LIBS)
+COUNTS := build/c/counts$(LEAF:%=_%)
+$(COUNTS): $(COUNTS_SOURCES) tests/bench/baseline.c tests/bench/baseline_reader.c $(BENCH_HEADERS) $(MADE_LIBS)
 	@$(call need,$(CC))
 	@mkdir -p $(@D)
-	@$(CC) $(WARNINGS) -O2 -Iinclude -o $@ $< build/lib/libmednukals.a || $(call failed,compiling $<)
+	@$(CC) $(WARNINGS) -O0 -Iinclude -Itests/bench -o $@ $(filter %.c,$^) $(COUNTED) || $(call failed,compiling the counts)
+
+# The same inputs by the baseline, compiled as in the benchmark; what it lacks is called in the archive.
+PLAIN_CALLS := $(foreach name,crc16 encode feed gap reader_feed reader_gap fresh measure device exchange,-Ddxl_$(name)=baseline_$(name)) \
+    -Ddxl_test_crc16_small=baseline_crc16_small -Ddxl_test_crc16_fold=baseline_crc16 -Ddxl_next_event=baseline_next_event
+PLAIN_OBJECTS := $(BASELINE:%=build/c/%.o)
+$(PLAIN_OBJECTS): build/c/%.o: tests/bench/%.c $(BENCH_HEADERS)
+	@$(call need,$(CC))
+	@mkdir -p $(@D)
+	@$(CC) $(WARNINGS) $(BENCH_FLAGS) -Iinclude -c -o $@ $< || $(call failed,compiling the baseline)
+
+build/c/counts_plain: $(COUNTS_SOURCES) $(PLAIN_OBJECTS) $(LIBS)
+	@$(CC) $(WARNINGS) -O0 $(PLAIN_CALLS) -Iinclude -Itests/bench -o $@ $^ || $(call failed,compiling the counts of the baseline)
+
+counts_test: $(COUNTS)
+	@$(call need,python3)
+	@$(call need,valgrind)
+	@$(call need,nm)
+	@$(call step,counts_test,instructions of each export beside tests/instructions.txt) python3 tests/counts_test.py $< $(COUNTED)
+
+counts: $(if $(PLAIN),build/c/counts_plain,$(COUNTS))
+	@$(call need,python3)
+	@$(call need,valgrind)
+	@$(call need,nm)
+	@python3 tests/counts_test.py $(if $(PLAIN)$(LEAF),--print,--write) $< $(if $(PLAIN),$(PLAIN_OBJECTS)) $(COUNTED) \
+	    || $(call failed,the counts)
+
+memory: build/c/memory$(OVER) build/c/stack$(OVER)
+	@$(call need,size)
+	@build/c/memory$(OVER) && build/c/stack$(OVER) || $(call failed,the memory figures)
+	@echo 'the archive that firmware links, in bytes' && size -t $(firstword $(MADE_LIBS))
+
+build/c/memory$(OVER) build/c/stack$(OVER): build/c/%$(OVER): tests/bench/%.c include/mednukals.h $(firstword $(MADE_LIBS))
+	@$(call need,$(CC))
+	@mkdir -p $(@D)
+	@$(CC) $(WARNINGS) -O2 -Iinclude -o $@ $< $(firstword $(MADE_LIBS)) || $(call failed,compiling $<)
 
 # Long: some seconds for each change. MOST=N tries N of them, picked by SEED; SINCE=REV only those in lines that are new since REV.
 mutants:

@@ -1,7 +1,8 @@
 /*
  * Mednukals: the bus side of a DYNAMIXEL Protocol 2.0 device.
  *
- * Link with libmednukals.a, or with libmednukals_small.a, whose checksum table has 32 bytes instead of 512.
+ * Link with libmednukals.a, whose checksum table has 512 bytes, with libmednukals_small.a, whose table has 32, or with
+ * libmednukals_fold.a, which has none.
  * docs/INTEGRATING.md is about the firmware around these calls.
  *
  * What each function returns, writes and refuses is proved for every input, as long as the caller keeps to the following, which

@@ -17,10 +17,15 @@ def symbols(archive, *words):
     return [line.split()[:2] for line in text.splitlines() if len(line.split()) >= 2 and not line.endswith(":")]
 
 
-def main(header, archive):
+def functions(header):
+    """The functions that a header declares."""
     with open(header, encoding="utf-8") as file:
         code = re.sub(r"/\*.*?\*/", "", file.read(), flags=re.S)
-    declared = set(re.findall(r"\b(dxl_\w+)\s*\([^;{]*\)\s*;", code))
+    return set(re.findall(r"\b(dxl_\w+)\s*\([^;{]*\)\s*;", code))
+
+
+def main(header, archive):
+    declared = functions(header)
     defined = {name for name, kind in symbols(archive, "-g", "--defined-only") if kind == "T"}
     writable = {name for name, kind in symbols(archive, "--defined-only") if kind in "bBdDcCsS"}
     wanted = {name for name, kind in symbols(archive, "-u")} - MEMORY_FUNCTIONS - defined

@@ -2,7 +2,7 @@
 
 `rt ci` proves every crate from nothing and then tries the must-fail edits, which takes longer than all else. As soon as the crates
 are proved, the archives that the tests link are made from them, and the tests run while the edits are tried. So nothing is proved
-twice, but what leaf_test proves over the other checksum function, in a copy.
+twice, but what leaf_test proves over the other checksum functions, in copies.
 
 Of what `rt ci` prints, a line for each crate is shown, one for each crate's edits, and what a failure says; build/log/rt-ci.log has
 all of it. Its last line, the count, comes last here too, when the tests have passed.
@@ -24,11 +24,12 @@ LOG = Path("build/log/rt-ci.log")
 KEPT = ["rlib", "obj", "bin", "log", "stamp"]  # of target/: what rt goes by to see that a crate is proved
 ARCHIVES = {"capi": "libmednukals.a", "capi_test": "libmednukals_test.a"}
 PROGRAMS = ["line", "checksum"]
-TESTS = ["c_test", "header_test", "install_test", "docs_test", "programs_test", "demo_test",
+TESTS = ["c_test", "header_test", "install_test", "docs_test", "programs_test", "demo_test", "counts_test",
          "rust_test", "leaf_test"]
 # what the tests link is there: make must not call rt in this tree beside the command
 MADE = [f"build/lib/{archive}" for archive in ARCHIVES.values()] + [f"build/bin/{program}" for program in PROGRAMS]
-SMALL = Path("build/lib/libmednukals_small.a")  # one of an earlier run says nothing of this tree
+OTHERS = [Path(f"build/lib/libmednukals_{leaf}.a") for leaf in ("small", "fold")]  # those of an earlier run say nothing of this tree
+LINKED = Path("build/c")  # likewise, and make would not link them anew: to it the archives are old
 MOST_LINES, MOST_CHARACTERS = 40, 500  # of what a failed proof says
 
 
@@ -75,7 +76,9 @@ class Tests(threading.Thread):
     def targets(self):
         """The tests by make, whose lines are handed on as they come."""
         old = [f"--old-file={file}" for file in MADE]
-        SMALL.unlink(missing_ok=True)
+        for archive in OTHERS:
+            archive.unlink(missing_ok=True)
+        shutil.rmtree(LINKED, ignore_errors=True)
         make = subprocess.Popen(["make", "--no-print-directory", *old, *TESTS], stdout=subprocess.PIPE, stderr=subprocess.STDOUT,
                                 text=True, env={**os.environ, "RT_JOBS": "1"})  # leaf_test proves crates
         for line in make.stdout:

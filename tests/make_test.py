@@ -1,5 +1,5 @@
-"""Holds `make help` to the Makefile, and tries tools/step.sh and tests/gate.py on stand-ins: usage make_test.py, in the
-repository's root
+"""Holds `make help` to the Makefile, and tries tools/step.sh, tests/gate.py and tests/counts_test.py on stand-ins: usage
+make_test.py, in the repository's root
 """
 import os
 import re
@@ -10,6 +10,7 @@ import unittest
 from pathlib import Path
 
 import suite
+from counts_test import HEAD
 
 ROOT = Path.cwd()
 INSIDE = {"help", "fuzz_program", "replay_file"}  # targets that nobody asks for
@@ -37,6 +38,27 @@ proofs, edits and tests, together
 6 passed, 0 failed
 """
 BESIDE = "build/lib/libmednukals.a\nbuild/lib/libmednukals_test.a\nall tests\n"
+
+VALGRIND = """for word; do
+    case $word in --callgrind-out-file=*) out=${word#*=};; esac
+done
+for number in 1 2; do
+    sed -n "s/^$number //p" costs >"$out.$number"
+done
+cat names
+"""
+COSTS = """fn=memset
+0 50
+fn=dxl_one
+0 60
+cfn=memset
+calls=1 0
+0 50
+0 40
+fn=counted
+7 3
+totals: 153
+"""
 
 
 def run(*words, **more):
@@ -92,9 +114,11 @@ class Step(unittest.TestCase):
 class Gate(unittest.TestCase):
     """gate.py with stand-ins for rt and make, in a folder of its own."""
 
-    def gate(self, text, status=0, make="echo all tests", rt="mkdir -p target/staticlib && : >target/staticlib/lib$2.a"):
+    def gate(self, text, status=0, make="[ -e build/c ] || echo all tests",
+             rt="mkdir -p target/staticlib && : >target/staticlib/lib$2.a"):
         with tempfile.TemporaryDirectory() as folder:
-            for part in ["crates", "bin", *(f"target/{part}" for part in ("rlib", "obj", "bin", "log", "stamp"))]:
+            made = [f"target/{part}" for part in ("rlib", "obj", "bin", "log", "stamp")]
+            for part in ["crates", "bin", "build/c/of_an_earlier_run", *made]:
                 Path(folder, part).mkdir(parents=True)
             for file in ["crates.txt", "target/bin/line", "target/bin/checksum"]:
                 Path(folder, file).touch()
@@ -147,6 +171,75 @@ class Gate(unittest.TestCase):
         code, output, errors = self.gate(PROVED + "4 passed, 0 failed\n")
         self.assertEqual((code, errors), (1, "mednukals: FAILED: the tests beside rt ci: they did not run\n"))
         self.assertNotIn("passed", output)
+
+
+class Counts(unittest.TestCase):
+    """counts_test.py with stand-ins for its tools: two exports take 100 instructions each, beside 50 of memset."""
+
+    def counts(self, *words, stored="dxl_one Ping 100\ndxl_two 7 bytes 100\n", second=COSTS.replace("dxl_one", "dxl_two"),
+               names="dxl_one Ping\ndxl_two 7 bytes\n", header="int dxl_one(void);\nint dxl_two(void);\n"):
+        with tempfile.TemporaryDirectory() as folder:
+            for part in ["bin", "include", "tests"]:
+                Path(folder, part).mkdir()
+            costs = "".join(f"{number} {line}\n" for number, text in enumerate([COSTS, second], 1) for line in text.splitlines())
+            files = {"costs": costs, "names": names, "include/mednukals.h": header, "tests/instructions.txt": stored}
+            for name, text in files.items():
+                Path(folder, name).write_text(text, encoding="utf-8")
+            tools = {"valgrind": VALGRIND, "nm": "echo dxl_one T 0 1; echo dxl_two T 0 1; echo table r 0 1", "rt": "echo kit $1 2"}
+            for name, does in tools.items():
+                path = Path(folder, "bin", name)
+                path.write_text(f"#!/bin/sh\n{does}\n", encoding="utf-8")
+                path.chmod(0o755)
+            places = {**os.environ, "PATH": f"{folder}/bin:{os.environ['PATH']}"}
+            answer = run(sys.executable, str(ROOT / "tests/counts_test.py"), *words, "program", "archive", cwd=folder, env=places)
+            return *answer, Path(folder, "tests/instructions.txt").read_text(encoding="utf-8")
+
+    def fault(self, text, **more):
+        code, _, errors, _ = self.counts(**more)
+        self.assertEqual(code, 1)
+        self.assertEqual(errors.splitlines()[0], f"instructions: {text}")
+
+    def test_good(self):
+        for number in 98, 100, 103:
+            code, output, errors, _ = self.counts(stored=f"# counts\ndxl_one Ping {number}\ndxl_two 7 bytes  100\n")
+            self.assertEqual((code, errors), (0, ""))
+            self.assertEqual(output, "instructions: 2 counts, each within 3 percent of tests/instructions.txt\n")
+
+    def test_one_has_grown(self):
+        self.fault("dxl_two 7 bytes: 96 instructions before, 100 now (+4.2%)", stored="dxl_one Ping 98\ndxl_two 7 bytes 96\n")
+
+    def test_one_has_shrunk(self):
+        self.fault("dxl_one Ping: 104 instructions before, 100 now (-3.8%)", stored="dxl_one Ping 104\ndxl_two 7 bytes 100\n")
+
+    def test_another_kit(self):
+        for name, said in {"version 1": True, "version 2": False}.items():
+            _, _, errors, _ = self.counts(stored=f"{HEAD.format('kit ' + name)}dxl_one Ping 50\ndxl_two 7 bytes 100\n")
+            warning = "instructions: the kit is kit version 2, and tests/instructions.txt is of another one\n"
+            self.assertEqual(warning in errors, said)
+
+    def test_a_line_is_missing(self):
+        self.fault("dxl_two 7 bytes: 100 instructions, and no line in tests/instructions.txt", stored="dxl_one Ping 100\n")
+        self.fault("dxl_two Ping: a line in tests/instructions.txt, and not counted",
+                   stored="dxl_one Ping 100\ndxl_two 7 bytes 100\ndxl_two Ping 1\n")
+
+    def test_an_export_is_not_counted(self):
+        self.fault("dxl_three has no count in tests/counts/counts.c",
+                   header="int dxl_one(void);\nint dxl_two(void);\nint dxl_three(int n);\n")
+        self.fault("dxl_two 7 bytes: the export was not called", second=COSTS)
+
+    def test_the_counts_are_unusable(self):
+        self.fault("a file of callgrind is not as it was when this was written", second=COSTS.replace("153", "154"))
+        self.fault("2 counts are named, and callgrind has not written one for each", names="dxl_one Ping\ndxl_one Ping\n")
+        self.fault("3 counts are named, and callgrind has not written one for each", names="dxl_one a\ndxl_one b\ndxl_one c\n")
+
+    def test_the_file_is_written(self):
+        code, output, _, text = self.counts("--write", stored="dxl_one Ping 99\n")
+        self.assertEqual(code, 0)
+        self.assertIn("dxl_one Ping: 99 instructions before, 100 now (+1.0%)\n", output)
+        self.assertRegex(text, r"^(# .*\n)+# Archives of the kit kit version 2\ndxl_one Ping +100\ndxl_two 7 bytes +100\n$")
+        code, output, _, text = self.counts("--print", stored="")
+        self.assertRegex(output, r"^dxl_one Ping +100\ndxl_two 7 bytes +100\n$")
+        self.assertEqual((code, text), (0, ""))
 
 
 if __name__ == "__main__":

@@ -1,9 +1,9 @@
-"""Builds the exports over the other checksum leaf: usage other_leaf.py LEAF FOLDER, in the repository's root
+"""Builds the exports over another checksum leaf: usage other_leaf.py LEAF FOLDER, in the repository's root
 
-Both leaves make the same promise to the letter. A copy of the tree is made outside the repository, in which the callers of the leaf
+All leaves make the same promise to the letter. A copy of the tree is made outside the repository, in which the callers of the leaf
 `crc16` name LEAF instead: in their sources, their proofs and crates.txt, and nothing else. There the callers and all crates from
-them up to the exports are proved, and the archives of the exports go to FOLDER. Crates that do not stand on the leaf are not
-proved again where target/ has them proved.
+them up to the exports are proved, each once, and the archives of the exports go to FOLDER. Crates that do not stand on the leaf are
+not proved again where target/ has them proved.
 """
 import re
 import shutil
@@ -19,9 +19,12 @@ NAMED = re.compile(rf"(?<![\w-]){LEAF}(?=::|\.)")  # as a source calls it and a 
 
 
 def promise(leaf):
-    """The head of the leaf's function, with the definitions that it cites."""
+    """The head of the leaf's function, and where each name that it cites comes from."""
     source = Path("crates", leaf, "src", "lib.rt").read_text(encoding="utf-8")
-    return re.findall(r"^ghost use .*?;", source, flags=re.M | re.S), re.search(r"^pub fn update.*?^\{", source, flags=re.M | re.S).group()
+    head = re.search(r"^pub fn update.*?^\{", source, flags=re.M | re.S).group()
+    words = set(re.findall(r"[^\s(){},;.⌜⌝]+", head))
+    brought = re.findall(r"^ghost use (\S+)\.\{(.*?)\};", source, flags=re.M | re.S)
+    return {name: module for module, names in brought for name in names.split(", ") if name.strip("_") in words}, head
 
 
 def dependencies(text):
@@ -81,17 +84,20 @@ def main(leaf, folder):
             if (Path("target") / part).exists():
                 shutil.copytree(Path("target") / part, room / "target" / part)
         changed = change_over(room, leaf)
-        said = rt(room, "check", *changed, *ARCHIVES)
-        proved = sorted(re.findall(r"^rt: (\w+) proved \(\d+ s\)", said, flags=re.M))
-        missing = from_callers(dependencies(Path("crates.txt").read_text(encoding="utf-8"))) - set(proved)
+        stands_on = dependencies((room / "crates.txt").read_text(encoding="utf-8"))
+        below = set(changed).union(*(stands_on[crate] for crate in ARCHIVES)) - set(ARCHIVES)
+        said = rt(room, "check", *sorted(below))
+        proved = set(re.findall(r"^rt: (\w+) proved \(\d+ s\)", said, flags=re.M))
+        for crate, archive in ARCHIVES.items():
+            if re.search(r"^logic=proved ", rt(room, "staticlib", crate), flags=re.M):
+                proved.add(crate)
+            shutil.copy(room / "target" / "staticlib" / f"lib{crate}.a", folder / archive)
+        missing = from_callers(dependencies(Path("crates.txt").read_text(encoding="utf-8"))) - proved
         if missing or not all(changed.values()):
             sys.exit(f"other_leaf: not proved over {leaf}: {sorted(missing)}; lines changed: {changed}")
-        for crate, archive in ARCHIVES.items():
-            rt(room, "staticlib", crate)
-            shutil.copy(room / "target" / "staticlib" / f"lib{crate}.a", folder / archive)
     lines = ", ".join(f"{crate} {count}" for crate, count in changed.items())
     print(f"other leaf: the callers name {leaf} (lines changed: {lines}), and nothing else differs")
-    print(f"other leaf: proved over it: {', '.join(proved)}")
+    print(f"other leaf: proved over it: {', '.join(sorted(proved))}")
 
 
 if __name__ == "__main__":

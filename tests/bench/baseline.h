@@ -19,6 +19,8 @@ int64_t baseline_encode(uint8_t id, uint8_t instruction, const uint8_t *params, 
 
 struct dxl_step baseline_feed(uint8_t held[1030], size_t *count, const uint8_t *chunk, size_t n, uint8_t packet[1031]);
 struct dxl_step baseline_gap(uint8_t held[1030], size_t *count, uint8_t packet[1031]);
+struct dxl_step baseline_reader_feed(struct dxl_reader *reader, const uint8_t *chunk, size_t n, uint8_t packet[1031]);
+struct dxl_step baseline_reader_gap(struct dxl_reader *reader, uint8_t packet[1031]);
 struct dxl_event baseline_next_event(const uint8_t *segment, size_t n, size_t from);
 struct fed_value baseline_feed_value(const uint8_t held[1030], size_t count, const uint8_t *chunk, size_t n);
 

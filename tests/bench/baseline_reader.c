@@ -138,6 +138,16 @@ struct dxl_step baseline_gap(uint8_t held[1030], size_t *count, uint8_t packet[1
     return read_on(held, count, none, 0, packet, 1);
 }
 
+struct dxl_step baseline_reader_feed(struct dxl_reader *reader, const uint8_t *chunk, size_t n, uint8_t packet[1031])
+{
+    return baseline_feed(reader->bytes, &reader->count, chunk, n, packet);
+}
+
+struct dxl_step baseline_reader_gap(struct dxl_reader *reader, uint8_t packet[1031])
+{
+    return baseline_gap(reader->bytes, &reader->count, packet);
+}
+
 struct fed_value baseline_feed_value(const uint8_t held[1030], size_t count, const uint8_t *chunk, size_t n)
 {
     struct fed_value fed;

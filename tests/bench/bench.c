@@ -10,6 +10,7 @@
 #include <time.h>
 
 #include "baseline.h"
+#include "lines.h"
 #include "mednukals.h"
 #include "test_exports.h"
 
@@ -63,6 +64,11 @@ static uint16_t small_baseline(uint16_t last, size_t n)
     return baseline_crc16_small(last, input, n);
 }
 
+static uint16_t fold_ours(uint16_t last, size_t n)
+{
+    return dxl_test_crc16_fold(last, input, n);
+}
+
 /* The checksum of n bytes of which byte 4 was changed: from the one before, and by a whole pass in C. */
 static uint16_t flip_ours(uint16_t last, size_t n)
 {
@@ -86,7 +92,7 @@ static uint16_t flip_baseline(uint16_t last, size_t n)
 
 /* The status that answers a Ping, 14 bytes, and the longest packet, with ten places to stuff in it. */
 static uint8_t ping_status[] = {0x00, 0x06, 0x04, 0x26};
-static uint8_t longest[1011];
+static uint8_t longest[LONGEST_PARAMS];
 static uint8_t packet[DXL_MAX_PACKET];
 
 typedef int64_t encoder(uint8_t id, uint8_t instruction, const uint8_t *params, size_t n_params, uint8_t *out, size_t n_out,
@@ -119,44 +125,7 @@ static uint16_t encode_baseline(uint16_t last, size_t n)
 static uint8_t line[65536];
 static size_t n_line;
 
-/* Packets of 14 bytes, one after the other. */
-static void clean_line(void)
-{
-    uint8_t params[] = {0x00, 0x06, 0x04, 0x26};
-    n_line = 0;
-    for (uint8_t id = 0; n_line + 14 <= sizeof line; id = id < 252 ? id + 1 : 0)
-        n_line += (size_t)baseline_encode(id, 0x55, params, sizeof params, line, sizeof line, n_line);
-}
-
-/* Packets of every length, most of them short, some with bytes to stuff. */
-static void mixed_line(void)
-{
-    n_line = 0;
-    for (size_t i = 0;; i++) {
-        size_t n_params = input[i] % 8 == 0 ? 4u * input[i + 1] : input[i + 1] % 24u;
-        uint8_t params[1020];
-        memcpy(params, input + i, n_params);
-        if (n_params >= 3 && input[i + 2] % 4 == 0)
-            memcpy(params + n_params / 2 - 1, "\xFF\xFF\xFD", 3);
-        int64_t count = baseline_encode(input[i] % 253, 0x03, params, n_params, line, sizeof line, n_line);
-        if (count < 0)
-            return;
-        n_line += (size_t)count;
-    }
-}
-
-/* Headers seven bytes apart, each of which promises the longest packet: a checksum of 1,029 bytes for every seven. */
-static void worst_line(void)
-{
-    static const uint8_t header[7] = {0xFF, 0xFF, 0xFD, 0x00, 0x01, 0x00, 0x04};
-    for (n_line = 0; n_line + sizeof header <= 16384; n_line += sizeof header)
-        memcpy(line + n_line, header, sizeof header);
-}
-
-static uint8_t held[DXL_MAX_HELD];
-
-typedef struct dxl_step feeder(uint8_t held[1030], size_t *count, const uint8_t *chunk, size_t n, uint8_t packet[1031]);
-typedef struct dxl_step gapper(uint8_t held[1030], size_t *count, uint8_t packet[1031]);
+static struct dxl_reader reader;
 
 /* end: the last byte of the packet, and some byte that is 0 beside any other answer */
 static uint16_t mixed(uint16_t last, size_t taken, size_t count, uint8_t kind, uint8_t id, uint8_t end)
@@ -175,23 +144,45 @@ static size_t least(size_t a, size_t b)
     return a < b ? a : b;
 }
 
-/* The whole line in chunks of n bytes, and a gap. */
-static uint16_t read_line(feeder *feed, gapper *gap, uint16_t last, size_t n)
+/* The reader's calls on a record by its parts, or on one in a struct. */
+struct calls {
+    struct dxl_step (*feed)(uint8_t held[1030], size_t *count, const uint8_t *chunk, size_t n, uint8_t packet[1031]);
+    struct dxl_step (*gap)(uint8_t held[1030], size_t *count, uint8_t packet[1031]);
+    struct dxl_step (*feed_record)(struct dxl_reader *reader, const uint8_t *chunk, size_t n, uint8_t packet[1031]);
+    struct dxl_step (*gap_record)(struct dxl_reader *reader, uint8_t packet[1031]);
+};
+
+static struct dxl_step feed(const struct calls *calls, const uint8_t *chunk, size_t n)
 {
-    size_t count = 0;
+    if (calls->feed_record != NULL)
+        return calls->feed_record(&reader, chunk, n, packet);
+    return calls->feed(reader.bytes, &reader.count, chunk, n, packet);
+}
+
+static struct dxl_step gap(const struct calls *calls)
+{
+    if (calls->gap_record != NULL)
+        return calls->gap_record(&reader, packet);
+    return calls->gap(reader.bytes, &reader.count, packet);
+}
+
+/* The whole line in chunks of n bytes, and a gap. */
+static uint16_t read_line(const struct calls *calls, uint16_t last, size_t n)
+{
     struct dxl_step step;
+    reader.count = 0;
     for (size_t at = 0; at < n_line; at += n) {
         const uint8_t *chunk = line + at;
         size_t left = least(n, n_line - at);
         do {
-            step = feed(held, &count, chunk, left, packet);
+            step = feed(calls, chunk, left);
             chunk += step.taken;
             left -= step.taken;
             last = mixed_step(last, &step);
         } while (step.kind != DXL_NO_EVENT);
     }
     do {
-        step = gap(held, &count, packet);
+        step = gap(calls);
         last = mixed_step(last, &step);
     } while (step.kind != DXL_NO_EVENT);
     return last;
@@ -224,12 +215,26 @@ static uint16_t value_baseline(uint16_t last, size_t n)
 
 static uint16_t read_ours(uint16_t last, size_t n)
 {
-    return read_line(dxl_feed, dxl_gap, last, n);
+    static const struct calls ours = {dxl_feed, dxl_gap, NULL, NULL};
+    return read_line(&ours, last, n);
 }
 
 static uint16_t read_baseline(uint16_t last, size_t n)
 {
-    return read_line(baseline_feed, baseline_gap, last, n);
+    static const struct calls baseline = {baseline_feed, baseline_gap, NULL, NULL};
+    return read_line(&baseline, last, n);
+}
+
+static uint16_t record_ours(uint16_t last, size_t n)
+{
+    static const struct calls ours = {NULL, NULL, dxl_reader_feed, dxl_reader_gap};
+    return read_line(&ours, last, n);
+}
+
+static uint16_t record_baseline(uint16_t last, size_t n)
+{
+    static const struct calls baseline = {NULL, NULL, baseline_reader_feed, baseline_reader_gap};
+    return read_line(&baseline, last, n);
 }
 
 typedef struct dxl_event finder(const uint8_t *segment, size_t n, size_t from);
@@ -357,6 +362,18 @@ static uint16_t exchanged(exchanger *exchange, uint16_t last, size_t n)
     return folded(last, &answer);
 }
 
+/* Whether it judges the checksum: a packet in which that is wrong is silence. */
+static int judges(exchanger *exchange, size_t n)
+{
+    static uint8_t unstuffed[DXL_MAX_BODY];
+    uint8_t *end = &received[0][n - 1];
+    *end ^= 1;
+    struct dxl_answer answer =
+        exchange(table, sizeof table, none, received[0], n, unstuffed, sizeof unstuffed, reply, sizeof reply);
+    *end ^= 1;
+    return answer.count == 0;
+}
+
 static uint16_t exchange_ours(uint16_t last, size_t n)
 {
     return exchanged(dxl_exchange, last, n);
@@ -409,11 +426,10 @@ static int measure_bytes(const char *what, work *ours, work *baseline, size_t n)
     return measure(what, ours, baseline, n, (double)n * 1e-6, "MB/s");
 }
 
-static int measure_small(void)
+static int measure_checksum(const char *what, work *ours, work *baseline)
 {
-    return measure_bytes("checksum, sixteen numbers", small_ours, small_baseline, 14)
-           && measure_bytes("checksum, sixteen numbers", small_ours, small_baseline, 1031)
-           && measure_bytes("checksum, sixteen numbers", small_ours, small_baseline, LARGEST);
+    return measure_bytes(what, ours, baseline, 14) && measure_bytes(what, ours, baseline, 1031)
+           && measure_bytes(what, ours, baseline, LARGEST);
 }
 
 static int measure_flips(size_t n)
@@ -421,13 +437,12 @@ static int measure_flips(size_t n)
     return measure("flipped byte, or a whole pass", flip_ours, flip_baseline, n, 1e-6, "Mcalls/s");
 }
 
-static int measure_line(const char *what, size_t chunk)
+/* The whole line as one segment. */
+static int measure_plain(const struct line_kind *kind)
 {
-    return measure(what, read_ours, read_baseline, chunk, (double)n_line * 1e-6, "MB/s");
-}
-
-static int measure_plain(const char *what)
-{
+    char what[64];
+    snprintf(what, sizeof what, "plain, %s", kind->name);
+    n_line = kind->fill(line, sizeof line);
     return measure(what, plain_ours, plain_baseline, n_line, (double)n_line * 1e-6, "MB/s");
 }
 
@@ -436,23 +451,45 @@ static int measure_device(const char *what, size_t n)
     return measure(what, device_ours, device_baseline, n, 1e-6, "Mcalls/s");
 }
 
+/* A line in chunks of 1, 64 and 4,096. */
+static int measure_line(const char *call, const struct line_kind *kind, work *ours, work *baseline)
+{
+    static const size_t chunks[] = {1, 64, 4096};
+    char what[64];
+    snprintf(what, sizeof what, "%s, %s", call, kind->name);
+    n_line = kind->fill(line, sizeof line);
+    for (size_t i = 0; i < sizeof chunks / sizeof chunks[0]; i++)
+        if (!measure(what, ours, baseline, chunks[i], (double)n_line * 1e-6, "MB/s"))
+            return 0;
+    return 1;
+}
+
 /* The call by value with one byte: it copies the record in and out. */
 static int measure_value(void)
 {
+    n_line = lines[PACKETS_OF_14].fill(line, sizeof line);
     return measure("read by value, packets of 14", value_ours, value_baseline, 1, (double)n_line * 1e-6, "MB/s");
 }
 
+/* The record in a struct differs by the call alone, so that two lines show it. */
 static int measure_reader(void)
 {
-    clean_line();
-    int good = measure_value() && measure_line("read, packets of 14", 1) && measure_line("read, packets of 14", 64)
-               && measure_line("read, packets of 14", 4096) && measure_plain("plain, packets of 14");
-    mixed_line();
-    good = good && measure_line("read, mixed packets", 1) && measure_line("read, mixed packets", 64)
-           && measure_line("read, mixed packets", 4096) && measure_plain("plain, mixed packets");
-    worst_line();
-    return good && measure_line("read, worst noise", 1) && measure_line("read, worst noise", 64)
-           && measure_line("read, worst noise", 4096) && measure_plain("plain, worst noise");
+    if (!measure_value())
+        return 0;
+    for (size_t i = 0; i < LINES; i++)
+        if (!measure_line("read", &lines[i], read_ours, read_baseline) || !measure_plain(&lines[i]))
+            return 0;
+    return measure_line("read record", &lines[PACKETS_OF_14], record_ours, record_baseline)
+           && measure_line("read record", &lines[RANDOM_BYTES], record_ours, record_baseline);
+}
+
+static int measure_exchange(const char *what, size_t n)
+{
+    if (!judges(dxl_exchange, n) || !judges(baseline_exchange, n)) {
+        fprintf(stderr, "%s: a wrong checksum is carried out\n", what);
+        return 0;
+    }
+    return measure(what, exchange_ours, exchange_baseline, n, 1e-6, "Mcalls/s");
 }
 
 static int measure_instructions(void)
@@ -465,7 +502,7 @@ static int measure_instructions(void)
     instruct(put, sizeof put, 3);
     good = good && measure_device("device, Write", sizeof put);
     receive(sizeof put);
-    good = good && measure("exchange, Write", exchange_ours, exchange_baseline, sizeof put + 9, 1e-6, "Mcalls/s");
+    good = good && measure_exchange("exchange, Write", sizeof put + 9);
     good = good && measure_device("device, Sync Write", instruct_200());
     good = good && measure_device("device, Bulk Read", instruct_bulk(DXL_INST_BULK_READ, 200));
     return good && measure_device("device, Bulk Write", instruct_bulk(DXL_INST_BULK_WRITE, 110));
@@ -482,10 +519,10 @@ static void measure_clearing(void)
     double answer = now() - start;
     start = now();
     for (int i = 0; i < CALLS; i++)
-        clear(held, 0, sizeof held);
+        clear(reader.bytes, 0, sizeof reader.bytes);
     double record = now() - start;
     printf("\na reader's call: memset takes %.0f ns for the answer's %zu bytes and %.0f ns for the record's %zu\n",
-           answer / CALLS * 1e9, sizeof packet, record / CALLS * 1e9, sizeof held);
+           answer / CALLS * 1e9, sizeof packet, record / CALLS * 1e9, sizeof reader.bytes);
 }
 
 int main(int n_words, char **words)
@@ -494,25 +531,17 @@ int main(int n_words, char **words)
         fprintf(stderr, "usage: bench KIT\n");
         return 1;
     }
-    uint32_t seed = 1;
-    for (size_t i = 0; i < LARGEST; i++) {
-        seed = seed * 1664525u + 1013904223u;
-        input[i] = (uint8_t)(seed >> 24);
-    }
-    for (size_t i = 0; i < sizeof longest; i++)
-        longest[i] = input[i] == 0xFF ? 0 : input[i];
-    for (size_t i = 50; i < sizeof longest; i += 100) {
-        longest[i] = longest[i + 1] = 0xFF;
-        longest[i + 2] = 0xFD;
-    }
+    draw(input, sizeof input);
+    draw_longest(longest);
     printf("ours: the archives of %s, compiled at -O3; baseline: plain C by\n%s\n", words[1], BASELINE_BUILD);
     printf("size: bytes of a call, for the reader of a chunk, for the plain one of the segment; ratio: ours to baseline,\n"
            "median of %d rounds\n\n",
            ROUNDS);
     printf("%-30s %8s %-8s %10s %10s %8s\n", "what", "size", "unit", "ours", "baseline", "ratio");
-    int good = measure_bytes("checksum", crc_ours, crc_baseline, 14) && measure_bytes("checksum", crc_ours, crc_baseline, 1031)
-               && measure_bytes("checksum", crc_ours, crc_baseline, LARGEST) && measure_small() && measure_flips(14)
-               && measure_flips(1031) && measure_flips(LARGEST)
+    int good = measure_checksum("checksum", crc_ours, crc_baseline)
+               && measure_checksum("checksum, sixteen numbers", small_ours, small_baseline)
+               && measure_checksum("checksum, no table", fold_ours, crc_baseline)
+               && measure_flips(14) && measure_flips(1031) && measure_flips(LARGEST)
                && measure_bytes("encode", encode_ours, encode_baseline, 14)
                && measure_bytes("encode", encode_ours, encode_baseline, DXL_MAX_PACKET) && measure_reader()
                && measure_instructions();

@@ -17,6 +17,9 @@ struct fed_value {
 /* As dxl_crc16, by a table of sixteen numbers: what it is in libmednukals_small.a. */
 uint16_t dxl_test_crc16_small(uint16_t start, const uint8_t *bytes, size_t n);
 
+/* As dxl_crc16, without a table: what it is in libmednukals_fold.a. */
+uint16_t dxl_test_crc16_fold(uint16_t start, const uint8_t *bytes, size_t n);
+
 /* A feeding call by value, on a record that is made of the held bytes and their count. */
 struct fed_value dxl_test_feed_value(const uint8_t held[1030], size_t count, const uint8_t *chunk, size_t n);
 

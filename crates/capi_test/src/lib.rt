@@ -37,6 +37,15 @@ pub extern "C" fn dxl_test_crc16_small(start: u16, bytes: &[u8]) -> u16
     crc16_small::update(start, bytes)
 }
 
+// The checksum by the leaf without a table.
+#[no_mangle]
+pub extern "C" fn dxl_test_crc16_fold(start: u16, bytes: &[u8]) -> u16
+    ensures { λ crc. ⌜ crc ≡ crcFrom start (now (bytes .entry)) ⌝ }
+    ensures { λ _. ⌜ SumLaws ⌝ }
+{
+    crc16_fold::update(start, bytes)
+}
+
 // 1 if the body is well stuffed, otherwise 0.
 #[no_mangle]
 pub extern "C" fn dxl_test_well_stuffed(body: &[u8]) -> u8

@@ -7,7 +7,7 @@ use native.Mathlib.Omega.{arith}
 use lib.Bits.{bitXor, xor-mod, xor-self, xor-lt, xor-shifted}
 use lib.ListN.{length, replicate}
 use Rattle.lists.specs.Numbers.{Bytes}
-use Rattle.lists.proofs.Xor.{bit-lt, xor-assoc}
+use Rattle.lists.proofs.Xor.{bit-lt, xor-twice}
 use Rattle.crc.specs.Crc.{polynomial, reduceIf, shift, shifts, crcByte, crcFrom}
 use Rattle.crc.specs.Laws.{xorBytes}
 use Rattle.crc.proofs.Linear.{shifts-xor}
@@ -67,9 +67,6 @@ few-zeros (x ∷ y ∷ []) n b z =
 few-zeros (x ∷ y ∷ u ∷ e) n b z = absurd (omega arith)
 
 -- ---- strings that differ in one byte or in two neighbours
-
-xor-twice : (x y : ℕ) → bitXor x (bitXor x y) ≡ y
-xor-twice x y = sym (xor-assoc x x y) ∙ ap (λ (z : ℕ). bitXor z y) (xor-self x)
 
 -- what leads from d to d′, byte by byte
 difference-length : (d d′ : List ℕ) → length d′ ≡ length d → length (xorBytes d d′) ≡ length d

@@ -1,6 +1,6 @@
--- The laws of the checksum that other crates cite: those that the leaf promises, its range, and a loop's turn and end.
-use mathlib.Core.Path.{_≡_, refl, ap, _∙_}
-use mathlib.Core.List.{List, [], _∷_}
+-- The laws of the checksum that other crates cite: those that a leaf promises, its range, and a pass over bytes.
+use mathlib.Core.Path.{_≡_, refl, sym, ap, subst, _∙_}
+use mathlib.Core.List.{List, [], _∷_, _++_}
 use Prim.Native.Nat.{ℕ, zero, suc, _+_, _*_, _/_, _%_, _^_, _≤_, _<_}
 use native.Mathlib.Nat.{mod-lt}
 use native.Mathlib.Numerals.{add-one}
@@ -56,13 +56,26 @@ unfolding crcFrom
 crc-lt start [] h = h
 crc-lt start (b ∷ s) h = crc-lt (crcByte start b) s (crcByte-lt start b)
 
--- a loop's turn: the byte at i goes in
-pub crc-turn : (c : ℕ) (s : List ℕ) (i : ℕ) → i < length s
-    → crcFrom (crcByte c (getD s i 0)) (drop (i + 1) s) ≡ crcFrom c (drop i s)
-unfolding crcFrom
-crc-turn c s i h = rw (add-one, drop-cons s i 0)
+-- ---- a pass over bytes, as the loops of the leaves make it
 
--- a loop's end: nothing is left
-pub crc-done : (c : ℕ) (s : List ℕ) (i : ℕ) → length s ≤ i → crcFrom c (drop i s) ≡ c
-unfolding crcFrom
-crc-done c s i h = ap (crcFrom c) (drop-of-length-le s h)
+-- at i: the register has 16 bits, and going on from it over the bytes that are left gives the sum
+abbrev pub Passed : ℕ → List ℕ → ℕ → ℕ → Type 0
+Passed sum s i c = (c < 2 ^ 16) × (crcFrom c (drop i s) ≡ sum)
+
+module _ (sum : ℕ) (s : List ℕ) (i c : ℕ) (p : Passed sum s i c) where
+  -- a turn: the next bytes go in
+  pub pass-part : (part : List ℕ) (j next : ℕ) → drop i s ≡ part ++ drop j s → next ≡ crcFrom c part → Passed sum s j next
+  pass-part part j next d e = (
+    subst (λ (x : ℕ). x < 2 ^ 16) (sym e) (crc-lt c part (p .0)),
+    ap (λ (x : ℕ). crcFrom x (drop j s)) e ∙ sym (joined c part (drop j s)) ∙ ap (crcFrom c) (sym d) ∙ p .1,
+  )
+
+  -- and where that is one byte
+  pub pass-byte : (next : ℕ) → i < length s → next ≡ crcByte c (getD s i 0) → Passed sum s (i + 1) next
+  unfolding crcFrom
+  pass-byte next h e = pass-part (getD s i 0 ∷ []) (i + 1) next (rw (add-one, drop-cons s i 0)) e
+
+  -- the end: nothing is left
+  pub pass-end : length s ≤ i → c ≡ sum
+  unfolding crcFrom
+  pass-end h = sym (ap (crcFrom c) (drop-of-length-le s h)) ∙ p .1

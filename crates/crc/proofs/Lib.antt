@@ -4,4 +4,5 @@ pub mod Laws
 pub mod Flips
 pub mod Detects
 pub mod Lookup
+pub mod Product
 pub mod Examples

@@ -74,11 +74,17 @@ module _ (j k : ℕ) (sixteen : j + k ≡ 16) where
 
 -- ---- a byte
 
--- by a table of 256
+-- by a table of 256: its entries have 16 bits, and the low half of the register moves up
+pub entry-lt : (table : List ℕ) → Rule 8 8 table → (i : ℕ) → i < 2 ^ 8 → getD table i 0 < 2 ^ 16
+unfolding Rule
+entry-lt table r i h = subst (λ (x : ℕ). x < 2 ^ 16) (sym (r i h)) (shifts-some-lt 7 (i * 2 ^ 8))
+
 pub by-byte : (table : List ℕ) → Rule 8 8 table → (c b : ℕ) → c < 2 ^ 16 → b < 2 ^ 8
-    → bitXor (c * 2 ^ 8 % 2 ^ 16) (getD table (bitXor (c / 2 ^ 8) b) 0) ≡ crcByte c b
+    → bitXor (c % 2 ^ 8 * 2 ^ 8) (getD table (bitXor (c / 2 ^ 8) b) 0) ≡ crcByte c b
 unfolding crcByte
-by-byte table r c b hc hb = looked-up 8 8 refl table r c b hc hb
+by-byte table r c b hc hb =
+    let up : c % 2 ^ 8 * 2 ^ 8 ≡ c * 2 ^ 8 % 2 ^ 16 = omega arith in
+    ap (λ (x : ℕ). bitXor x (getD table (bitXor (c / 2 ^ 8) b) 0)) up ∙ looked-up 8 8 refl table r c b hc hb
 
 -- four shifts with the high half of a byte, then four with the low one
 two-halves : (c b : ℕ) → shifts 4 (bitXor (shifts 4 (bitXor c (b / 16 * 2 ^ 12))) (b % 16 * 2 ^ 12)) ≡ crcByte c b

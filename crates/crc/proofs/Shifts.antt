@@ -1,7 +1,7 @@
 -- Shifts of the register: many at once, none of a register that is 0, and bytes of 0, each of which is eight of them.
 use mathlib.Core.Path.{_≡_, refl, sym, ap, _∙_}
 use Prim.Native.Nat.{ℕ, zero, suc, _+_, _*_, _%_, _^_, _<_}
-use native.Mathlib.Nat.{div-eq-of-lt, mod-eq-of-lt, zero-add, suc-add, pow-suc}
+use native.Mathlib.Nat.{div-eq-of-lt, mod-eq-of-lt, add-comm, zero-add, suc-add, pow-suc}
 use native.Mathlib.Numerals.{add-one}
 use native.Mathlib.Omega.{arith}
 use lib.Pow.{pow-pos}
@@ -39,6 +39,9 @@ pub shifts-add : (m n c : ℕ) → shifts (m + n) c ≡ shifts n (shifts m c)
 unfolding shifts
 shifts-add zero n c = ap (λ (k : ℕ). shifts k c) (zero-add n)
 shifts-add (suc m) n c = ap (λ (k : ℕ). shifts k c) (suc-add m n) ∙ shifts-add m n (shift c)
+
+pub shifts-swap : (m n c : ℕ) → shifts m (shifts n c) ≡ shifts n (shifts m c)
+shifts-swap m n c = sym (shifts-add n m c) ∙ ap (λ (k : ℕ). shifts k c) (add-comm n m) ∙ shifts-add m n c
 
 -- one more shift may come last too
 pub shift-last : (n c : ℕ) → shift (shifts n c) ≡ shifts (suc n) c

@@ -1,3 +1,4 @@
 pub mod Crc
 pub mod Laws
 pub mod Flips
+pub mod Product

@@ -7,17 +7,18 @@ ghost use Rattle.crc.specs.Crc.{crcFrom};
 ghost use Rattle.crc.specs.Laws.{SumLaws};
 
 // The register after the bytes, from start, which may be the sum of earlier bytes: the laws of the sum are promised too. The table
-// is bound once, before the loop: a constant array is built anew wherever it is named. [C1-C8]
+// is bound once, before the loop: a constant array is built anew wherever it is named. The register is as wide as an index, so
+// that no turn widens it. [C1-C8]
 pub fn update(start: u16, bytes: &[u8]) -> u16
     ensures { λ crc. ⌜ crc ≡ crcFrom start (now (bytes .entry)) ⌝ }
     ensures { λ _. ⌜ SumLaws ⌝ }
 {
     let table = TABLE;
-    let mut crc = start;
+    let mut crc = start as usize;
     let mut i = 0;
     while i < bytes.len() {
-        crc = (crc << 8) ^ table[((crc >> 8) ^ (bytes[i] as u16)) as usize];
+        crc = ((crc % 256) * 256) ^ (table[(crc / 256) ^ (bytes[i] as usize)] as usize);
         i += 1;
     }
-    crc
+    crc as u16
 }

@@ -6,8 +6,8 @@ use native.Mathlib.Omega.{arith}
 use lib.ListN.{replicate}
 use Rattle.crc.specs.Crc.{reduceIf, shift, shifts, crcFrom}
 use Rattle.crc.proofs.Shifts.{shifts-add, zeros-shift}
-use Rattle.crc16_flips.specs.Product.{product}
-use Rattle.crc16_flips.proofs.Product.{by-product}
+use Rattle.crc.specs.Product.{product}
+use Rattle.crc.proofs.Product.{by-product}
 
 -- at each turn: `power` stands for k shifts, and `left` times k shifts of `sum` are those that were asked for
 pub record Turn (crc count sum power left : ℕ) : Type 0 where

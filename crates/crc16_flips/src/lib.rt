@@ -3,7 +3,7 @@ ghost use mathlib.Core.Path.{_≡_};
 ghost use lib.ListN.{replicate};
 ghost use Rattle.crc.specs.Crc.{shift, crcFrom};
 ghost use Rattle.crc.specs.Flips.{flippedSum};
-ghost use Rattle.crc16_flips.specs.Product.{product};
+ghost use Rattle.crc.specs.Product.{product};
 
 // One shift of the register.
 fn shifted(crc: u16) -> u16

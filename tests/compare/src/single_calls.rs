@@ -3,6 +3,10 @@
 use crate::{hex, number, Calls, Comparison, Difference, Lent};
 use reference::{Event, Found, Rng};
 
+/// The checksum functions beside the one that the exports stand on.
+const OTHER_LEAVES: [(&str, fn(u16, &[u8]) -> u16); 2] =
+    [("dxl_test_crc16_small", exports::test::crc16_small), ("dxl_test_crc16_fold", exports::test::crc16_fold)];
+
 pub fn compare_checksum(calls: &Calls, rng: &mut Rng, start: u16, bytes: &[u8]) -> Result<u16, Difference> {
     let mut ours = Lent::new(rng, bytes, 0);
     let expected = ours.clone();
@@ -12,10 +16,12 @@ pub fn compare_checksum(calls: &Calls, rng: &mut Rng, start: u16, bytes: &[u8]) 
     let sum = reference::checksum(start, bytes);
     comparison.same_shown("the checksum", answer, sum, |sum| format!("{sum:04x}"))?;
     comparison.same_lent(&ours, &expected)?;
-    let small = ours.call(|bytes, _| exports::test::crc16_small(start, bytes));
-    let comparison = Comparison { export: "dxl_test_crc16_small", given: &given };
-    comparison.same_shown("the checksum", small, sum, |sum| format!("{sum:04x}"))?;
-    comparison.same_lent(&ours, &expected)?;
+    for (export, leaf) in OTHER_LEAVES {
+        let other = ours.call(|bytes, _| leaf(start, bytes));
+        let comparison = Comparison { export, given: &given };
+        comparison.same_shown("the checksum", other, sum, |sum| format!("{sum:04x}"))?;
+        comparison.same_lent(&ours, &expected)?;
+    }
     Ok(answer)
 }
 

@@ -1,8 +1,11 @@
 //! The checksum: the proved export and the reference give the same.
 
 use compare::{compare_flipped, must_agree, published, Published, Status, PROVED};
-use exports::{crc16, crc16_flipped, test::crc16_small};
+use exports::{crc16, crc16_flipped, test::crc16_fold, test::crc16_small};
 use reference::{checksum, Rng};
+
+type Leaf = fn(u16, &[u8]) -> u16;
+const LEAVES: [(&str, Leaf); 3] = [("by a table of 256", crc16), ("by sixteen numbers", crc16_small), ("without a table", crc16_fold)];
 
 /// The two bytes at the end are the checksum of all before them, low byte first, by both implementations.
 fn ends_with_checksum(bytes: &[u8]) -> bool {
@@ -28,7 +31,7 @@ fn parts<'a>(rng: &mut Rng, bytes: &'a [u8], count: usize) -> Vec<&'a [u8]> {
     cuts.windows(2).map(|ends| &bytes[ends[0]..ends[1]]).collect()
 }
 
-/// [C1 C5]
+/// [C1 C5 C11]
 #[test]
 fn random_slices_whole_and_in_parts() {
     let mut rng = Rng::new(1);
@@ -37,19 +40,21 @@ fn random_slices_whole_and_in_parts() {
         let bytes = rng.bytes(count);
         let start = rng.word() as u16;
         let sum = checksum(start, &bytes);
-        assert_eq!(crc16(start, &bytes), sum, "case {case}: {count} bytes from {start:04x}");
-        assert_eq!(crc16_small(start, &bytes), sum, "case {case}: {count} bytes from {start:04x}, by sixteen numbers");
+        for (how, crc16) in LEAVES {
+            assert_eq!(crc16(start, &bytes), sum, "case {case}: {count} bytes from {start:04x}, {how}");
+        }
 
         let count = match case % 3 {
             0 => 2,
             1 => 3,
             _ => rng.between(4, 40),
         };
-        let mut crc = start;
+        let (mut crc, mut fold) = (start, start);
         for part in parts(&mut rng, &bytes, count) {
             crc = crc16(crc, part);
+            fold = crc16_fold(fold, part);
         }
-        assert_eq!(crc, sum, "case {case}: in parts, from {start:04x}");
+        assert_eq!((crc, fold), (sum, sum), "case {case}: in parts, from {start:04x}");
     }
 }
 
@@ -59,9 +64,9 @@ fn every_start_without_bytes_and_with_one() {
     let mut rng = Rng::new(2);
     for start in 0..=u16::MAX {
         let byte = rng.byte();
-        for crc16 in [crc16, crc16_small] {
-            assert_eq!(crc16(start, &[]), start);
-            assert_eq!(crc16(start, &[byte]), checksum(start, &[byte]), "from {start:04x}, byte {byte:02x}");
+        for (how, crc16) in LEAVES {
+            assert_eq!(crc16(start, &[]), start, "{how}");
+            assert_eq!(crc16(start, &[byte]), checksum(start, &[byte]), "from {start:04x}, byte {byte:02x}, {how}");
         }
     }
 }
@@ -72,8 +77,26 @@ fn every_byte_from_every_high_half() {
     for high in 0..=255u8 {
         for byte in 0..=255u8 {
             let start = u16::from_be_bytes([high, 0x5A]);
-            for crc16 in [crc16, crc16_small] {
-                assert_eq!(crc16(start, &[byte]), checksum(start, &[byte]), "from {start:04x}, byte {byte:02x}");
+            for (how, crc16) in LEAVES {
+                assert_eq!(crc16(start, &[byte]), checksum(start, &[byte]), "from {start:04x}, byte {byte:02x}, {how}");
+            }
+        }
+    }
+}
+
+/// Every count around whole turns of eight bytes, with single bits among bytes of 0 as well as with random bytes. [C11]
+#[test]
+fn every_count_up_to_forty() {
+    let mut rng = Rng::new(7);
+    for count in 0..=40 {
+        let ones = (0..8 * count).map(|bit| (0..count).map(|at| if at == bit / 8 { 1 << (bit % 8) } else { 0 }).collect());
+        let inputs: Vec<Vec<u8>> = ones.chain((0..200).map(|_| rng.bytes(count))).collect();
+        for bytes in inputs {
+            for start in [0, 1, 0x8000, 0xFFFF, rng.word() as u16] {
+                let sum = checksum(start, &bytes);
+                for (how, crc16) in LEAVES {
+                    assert_eq!(crc16(start, &bytes), sum, "{bytes:02x?} from {start:04x}, {how}");
+                }
             }
         }
     }
@@ -82,8 +105,10 @@ fn every_byte_from_every_high_half() {
 #[test]
 fn a_megabyte() {
     let bytes = Rng::new(3).bytes(1 << 20);
-    assert_eq!(crc16(0, &bytes), checksum(0, &bytes));
-    assert_eq!(crc16_small(0, &bytes), checksum(0, &bytes));
+    let sum = checksum(0, &bytes);
+    for (how, crc16) in LEAVES {
+        assert_eq!(crc16(0, &bytes), sum, "{how}");
+    }
 }
 
 /// [C4 G2 K6 P8]

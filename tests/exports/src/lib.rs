@@ -105,6 +105,7 @@ mod raw {
         ) -> Answer;
 
         pub fn dxl_test_crc16_small(start: u16, bytes: *const u8, n: usize) -> u16;
+        pub fn dxl_test_crc16_fold(start: u16, bytes: *const u8, n: usize) -> u16;
         pub fn dxl_test_well_stuffed(body: *const u8, n: usize) -> u8;
         pub fn dxl_test_stuff(first: u8, rest: *const u8, n_rest: usize, out: *mut u8, n_out: usize) -> usize;
         pub fn dxl_test_verdict(segment: *const u8, n: usize, offset: usize) -> Verdict;
@@ -207,6 +208,11 @@ pub mod test {
     /// The checksum by the leaf with sixteen numbers.
     pub fn crc16_small(start: u16, bytes: &[u8]) -> u16 {
         unsafe { raw::dxl_test_crc16_small(start, bytes.as_ptr(), bytes.len()) }
+    }
+
+    /// The checksum by the leaf without a table.
+    pub fn crc16_fold(start: u16, bytes: &[u8]) -> u16 {
+        unsafe { raw::dxl_test_crc16_fold(start, bytes.as_ptr(), bytes.len()) }
     }
 
     /// 1 or 0.

@@ -5,8 +5,8 @@ use native.Mathlib.Omega.{arith}
 use lib.Bits.{bitXor, xor-zero-r}
 use Rattle.lists.proofs.Xor.{bit-lt, xor-assoc}
 use Rattle.crc.specs.Crc.{shift}
-use Rattle.crc16_flips.specs.Product.{product}
-use Rattle.crc16_flips.proofs.Product.{product-turn, bit-times-lt}
+use Rattle.crc.specs.Product.{product}
+use Rattle.crc.proofs.Product.{product-turn, bit-times-lt}
 use borrow.Author.Needs.{needs}
 use Rattle.crc16_flips.proofs.times.Statement.{statement}
 use Rattle.crc16_flips.proofs.times.Tie as tie

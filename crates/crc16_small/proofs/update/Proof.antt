@@ -1,23 +1,21 @@
--- The loop keeps: the table keeps its rule, the register has 16 bits, and going on from it over the bytes that are left gives
--- the checksum of all.
-use mathlib.Core.Path.{_≡_, refl, sym, ap, subst, _∙_}
+-- The loop keeps: the table keeps its rule, and the pass has come to the byte at i.
+use mathlib.Core.Path.{_≡_, refl}
 use mathlib.Core.List.{List}
-use Prim.Native.Nat.{ℕ, _+_, _-_, _/_, _%_, _^_, _≤_, _<_}
+use Prim.Native.Nat.{ℕ, _-_, _/_, _%_, _^_, _<_}
 use native.Mathlib.Nat.{mod-lt}
 use native.Mathlib.Omega.{arith}
 use lib.Pow.{pow-pos}
 use lib.Bits.{bitXor}
-use lib.ListN.{length, getD, drop}
+use lib.ListN.{length, getD}
 use borrow.Author.Needs.{needs}
 use Rattle.crc.specs.Crc.{reduceIf, shift, shifts, crcByte, crcFrom}
 use Rattle.crc.proofs.Lookup.{Rule, rule, index-lt, looked, looked-lt, by-halves}
-use Rattle.crc.proofs.Laws.{sum-laws, crcByte-lt, crc-turn, crc-done}
+use Rattle.crc.proofs.Laws.{sum-laws, Passed, pass-byte, pass-end}
 use Rattle.crc16_small.proofs.update.Statement.{statement}
 use Rattle.crc16_small.proofs.update.Tie as tie
 
 abbrev Inv-loop : tie.InvT-loop
-Inv-loop start bytes table crc₀ i₀ crc i =
-    Rule 12 4 table × (i ≤ length bytes) × (crc < 2 ^ 16) × (crcFrom crc (drop i bytes) ≡ crcFrom start bytes)
+Inv-loop start bytes table crc₀ i₀ crc i = Rule 12 4 table × Passed (crcFrom start bytes) bytes i crc
 
 abbrev μ-loop : tie.MeasureT-loop
 μ-loop start bytes table crc₀ i₀ crc i = length bytes - i
@@ -25,7 +23,7 @@ abbrev μ-loop : tie.MeasureT-loop
 -- the test of all 16 entries is computed here
 loop-holds : tie.Need-loop-holds Inv-loop μ-loop
 unfolding reduceIf shift shifts
-loop-holds c = (rule 12 4 _ tt, search needs, search needs, search needs)
+loop-holds c = (rule 12 4 _ tt, (search needs, search needs))
 
 shared-slice-read-byte : tie.Need-shared-slice-read-byte Inv-loop μ-loop
 shared-slice-read-byte c = omega arith
@@ -59,20 +57,20 @@ module _ (c : tie.After-shared-slice-known Inv-loop μ-loop) where
     second : after (byte / 16) × after (byte % 16)
     second =
         let b = small in
-        let small-crc = c .before .before .loop .inv .2 in
+        let small-crc = c .before .before .loop .inv .1 .0 in
         (indices _ (looked-lt table r crc small-crc (byte / 16) (omega arith)), indices _ (looked-lt table r crc small-crc (byte % 16) low))
 
     next : looked table (looked table crc (byte / 16)) (byte % 16) ≡ crcByte crc byte
-    next = by-halves table r crc byte (c .before .before .loop .inv .2) small
+    next = by-halves table r crc byte (c .before .before .loop .inv .1 .0) small
 
 cast-between : tie.Need-cast-between Inv-loop μ-loop
-cast-between c = let i = indices c (crc c) (c .before .before .loop .inv .2) in omega arith
+cast-between c = let i = indices c (crc c) (c .before .before .loop .inv .1 .0) in omega arith
 
 mul-between : tie.Need-mul-between Inv-loop μ-loop
-mul-between c = let i = indices c (crc c) (c .before .before .loop .inv .2) in omega arith
+mul-between c = let i = indices c (crc c) (c .before .before .loop .inv .1 .0) in omega arith
 
 array-read-between : tie.Need-array-read-between Inv-loop μ-loop
-array-read-between c = let i = indices c (crc c) (c .before .before .loop .inv .2) in omega arith
+array-read-between c = let i = indices c (crc c) (c .before .before .loop .inv .1 .0) in omega arith
 
 cast-crc : tie.Need-cast-crc Inv-loop μ-loop
 cast-crc c = let i = second c _ (c .before .before .loop .inv .0) in omega arith
@@ -91,17 +89,14 @@ loop-less c = omega arith
 
 loop-again : tie.Need-loop-again Inv-loop μ-loop
 loop-again c =
-    let h = c .before .before .loop in
-    let s = c .before .before .before .args .bytes .now in
-    let e = next c _ (h .inv .0) in (
+    let h = c .before .before .loop in (
       h .inv .0,
-      omega arith,
-      subst (λ (x : ℕ). x < 2 ^ 16) (sym e) (crcByte-lt (h .crc) (getD s (h .i) 0)),
-      ap (λ (x : ℕ). crcFrom x (drop (h .i + 1) s)) e ∙ crc-turn (h .crc) s (h .i) (c .before .loop-test .taken) ∙ h .inv .3,
+      pass-byte _ _ (h .i) (h .crc) (h .inv .1) _ (c .before .loop-test .taken) (next c _ (h .inv .0)),
     )
 
 returns : tie.Need-returns Inv-loop μ-loop
-returns c = (sym (crc-done _ _ _ (c .loop-test .left)) ∙ c .before .loop .inv .3, sum-laws)
+returns c =
+    let h = c .before .loop in (pass-end _ _ (h .i) (h .crc) (h .inv .1) (c .loop-test .left), sum-laws)
 
 pub update-spec : {M : Type 1} → statement M
 update-spec =

@@ -1,0 +1,465 @@
+/*
+ * Calls every export on fixed inputs, for tests/counts_test.py, which has callgrind count the instructions within `counted`. Prints
+ * the name of each count in the order in which they are taken: the export and its input. Ends with status 1 where an answer is
+ * not the one that the input is for, so that what is counted is what the name says.
+ */
+#include <inttypes.h>
+#include <stdio.h>
+#include <stdlib.h>
+#include <string.h>
+
+#include "baseline.h"
+#include "lines.h"
+#include "mednukals.h"
+#include "test_exports.h"
+
+/* What is lent to the calls: in one struct, so that it lies in the same order for every compiler. */
+static struct {
+    uint8_t line[4096];
+    struct dxl_reader reader;
+    uint8_t packet[DXL_MAX_PACKET];
+    uint8_t params[1100];
+    uint8_t body[DXL_MAX_BODY];
+    uint8_t table[DXL_TABLE_BYTES];
+    uint8_t reply[64];
+} lent;
+
+/* The numbers of the next call. */
+static struct {
+    size_t n;     /* bytes of its input */
+    size_t chunk; /* a line is read in chunks of so many */
+    size_t room;  /* bytes of its output buffer */
+    uint8_t kind, id;
+    uint16_t crc;
+    struct dxl_registered registered;
+} given;
+
+/* The name of a function; where the baseline is counted, its own. */
+#define NAME(function) TEXT(function)
+#define TEXT(name) #name
+
+typedef int64_t call(void);
+
+/* Callgrind counts in here, and writes down what it has counted when this returns. */
+static int64_t counted(call *f)
+{
+    return f();
+}
+
+static void count(const char *export, const char *input, call *f, int64_t wanted)
+{
+    int64_t answer = counted(f);
+    if (answer != wanted) {
+        fprintf(stderr, "counts: %s %s: %" PRId64 " and not %" PRId64 "\n", export, input, answer, wanted);
+        exit(1);
+    }
+    printf("%s %s\n", export, input);
+}
+
+/* The name of an input with its byte count. */
+static const char *named(const char *format, size_t n)
+{
+    static char name[64];
+    snprintf(name, sizeof name, format, n);
+    return name;
+}
+
+static int64_t crc16(void)
+{
+    return dxl_crc16(0, lent.line, given.n);
+}
+
+static int64_t crc16_small(void)
+{
+    return dxl_test_crc16_small(0, lent.line, given.n);
+}
+
+static int64_t crc16_fold(void)
+{
+    return dxl_test_crc16_fold(0, lent.line, given.n);
+}
+
+/* Byte 4 of so many has changed. */
+static int64_t crc16_flipped(void)
+{
+    static const uint8_t flips[1] = {0x10};
+    return dxl_crc16_flipped(given.crc, flips, sizeof flips, given.n - 5);
+}
+
+static void count_checksums(void)
+{
+    static const size_t sizes[] = {0, 1, 14, 1024};
+    draw(lent.line, sizeof lent.line);
+    for (size_t i = 0; i < sizeof sizes / sizeof sizes[0]; i++) {
+        given.n = sizes[i];
+        count(NAME(dxl_crc16), named("%zu bytes", given.n), crc16, baseline_crc16(0, lent.line, given.n));
+        count(NAME(dxl_test_crc16_small), named("%zu bytes", given.n), crc16_small, baseline_crc16(0, lent.line, given.n));
+        count(NAME(dxl_test_crc16_fold), named("%zu bytes", given.n), crc16_fold, baseline_crc16(0, lent.line, given.n));
+    }
+    for (size_t i = 2; i < sizeof sizes / sizeof sizes[0]; i++) {
+        given.n = sizes[i];
+        given.crc = baseline_crc16(0, lent.line, given.n);
+        lent.line[4] ^= 0x10;
+        count(NAME(dxl_crc16_flipped), named("a byte of %zu", given.n), crc16_flipped, baseline_crc16(0, lent.line, given.n));
+    }
+}
+
+static int64_t encode(void)
+{
+    return dxl_encode(given.id, DXL_INST_STATUS, lent.params, given.n, lent.packet, given.room, 0);
+}
+
+static int64_t unstuff(void)
+{
+    return dxl_unstuff(lent.packet + 7, given.n, lent.body, given.room);
+}
+
+static void count_packets(void)
+{
+    static const uint8_t ping_status[] = {0x00, 0x06, 0x04, 0x26};
+    given.id = 1;
+    given.room = sizeof lent.packet;
+    given.n = sizeof ping_status;
+    memcpy(lent.params, ping_status, sizeof ping_status);
+    count(NAME(dxl_encode), "14 bytes", encode, 14);
+    given.n = 5;
+    given.room = sizeof lent.body;
+    count(NAME(dxl_unstuff), "5 bytes", unstuff, 5);
+
+    given.room = sizeof lent.packet;
+    given.n = LONGEST_PARAMS;
+    draw_longest(lent.params);
+    count(NAME(dxl_encode), "1031 bytes", encode, 1031);
+    given.n = DXL_MAX_BODY;
+    given.room = sizeof lent.body;
+    count(NAME(dxl_unstuff), "1022 bytes", unstuff, 1012);
+    memcpy(lent.packet + 7 + given.n - 3, "\xFF\xFF\xFD", 3);
+    count(NAME(dxl_unstuff), "refused at its end", unstuff, -DXL_BAD_STUFFING);
+
+    given.n = LONGEST_PARAMS;
+    given.room = 1030;
+    count(NAME(dxl_encode), "no room", encode, -DXL_NO_ROOM);
+    given.n = sizeof lent.params;
+    count(NAME(dxl_encode), "too long", encode, -DXL_TOO_LONG);
+    given.id = 255;
+    count(NAME(dxl_encode), "bad ID", encode, -DXL_BAD_ID);
+}
+
+/* Reads the line in chunks: how many events there are, or minus a refusal. */
+static int64_t read_line(int by_record)
+{
+    int64_t events = 0;
+    for (size_t at = 0; at < given.n; at += given.chunk) {
+        const uint8_t *chunk = lent.line + at;
+        size_t left = given.n - at < given.chunk ? given.n - at : given.chunk;
+        for (;;) {
+            struct dxl_step step = by_record
+                                       ? dxl_reader_feed(&lent.reader, chunk, left, lent.packet)
+                                       : dxl_feed(lent.reader.bytes, &lent.reader.count, chunk, left, lent.packet);
+            if (step.kind == DXL_BAD_READER)
+                return -DXL_BAD_READER;
+            if (step.kind == DXL_NO_EVENT)
+                break;
+            chunk += step.taken;
+            left -= step.taken;
+            events++;
+        }
+    }
+    return events;
+}
+
+static int64_t feed(void)
+{
+    return read_line(0);
+}
+
+static int64_t feed_record(void)
+{
+    return read_line(1);
+}
+
+static void count_line(const char *input, size_t n, size_t chunk, int64_t events)
+{
+    given.n = n;
+    given.chunk = chunk;
+    lent.reader.count = 0;
+    count(NAME(dxl_feed), input, feed, events);
+}
+
+/* By both feeding calls. */
+static void count_both(const char *input, size_t n, size_t chunk, int64_t events)
+{
+    count_line(input, n, chunk, events);
+    lent.reader.count = 0;
+    count(NAME(dxl_reader_feed), input, feed_record, events);
+}
+
+static void count_feeds(void)
+{
+    size_t n = (size_t)baseline_encode(1, DXL_INST_PING, lent.params, 0, lent.line, sizeof lent.line, 0);
+    count_both("Ping", n, n, 1);
+    count_both("Ping, chunks of 1", n, 1, 1);
+    lent.line[n - 1] ^= 1;
+    count_both("damaged Ping", n, n, 1);
+    lent.reader.count = DXL_MAX_HELD + 1;
+    count(NAME(dxl_feed), "refused", feed, -DXL_BAD_READER);
+    count(NAME(dxl_reader_feed), "refused", feed_record, -DXL_BAD_READER);
+
+    draw_longest(lent.params);
+    n = (size_t)baseline_encode(1, DXL_INST_STATUS, lent.params, LONGEST_PARAMS, lent.line, sizeof lent.line, 0);
+    count_both("longest packet", n, n, 1);
+    worst_call(lent.line);
+    count_both("worst call", WORST_CALL, WORST_CALL, 0);
+}
+
+/* Lines of 4,096 bytes or somewhat less, with so many events. */
+static void count_lines(void)
+{
+    static const int64_t events[LINES] = {
+        [PACKETS_OF_14] = 292, [MIXED_PACKETS] = 71, [WORST_NOISE] = 438, [RANDOM_HEADER_BYTES] = 3};
+    static const size_t chunks[] = {1, 64, 4096};
+    for (size_t i = 0; i < LINES; i++) {
+        size_t n = lines[i].fill(lent.line, sizeof lent.line);
+        for (size_t j = 0; j < sizeof chunks / sizeof chunks[0]; j++) {
+            char input[64];
+            snprintf(input, sizeof input, "%s, chunks of %zu", lines[i].name, chunks[j]);
+            count_line(input, n, chunks[j], events[i]);
+        }
+    }
+}
+
+/* All events of a gap: how many there are, or minus a refusal. */
+static int64_t end_segment(int by_record)
+{
+    for (int64_t events = 0;; events++) {
+        struct dxl_step step = by_record ? dxl_reader_gap(&lent.reader, lent.packet)
+                                         : dxl_gap(lent.reader.bytes, &lent.reader.count, lent.packet);
+        if (step.kind == DXL_BAD_READER)
+            return -DXL_BAD_READER;
+        if (step.kind == DXL_NO_EVENT)
+            return events;
+    }
+}
+
+static int64_t gap(void)
+{
+    return end_segment(0);
+}
+
+static int64_t gap_record(void)
+{
+    return end_segment(1);
+}
+
+/* So many bytes of the line are held. */
+static void count_gap(const char *input, size_t held, int64_t events)
+{
+    memcpy(lent.reader.bytes, lent.line, DXL_MAX_HELD);
+    lent.reader.count = held;
+    count(NAME(dxl_gap), input, gap, events);
+    memcpy(lent.reader.bytes, lent.line, DXL_MAX_HELD);
+    lent.reader.count = held;
+    count(NAME(dxl_reader_gap), input, gap_record, events);
+}
+
+/* A header that promises the longest packet, and what may be held behind it; then the worst noise. */
+static void count_gaps(void)
+{
+    lines[WORST_NOISE].fill(lent.line, 7);
+    lines[PACKETS_OF_14].fill(lent.line + 7, DXL_MAX_HELD - 7);
+    count_gap("nothing held", 0, 0);
+    count_gap("a header held", 7, 0);
+    count_gap("73 packets held", 7 + 73 * 14, 73);
+    worst_call(lent.line + 7);
+    count_gap("worst call held", 7 + WORST_CALL, 0);
+    lines[WORST_NOISE].fill(lent.line, sizeof lent.line);
+    count_gap("worst noise held", DXL_MAX_HELD, 0);
+    count_gap("refused", DXL_MAX_HELD + 1, -DXL_BAD_READER);
+}
+
+typedef struct dxl_event finder(const uint8_t *segment, size_t n, size_t from);
+
+/* All events of the line as one segment: how many there are. */
+static int64_t events_of(finder *next)
+{
+    int64_t events = 0;
+    for (struct dxl_event event = next(lent.line, given.n, 0); event.kind != DXL_NO_EVENT; event = next(lent.line, given.n, event.next))
+        events++;
+    return events;
+}
+
+static int64_t next_events(void)
+{
+    return events_of(dxl_next_event);
+}
+
+static void count_segments(void)
+{
+    for (size_t i = 0; i < LINES; i++) {
+        given.n = lines[i].fill(lent.line, sizeof lent.line);
+        count(NAME(dxl_next_event), lines[i].name, next_events, events_of(baseline_next_event));
+    }
+    given.n = 0;
+    count(NAME(dxl_next_event), "no bytes", next_events, 0);
+}
+
+static int64_t fresh(void)
+{
+    return dxl_fresh(lent.table, given.n);
+}
+
+static int64_t measure(void)
+{
+    return dxl_measure(lent.table, given.n, -1, 1);
+}
+
+static void count_table(void)
+{
+    given.n = sizeof lent.table;
+    count(NAME(dxl_fresh), "136 bytes", fresh, 0);
+    count(NAME(dxl_measure), "136 bytes", measure, 0);
+    given.n = 1;
+    count(NAME(dxl_fresh), "refused", fresh, -DXL_NOT_A_TABLE);
+    count(NAME(dxl_measure), "refused", measure, -DXL_NOT_A_TABLE);
+}
+
+/* What the device answers, the status's error and the goal's lowest byte, in one number. */
+static int64_t joined(int64_t bytes, uint8_t error, uint8_t goal)
+{
+    return bytes * 65536 + error * 256 + goal;
+}
+
+static int64_t told(const struct dxl_answer *answer)
+{
+    return joined(answer->count, lent.reply[8], lent.table[DXL_REG_GOAL_POSITION]);
+}
+
+static int64_t device(void)
+{
+    struct dxl_answer answer = dxl_device(lent.table, sizeof lent.table, given.registered, given.kind, given.id, lent.params,
+                                          given.n, lent.reply, given.room);
+    return told(&answer);
+}
+
+static int64_t exchange(void)
+{
+    struct dxl_answer answer = dxl_exchange(lent.table, sizeof lent.table, given.registered, lent.packet, given.n, lent.body,
+                                            sizeof lent.body, lent.reply, given.room);
+    return told(&answer);
+}
+
+/* What is heard: an instruction with its parameters, and what comes of it on a fresh table. */
+struct heard {
+    const char *input;
+    uint8_t id, registered; /* registered: whether the goal 5 waits for Action */
+    const uint8_t *body;
+    size_t n;
+    int64_t bytes; /* of the status, or minus a refusal */
+    uint8_t error, goal;
+};
+
+#define BYTES(text) (const uint8_t *)text, sizeof text - 1
+
+static const struct heard heard[] = {
+    {"Ping", 1, 0, BYTES("\x01"), 14, 0, 0},
+    {"Ping to all", 254, 0, BYTES("\x01"), 14, 0, 0},
+    {"Read", 1, 0, BYTES("\x02\x84\x00\x04\x00"), 15, 0, 0},
+    {"Read refused", 1, 0, BYTES("\x02\x84\x00\x05\x00"), 11, DXL_ERROR_ACCESS, 0},
+    {"Write", 1, 0, BYTES("\x03\x74\x00\x05\x00\x00\x00"), 11, 0, 5},
+    {"Write of both limits", 1, 0, BYTES("\x03\x30\x00\xFF\x0E\x00\x00\x00\x00\x00\x00"), 11, 0, 0},
+    {"Write refused", 1, 0, BYTES("\x03\x74\x00\x05\x00\x00\x01"), 11, DXL_ERROR_DATA_RANGE, 0},
+    {"Reg Write", 1, 0, BYTES("\x04\x74\x00\x05\x00\x00\x00"), 11, 0, 0},
+    {"Action", 1, 1, BYTES("\x05"), 11, 0, 5},
+    {"Action refused", 1, 0, BYTES("\x05"), 11, DXL_ERROR_INSTRUCTION, 0},
+    {"Factory Reset", 1, 0, BYTES("\x06\x02"), 11, 0, 0},
+    {"Factory Reset refused", 1, 0, BYTES("\x06\x05"), 11, DXL_ERROR_DATA_RANGE, 0},
+    {"Reboot", 1, 1, BYTES("\x08"), 11, 0, 0},
+    {"Sync Read of 3", 254, 0, BYTES("\x82\x84\x00\x04\x00\x02\x03\x01"), 15, 0, 0},
+    {"Sync Write of 3", 254, 0, BYTES("\x83\x74\x00\x04\x00\x02\x07\x00\x00\x00\x03\x08\x00\x00\x00\x01\x05\x00\x00\x00"), 0, 0, 5},
+    {"Bulk Read of 3", 254, 0, BYTES("\x92\x02\x84\x00\x04\x00\x03\x84\x00\x04\x00\x01\x84\x00\x04\x00"), 15, 0, 0},
+    {"Bulk Write of 3", 254, 0,
+     BYTES("\x93\x02\x74\x00\x04\x00\x07\x00\x00\x00\x03\x74\x00\x04\x00\x08\x00\x00\x00\x01\x74\x00\x04\x00\x05\x00\x00\x00"), 0, 0, 5},
+    {"undefined instruction", 1, 0, BYTES("\x99"), 11, DXL_ERROR_INSTRUCTION, 0},
+    {"status", 1, 0, BYTES("\x55\x00"), 0, 0, 0},
+    {"Ping to another", 2, 0, BYTES("\x01"), 0, 0, 0},
+};
+
+/* The device and its buffers as each call finds them. */
+static void begin(const struct heard *what)
+{
+    static const struct dxl_registered none, goal = {DXL_REG_GOAL_POSITION, 4, {5}};
+    dxl_fresh(lent.table, sizeof lent.table);
+    lent.table[DXL_REG_REGISTERED_INSTRUCTION] = what->registered;
+    memset(lent.reply, 0, sizeof lent.reply);
+    memcpy(lent.params, what->body, what->n);
+    given.n = what->n;
+    given.kind = DXL_PACKET;
+    given.id = what->id;
+    given.registered = what->registered ? goal : none;
+    given.room = DXL_MIN_REPLY;
+}
+
+/* The instruction by itself, and as a packet. */
+static void count_heard(const struct heard *what)
+{
+    int64_t wanted = joined(what->bytes, what->error, what->goal);
+    begin(what);
+    count(NAME(dxl_device), what->input, device, wanted);
+    begin(what);
+    given.n = (size_t)baseline_encode(what->id, what->body[0], what->body + 1, what->n - 1, lent.packet, sizeof lent.packet, 0);
+    count(NAME(dxl_exchange), what->input, exchange, wanted);
+}
+
+/* The longest lists, with our ID last: as many goals as a packet holds, and all IDs. */
+static void count_lists(void)
+{
+    enum { GOALS = 203, IDS = 253 };
+    static uint8_t goals[5 + GOALS * 5] = {DXL_INST_SYNC_WRITE, DXL_REG_GOAL_POSITION, 0, 4, 0};
+    static uint8_t ids[5 + IDS] = {DXL_INST_SYNC_READ, DXL_REG_PRESENT_POSITION, 0, 4, 0};
+    static const struct heard lists[] = {
+        {"Sync Write of 203", 254, 0, goals, sizeof goals, 0, 0, 5},
+        {"Sync Read of 253", 254, 0, ids, sizeof ids, 15, 0, 0},
+    };
+    for (size_t i = 0; i < GOALS; i++) {
+        goals[5 + i * 5] = (uint8_t)(GOALS - i);
+        goals[5 + i * 5 + 1] = i + 1 < GOALS ? 7 : 5;
+    }
+    for (size_t i = 0; i < IDS; i++)
+        ids[5 + i] = (uint8_t)((IDS - i) % IDS);
+    count_heard(&lists[0]);
+    count_heard(&lists[1]);
+}
+
+/* What goes wrong before an instruction is looked at. */
+static void count_faults(void)
+{
+    const struct heard *ping = &heard[0];
+    begin(ping);
+    given.kind = DXL_BAD_CHECKSUM;
+    count(NAME(dxl_device), "bad checksum", device, joined(11, DXL_ERROR_CHECKSUM, 0));
+    begin(ping);
+    given.room = DXL_MIN_REPLY - 1;
+    count(NAME(dxl_device), "refused", device, joined(-DXL_SHORT_REPLY, 0, 0));
+
+    given.n = (size_t)baseline_encode(1, DXL_INST_PING, lent.params, 0, lent.packet, sizeof lent.packet, 0);
+    count(NAME(dxl_exchange), "refused", exchange, joined(-DXL_SHORT_REPLY, 0, 0));
+    begin(ping);
+    lent.packet[given.n - 1] ^= 1;
+    count(NAME(dxl_exchange), "bad checksum", exchange, 0);
+}
+
+int main(void)
+{
+    count_checksums();
+    count_packets();
+    count_feeds();
+    count_lines();
+    count_gaps();
+    count_segments();
+    count_table();
+    for (size_t i = 0; i < sizeof heard / sizeof heard[0]; i++)
+        count_heard(&heard[i]);
+    count_lists();
+    count_faults();
+    return 0;
+}

@@ -15,8 +15,8 @@ use Rattle.reading.specs.Progress.{Settles}
 use Rattle.stuffing.specs.Stuffing.{wellStuffed}
 use Rattle.packet_front.specs.Front.{goodId, idOf}
 use Rattle.packet.specs.Packet.{bodyOf, checksumRight, WellFormed}
-use Rattle.packet_front.specs.Begun.{frontAgrees, lengthAgrees, sizeOf, complete, lacks, begunAs, settledAs, settledBy}
-use Rattle.packet.specs.Verdict.{ruling, verdict, protocol2}
+use Rattle.packet_front.specs.Begun.{frontAgrees, lengthAgrees, sizeOf, complete, lacks, begunAs}
+use Rattle.packet.specs.Verdict.{ruling, verdict, protocol2, settledAs, settledBy}
 use Rattle.packet_front.proofs.Lists.{four-taken}
 use Rattle.packet_front.proofs.Tests.{both, length-good, incomplete-early, incomplete, completes, has-field, has-all, lacks-early, lacks-late}
 use Rattle.packet.proofs.Rulings.{disagrees, waits, whole}

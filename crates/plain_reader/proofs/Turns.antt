@@ -1,17 +1,19 @@
 -- One turn of the walk: an event stands at the offset, or it is passed by one byte.
 use mathlib.Core.Path.{_≡_, refl, sym, ap, subst, _∙_}
 use mathlib.Core.List.{List, [], _∷_}
+use mathlib.Core.Logic.{inl, inr}
 use Prim.Native.Nat.{ℕ, zero, suc, _+_, _-_, _≤_, _<_}
 use native.Mathlib.Omega.{arith}
+use native.Mathlib.Decide.{decLt}
 use lib.ListN.{length, take, drop, getD, length-drop, drop-of-length-le}
 use lib.Seq.{length-take-le, getD-take, getD-drop, drop-drop}
-use Rattle.reading.specs.Rules.{Verdict, isPacket, isBadChecksum, isWaiting, isNothing}
+use Rattle.reading.specs.Rules.{Verdict, Undecided, isPacket, isBadChecksum, isWaiting, isNothing}
 use Rattle.reading.specs.Reading.{closed, atOffset, readFrom}
 use Rattle.reading.proofs.Offsets.{step, nil}
 use Rattle.packet.specs.Verdict.{protocol2, answerFor, wholeAnswer}
 use Rattle.packet.specs.declared.Judgement.{Judgement}
 use Rattle.packet.specs.declared.Judgement.the-variants.{Packet as Judgement·Packet, BadChecksum as Judgement·BadChecksum, Waiting, Nothing as Judgement·Nothing}
-use Rattle.packet.proofs.Laws.{laws}
+use Rattle.packet.proofs.Laws.{laws, undecided}
 use Rattle.packet.proofs.Looks.{look-nothing, look-waiting, look-whole, none-before-ff, begun-at, whole-fits, whole-at}
 use Rattle.packet_front.specs.Begun.{begunBy, beforeFF}
 use Rattle.packet_front.specs.declared.Begun.{Begun}
@@ -81,6 +83,19 @@ passes s p (suc k) n h =
 pub next-start : (s : List ℕ) (p r : ℕ) → r ≡ p + beforeFF (drop p s) → nextEvent s p ≡ nextEvent s r
 next-start s p r e =
     passes s p (beforeFF (drop p s)) (λ q h. none-before-ff (drop p s) q h .0) (before-fits (drop p s)) ∙ ap (nextEvent s) (sym e)
+
+-- fewer bytes than the shortest packet has are left
+pub next-few : (s : List ℕ) (n p : ℕ) → length s ≤ p + n → n < 10 → nextEvent s p ≡ Nothing
+next-few s zero p h l = next-end s p (omega arith)
+next-few s (suc n) p h l = by (decLt p (length s)) (next-few s n (p + 1) (omega arith) (omega arith))
+  where
+    passed : p < length s → Undecided (protocol2 .verdict (drop p s)) → nextEvent s (p + 1) ≡ Nothing → nextEvent s p ≡ Nothing
+    passed i (inl w) later = here s p i isWaiting w ∙ on s p i ∙ later
+    passed i (inr w) later = here s p i isNothing w ∙ on s p i ∙ later
+
+    by : Dec (p < length s) → nextEvent s (p + 1) ≡ Nothing → nextEvent s p ≡ Nothing
+    by (yes i) later = passed i (undecided (drop p s) (simp length-drop (omega arith))) later
+    by (no i) later = next-end s p (omega arith)
 
 -- what the look at offset p, and the judgement of the bytes that are all there, come to
 module _ (s : List ℕ) (p : ℕ) (h : p < length s) (b : Begun) (e : b ≡ begunBy (take (length s - p) (drop p s))) where

@@ -22,12 +22,16 @@ pub enum Next {
 }
 
 // The next event at the offset `from` or behind it. At each offset stands a packet, or a bad checksum, or it is passed by one byte;
-// so is one that waits for more bytes, since none follow a whole segment. Before the next FF every offset is passed. [R1-R5]
+// so is one that waits for more bytes, since none follow a whole segment. Every offset before the next FF is passed, and the last
+// nine, where no packet has room. [R1-R5]
 pub fn next_event(segment: &[u8], from: usize) -> Next
     ensures { λ r. ⌜ r ≡ nextEvent (now (segment .entry)) from ⌝ }
 {
     let mut offset = packet_front::next_ff(segment, from);
     while offset < segment.len() {
+        if segment.len() - offset < 10 {
+            return Next::Nothing;
+        }
         if let Begun::Whole(size) = packet_front::look(&segment[offset..]) {
             match packet::judge_whole(&segment[offset..offset + size]) {
                 Judgement::Packet(count) => {

@@ -1,15 +1,15 @@
 -- One turn of the scan: the offset is passed, or the first event or the waiting offset has been found.
-use mathlib.Core.Path.{_≡_, ap, _∙_}
+use mathlib.Core.Path.{_≡_, sym, ap, _∙_}
 use mathlib.Core.List.{List, []}
 use Prim.Native.Nat.{ℕ, _+_, _≤_, _<_}
 use native.Mathlib.Omega.{arith}
 use lib.ListN.{length, take, drop, length-drop, drop-of-length-le}
-use lib.Seq.{drop-drop}
-use Rattle.reading.specs.Rules.{Rules, Laws, isPacket, isBadChecksum, isWaiting, isNothing}
+use lib.Seq.{drop-drop, drop-length}
+use Rattle.reading.specs.Rules.{Rules, Laws, Undecided, isPacket, isBadChecksum, isWaiting, isNothing}
 use Rattle.reading.specs.Rules.{Verdict}
 use Rattle.reading.specs.Reading.{Mode, open′, closed, packet, badChecksum}
-use Rattle.reading.specs.Calls.{firstAt, first}
-use Rattle.reading.proofs.Progress.{first-at, first-none, waiting-patient, packet-short}
+use Rattle.reading.specs.Calls.{silent, firstAt, first}
+use Rattle.reading.proofs.Progress.{first-at, first-none, first-few, waiting-patient, packet-short}
 use Rattle.reading.proofs.Ahead.{NoneBegins, first-past}
 use Rattle.reading.specs.Progress.{Patient}
 use Rattle.windows.specs.Scan.{Decides, Waits}
@@ -72,3 +72,13 @@ module _ (R : Rules) (settled : List ℕ → ℕ) (s : List ℕ) (at k : ℕ)
     (n : (q : ℕ) → q < k → NoneBegins R settled (drop q (drop at s))) where
   pub scan-none : (m : Mode) → k ≤ length (drop at s) → first R m (drop at s) ≡ first R m (drop (at + k) s)
   scan-none m h = first-past R m (drop at s) k (λ q i. n q i .0) h ∙ ap (λ (l : List ℕ). first R m l) (drop-drop k at s)
+
+-- a closed segment of which fewer bytes are left than decide an event
+module _ (R : Rules) (s : List ℕ) (at n : ℕ) (q : (u : List ℕ) → length u < n → Undecided (R .verdict u)) where
+  pub scan-few : first R closed s ≡ first R closed (drop at s) → length (drop at s) < n → Waits R closed s 0 (length s)
+  scan-few inv h =
+      record {
+        begins = omega arith;
+        fits = omega arith;
+        first-is = inv ∙ first-few R n q (drop at s) h ∙ ap silent (sym (drop-length s));
+      }

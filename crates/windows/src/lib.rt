@@ -96,12 +96,16 @@ fn scan(s: &[u8], from: usize) -> Live
     }
 }
 
-// The first event of a closed segment, or that it has none: what waits is passed like what says nothing. [K4]
+// The first event of a closed segment, or that it has none: what waits is passed like what says nothing, and fewer bytes than the
+// shortest packet has are left alone. [K4]
 pub fn scan_closed(segment: &[u8]) -> Scanned
     ensures { λ r. ⌜ Seen protocol2 closed (now (segment .entry)) 0 r ⌝ }
 {
     let mut at = packet_front::next_ff(segment, 0);
     while at < segment.len() {
+        if segment.len() - at < 10 {
+            return Scanned::Waiting { at: segment.len() };
+        }
         if let Begun::Whole(size) = packet_front::look(&segment[at..]) {
             match packet::judge_whole(&segment[at..at + size]) {
                 Judgement::Packet(count) => return Scanned::Packet { at, count },

@@ -8,7 +8,7 @@ use lib.ListN.{length}
 use Rattle.plain_reader.specs.Next.{nextEvent}
 use Rattle.packet.specs.declared.Judgement.{Judgement}
 use Rattle.packet.specs.declared.Judgement.the-variants.{Packet}
-use Rattle.plain_reader.proofs.Turns.{Turn, fits, judged-turn, look-turn, passed-turn, next-start, next-end}
+use Rattle.plain_reader.proofs.Turns.{Turn, fits, judged-turn, look-turn, passed-turn, next-start, next-few, next-end}
 use borrow.Author.Needs.{needs}
 use Rattle.plain_reader.proofs.next_event.Statement.{statement}
 use Rattle.plain_reader.proofs.next_event.Tie as tie
@@ -24,6 +24,15 @@ next-ff-requires c κs = search needs
 
 loop-holds : tie.Need-loop-holds Inv-loop μ-loop
 loop-holds c = next-start _ _ _ (c .next-ff .ensures)
+
+sub-if1 : tie.Need-sub-if1 Inv-loop μ-loop
+sub-if1 c = search needs
+
+returns : tie.Need-returns Inv-loop μ-loop
+returns c =
+    let p = c .before .before in
+    let s = p .before .before .before .args .segment .now in
+    sym (p .loop .inv ∙ next-few s (length s - p .loop .offset) (p .loop .offset) (omega arith) (c .if1 .taken))
 
 sub-look : tie.Need-sub-look Inv-loop μ-loop
 sub-look c = search needs
@@ -43,16 +52,16 @@ enum-known-size c = search needs
 -- the offset, and the segment
 module _ (l : tie.After-look Inv-loop μ-loop) where
   abbrev s : List ℕ
-  s = l .before .before .before .before .before .before .args .segment .now
+  s = l .before .before .before .before .before .before .before .args .segment .now
 
   abbrev here : ℕ
-  here = l .before .before .before .loop .offset
+  here = l .before .before .before .before .loop .offset
 
 -- all bytes of a packet are there
 whole : (z : tie.After-size Inv-loop μ-loop) → here (z .before .before) + z .size .given .0 .0 ≤ length (s (z .before .before))
 whole z =
     let l = z .before .before in
-    fits (s l) (here l) (l .before .before .loop-test .taken) (l .look .result) (l .look .ensures) _ (z .size .given .1)
+    fits (s l) (here l) (l .before .before .before .loop-test .taken) (l .look .result) (l .look .ensures) _ (z .size .given .1)
 
 add-judge-whole : tie.Need-add-judge-whole Inv-loop μ-loop
 add-judge-whole c = omega (arith, whole (c .before))
@@ -82,37 +91,37 @@ module _ (j : tie.After-judge-whole Inv-loop μ-loop) where
 
   comes-to : (r : Judgement) → j .judge-whole .result ≡ r → Turn (s l) (here l) r
   comes-to r e =
-      judged-turn (s l) (here l) (l .before .before .loop-test .taken) (l .look .result) (l .look .ensures) (z .size .given .0 .0)
+      judged-turn (s l) (here l) (l .before .before .before .loop-test .taken) (l .look .result) (l .look .ensures) (z .size .given .0 .0)
       (z .size .given .1) (j .judge-whole .result) r (j .judge-whole .ensures) e
 
 abbrev found : (k : tie.After-known-told2 Inv-loop μ-loop)
     → Turn (s (l (k .before .before .before))) (here (l (k .before .before .before))) (Packet (k .before .count .given .0 .0))
 found k = comes-to (k .before .before .before) _ (k .before .count .given .1)
 
-add-t19 : tie.Need-add-t19 Inv-loop μ-loop
-add-t19 c = omega (arith, found c .1)
-
 add-t20 : tie.Need-add-t20 Inv-loop μ-loop
-add-t20 c = omega (arith, found c .0)
+add-t20 c = omega (arith, found c .1)
 
-shared-slice-read-t22 : tie.Need-shared-slice-read-t22 Inv-loop μ-loop
-shared-slice-read-t22 c = found (c .before) .0
+add-t21 : tie.Need-add-t21 Inv-loop μ-loop
+add-t21 c = omega (arith, found c .0)
 
-returns : tie.Need-returns Inv-loop μ-loop
-returns c =
+shared-slice-read-t23 : tie.Need-shared-slice-read-t23 Inv-loop μ-loop
+shared-slice-read-t23 c = found (c .before) .0
+
+returns-2 : tie.Need-returns-2 Inv-loop μ-loop
+returns-2 c =
     let l = l (c .before .before .before .before) in
-    sym (l .before .before .before .loop .inv ∙ found (c .before) .2)
+    sym (l .before .before .before .before .loop .inv ∙ found (c .before) .2)
 
 enum-known-id : tie.Need-enum-known-id Inv-loop μ-loop
 enum-known-id c = search needs
 
-add-t23 : tie.Need-add-t23 Inv-loop μ-loop
-add-t23 c = search needs
+add-t24 : tie.Need-add-t24 Inv-loop μ-loop
+add-t24 c = search needs
 
-returns-2 : tie.Need-returns-2 Inv-loop μ-loop
-returns-2 c =
+returns-3 : tie.Need-returns-3 Inv-loop μ-loop
+returns-3 c =
     let j = c .before .before .before in
-    sym (l j .before .before .before .loop .inv ∙ comes-to j _ (c .before .id .given .1))
+    sym (l j .before .before .before .before .loop .inv ∙ comes-to j _ (c .before .id .given .1))
 
 add-next-ff : tie.Need-add-next-ff Inv-loop μ-loop
 add-next-ff c = search needs
@@ -127,7 +136,7 @@ loop-less c = search needs
 passed : (k : tie.At-match-came Inv-loop μ-loop) → nextEvent (s (k .before)) (here (k .before)) ≡ nextEvent (s (k .before)) (here (k .before) + 1)
 passed k =
     let a = k .before in
-    let t = a .before .before .loop-test .taken in
+    let t = a .before .before .before .loop-test .taken in
     ⊎-elim
     (λ w.
     passed-turn (s a) (here a) t (a .look .result) (a .look .ensures) (w .4 .result)
@@ -142,10 +151,10 @@ passed k =
 loop-again : tie.Need-loop-again Inv-loop μ-loop
 loop-again c =
     let k = c .before in
-    k .before .before .before .before .loop .inv ∙ passed k ∙ next-start _ _ _ (c .next-ff2 .ensures)
+    k .before .before .before .before .before .loop .inv ∙ passed k ∙ next-start _ _ _ (c .next-ff2 .ensures)
 
-returns-3 : tie.Need-returns-3 Inv-loop μ-loop
-returns-3 c = sym (c .before .loop .inv ∙ next-end _ _ (c .loop-test .left))
+returns-4 : tie.Need-returns-4 Inv-loop μ-loop
+returns-4 c = sym (c .before .loop .inv ∙ next-end _ _ (c .loop-test .left))
 
 pub next-event-spec : {M : Type 1} → statement M
 next-event-spec =
@@ -155,6 +164,8 @@ next-event-spec =
     μ-loop
     next-ff-requires
     loop-holds
+    sub-if1
+    returns
     sub-look
     part-look-start
     part-look-end
@@ -166,15 +177,15 @@ next-event-spec =
     part-judge-whole-end
     judge-whole-requires
     enum-known-count
-    add-t19
     add-t20
-    shared-slice-read-t22
-    returns
-    enum-known-id
-    add-t23
+    add-t21
+    shared-slice-read-t23
     returns-2
+    enum-known-id
+    add-t24
+    returns-3
     add-next-ff
     next-ff-requires-2
     loop-less
     loop-again
-    returns-3)
+    returns-4)

@@ -1,4 +1,4 @@
-use mathlib.Core.Path.{_≡_, refl, sym, ap, _∙_}
+use mathlib.Core.Path.{_≡_, refl, _∙_}
 use mathlib.Core.List.{List, [], _∷_}
 use mathlib.Core.Logic.{⊎-elim}
 use Prim.Native.Nat.{ℕ, _+_, _-_, _≤_}
@@ -9,7 +9,7 @@ use Rattle.reading.specs.Rules.{isNothing}
 use Rattle.reading.specs.Reading.{open′}
 use Rattle.reading.specs.Calls.{first}
 use Rattle.packet_front.specs.declared.Begun.{Begun}
-use Rattle.packet_front.specs.declared.Begun.the-variants.{Nothing, Waiting, Whole}
+use Rattle.packet_front.specs.declared.Begun.the-variants.{Nothing}
 use Rattle.packet.specs.Verdict.{protocol2, settledBy}
 use Rattle.packet.proofs.Laws.{laws}
 use Rattle.packet.specs.declared.Judgement.{Judgement}

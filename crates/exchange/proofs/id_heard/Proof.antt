@@ -41,7 +41,7 @@ returns-2 c =
 lent : (k : tie.Else1) → k .before .before .n .given .0 .0 ≡ length (k .before .before .before .before .before .before .args .packet .now)
 lent k = omega (arith, k .if1 .left)
 
-long : (k : tie.Else1) → 9 ≤ length (k .before .before .before .before .before .before .args .packet .now)
+long : (k : tie.Else1) → 10 ≤ length (k .before .before .before .before .before .before .args .packet .now)
 long k = begun-long _ _ (begun (k .before)) (lent k)
 
 sub-end : tie.Need-sub-end

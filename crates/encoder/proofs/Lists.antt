@@ -1,10 +1,11 @@
 -- Laws on lists that only this crate needs.
 use mathlib.Core.Path.{_≡_, refl, ap}
 use mathlib.Core.List.{List, [], _∷_, _++_}
-use Prim.Native.Nat.{ℕ, zero, suc, _+_, _≤_}
+use Prim.Native.Nat.{ℕ, zero, suc, _+_, _-_, _≤_}
 use native.Mathlib.Omega.{arith}
 use lib.ListN.{length, take, drop, set, getD}
-use Rattle.lists.specs.Write.{overwritten}
+use lib.Seq.{take-all}
+use Rattle.lists.specs.Write.{overwritten, placed}
 
 -- the first seven bytes stored one by one
 pub set-seven : (o : List ℕ) (a b c d e f g : ℕ) → 7 ≤ length o
@@ -17,6 +18,12 @@ set-seven (x0 ∷ x1 ∷ x2 ∷ x3 ∷ []) a b c d e f g h = absurd (omega arith
 set-seven (x0 ∷ x1 ∷ x2 ∷ x3 ∷ x4 ∷ []) a b c d e f g h = absurd (omega arith)
 set-seven (x0 ∷ x1 ∷ x2 ∷ x3 ∷ x4 ∷ x5 ∷ []) a b c d e f g h = absurd (omega arith)
 set-seven (x0 ∷ x1 ∷ x2 ∷ x3 ∷ x4 ∷ x5 ∷ x6 ∷ o) a b c d e f g h = refl
+
+-- the first byte stored, and others copied after it
+pub first-placed : (o : List ℕ) (a : ℕ) (s : List ℕ) → suc (length s) ≤ length o
+    → placed (set o 0 a) 1 (take (length (set o 0 a) - 1) s) ≡ overwritten o (a ∷ s)
+first-placed [] a s h = absurd (omega arith)
+first-placed (x ∷ o) a s h = ap (λ (l : List ℕ). a ∷ overwritten o l) (take-all (suc (length o) - 1) s (omega arith))
 
 -- two bytes stored after the first i
 pub set-two : (o : List ℕ) (i a b : ℕ) → i + 2 ≤ length o → set (set o i a) (suc i) b ≡ overwritten o (take i o ++ a ∷ b ∷ [])

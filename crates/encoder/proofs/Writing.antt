@@ -3,9 +3,8 @@ use mathlib.Core.Path.{_≡_, ap, _∙_}
 use mathlib.Core.List.{List, _++_}
 use Prim.Native.Nat.{ℕ, _+_, _≤_}
 use native.Mathlib.Omega.{arith}
-use lib.ListN.{length, take, drop, length-append, length-drop}
-use lib.Seq.{take-all}
-use Rattle.lists.specs.Write.{overwritten}
+use lib.ListN.{length, take, length-append}
+use Rattle.lists.specs.Write.{overwritten, placed}
 use Rattle.lists.proofs.Write.{overwritten-take, overwritten-parts, overwritten-more}
 use Rattle.stuffing.specs.Stuffing.{stuff}
 use Rattle.packet_front.specs.Front.{header}
@@ -17,13 +16,11 @@ packet-length id body = simp length-append (omega arith)
 
 -- o₀ the buffer, o₁ with the front written, o₂ with the stuffed body after it
 module _ (id n : ℕ) (body o₀ o₁ o₂ : List ℕ) (is : n ≡ length body) (room : n + 9 ≤ length o₀)
-    (e₁ : o₁ ≡ overwritten o₀ (front id n)) (e₂ : o₂ ≡ take 7 o₁ ++ overwritten (drop 7 o₁) (take (length (drop 7 o₁)) body)) where
+    (e₁ : o₁ ≡ overwritten o₀ (front id n)) (e₂ : o₂ ≡ placed o₁ 7 body) where
   fronted : o₂ ≡ overwritten o₀ (front id n ++ body)
   fronted =
       e₂
-      ∙ ap (λ (o : List ℕ). take 7 o ++ overwritten (drop 7 o) (take (length (drop 7 o)) body)) e₁
-      ∙ ap (λ (s : List ℕ). front id n ++ overwritten (drop 7 o₀) s)
-      (take-all (length (drop 7 o₀)) body (simp length-drop (omega arith)))
+      ∙ ap (λ (o : List ℕ). placed o 7 body) e₁
       ∙ overwritten-parts o₀ (front id n) body
 
   pub packet-headed : take 4 o₂ ≡ header

@@ -42,13 +42,26 @@ fn write_checksum(out: &mut [u8], end: usize)
     out[end + 1] = (crc / 256 % 256) as u8;
 }
 
+// Writes the stuffed body of n bytes to the start of out, which has room for it. Where nothing is added, it is copied.
+fn write_body(instruction: u8, params: &[u8], n: usize, out: &mut [u8])
+    requires { ⌜ (n ≡ length (stuff (instruction ∷ now params))) × (n ≤ length (now out)) ⌝ }
+    ensures { λ _. ⌜ now (out .exit) ≡ overwritten (now (out .entry)) (stuff (instruction ∷ now (params .entry))) ⌝ }
+{
+    if n == params.len() + 1 {
+        out[0] = instruction;
+        buffers::place(out, 1, params);
+        return;
+    }
+    stuffing_writer::write_stuffed(instruction, params, out);
+}
+
 // Writes the packet to the start of out, which has room for it; n is the stuffed body's byte count.
 fn write_packet(id: u8, instruction: u8, params: &[u8], n: usize, out: &mut [u8])
     requires { ⌜ (n ≡ length (stuff (instruction ∷ now params))) × (n ≤ 1022) × (n + 9 ≤ length (now out)) ⌝ }
     ensures { λ _. ⌜ now (out .exit) ≡ overwritten (now (out .entry)) (packetOf id (instruction ∷ now (params .entry))) ⌝ }
 {
     write_front(id, n, out);
-    stuffing_writer::write_stuffed(instruction, params, &mut out[7..]);
+    write_body(instruction, params, n, &mut out[7..]);
     write_checksum(out, n + 7);
 }
 

@@ -25,11 +25,10 @@ ghost use Rattle.resets.specs.Resets.{resetRom, keeping};
 ghost use Rattle.instructions.specs.Registered.{dropped as Registered·dropped, registering as Registered·registering};
 ghost use Rattle.instructions.specs.Instructions.{errorOf, regWrite, factoryReset};
 ghost use Rattle.instructions.specs.Instructions.{ping as Instructions·ping};
-ghost use Rattle.instructions.specs.Instructions.{read as Instructions·read};
 ghost use Rattle.instructions.specs.Instructions.{write as Instructions·write};
 ghost use Rattle.instructions.specs.Instructions.{action as Instructions·action};
 ghost use Rattle.instructions.specs.Instructions.{reboot as Instructions·reboot};
-ghost use Rattle.instructions.specs.Results.{doneWith, doneOf, sized};
+ghost use Rattle.instructions.specs.Results.{doneWith, doneBy, doneOf, sized, HasRead};
 
 // What stands in the place of an error number where the table has another size.
 pub const NOT_A_TABLE: u8 = 21;
@@ -58,6 +57,13 @@ pub struct Done {
     pub count: usize,
     pub bytes: [u8; MAX_DATA],
     pub registered: RegisteredWrite,
+}
+
+// The same of a read.
+pub struct Data {
+    pub error: u8,
+    pub count: usize,
+    pub bytes: [u8; MAX_DATA],
 }
 
 // None is registered.
@@ -108,18 +114,34 @@ fn error_of(outcome: Outcome) -> u8
     }
 }
 
-pub fn read(table: &[u8], registered: RegisteredWrite, address: u16, count: u16) -> Done
-    ensures { λ r. ⌜ r ≡ doneOf (sized (now (table .entry)) registered (Instructions·read (now (table .entry)) registered address count)) ⌝ }
+// The registered write stays. It does not go through here, where it would be copied twice: `keeping` puts it to what was read.
+pub fn read(table: &[u8], address: u16, count: u16) -> Data
+    ensures { λ r. ⌜ HasRead r (now (table .entry)) address count ⌝ }
 {
     let reading = control_table::read(table, address, count);
     let outcome = reading.outcome;
     if !table_rules::is_done(outcome) {
-        return without_data(error_of(outcome), registered);
+        return Data {
+            error: error_of(outcome),
+            count: 0,
+            bytes: [0u8; MAX_DATA],
+        };
     }
     let bytes = reading.bytes;
-    Done {
+    Data {
         error: 0,
         count: count as usize,
+        bytes,
+    }
+}
+
+pub fn keeping(reading: Data, registered: RegisteredWrite) -> Done
+    ensures { λ r. ⌜ r ≡ doneBy reading registered ⌝ }
+{
+    let bytes = reading.bytes;
+    Done {
+        error: reading.error,
+        count: reading.count,
         bytes,
         registered,
     }

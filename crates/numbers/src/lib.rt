@@ -158,10 +158,18 @@ pub fn next(answer: Next) -> EventNumbers
     }
 }
 
+// The registered write is moved field by field, as it was written a moment before: one load of what several stores have not yet
+// brought to memory would wait for them.
 pub fn response(answer: Response) -> DeviceNumbers
     ensures { λ r. ⌜ r ≡ deviceNumbers (repliedAnswer (answer .replied)) (answer .registered) ⌝ }
 {
-    let registered = answer.registered;
+    let w = answer.registered;
+    let bytes = w.bytes;
+    let registered = RegisteredWrite {
+        address: w.address,
+        count: w.count,
+        bytes,
+    };
     let replied = answer.replied;
     match replied {
         Replied::Sent(n, slot) => DeviceNumbers {

@@ -3,7 +3,7 @@ use mathlib.Core.Path.{_≡_, refl, sym, ap, ap₂, subst, _∙_}
 use mathlib.Core.Bool.{Bool, true, false, _&&_}
 use mathlib.Core.List.{List, [], _++_}
 use mathlib.Core.Logic.{_⊎_, inl, inr}
-use Prim.Native.Nat.{ℕ, _+_, _-_, _≤_, _<_}
+use Prim.Native.Nat.{ℕ, _+_, _≤_, _<_}
 use native.Mathlib.Omega.{arith}
 use lib.Dec.{leb, ltb, eqb}
 use lib.ListN.{length, take, drop, getD, length-append, take-append-drop, List·getD-append}
@@ -15,8 +15,8 @@ use Rattle.reading.specs.Progress.{Settles}
 use Rattle.stuffing.specs.Stuffing.{wellStuffed}
 use Rattle.packet_front.specs.Front.{goodId, idOf}
 use Rattle.packet.specs.Packet.{bodyOf, checksumRight, WellFormed}
-use Rattle.packet_front.specs.Begun.{frontAgrees, lengthAgrees, sizeOf, complete, lacks, begunAs, settledAs, settledBy}
-use Rattle.packet.specs.Verdict.{ruling, verdict, protocol2}
+use Rattle.packet_front.specs.Begun.{frontAgrees, lengthAgrees, sizeOf, complete, lacks, begunAs}
+use Rattle.packet.specs.Verdict.{ruling, verdict, protocol2, settledAs, settledBy}
 use Rattle.packet_front.proofs.Lists.{four-taken}
 use Rattle.packet_front.proofs.Tests.{both, length-good, incomplete-early, incomplete, completes, has-field, has-all, lacks-early, lacks-late}
 use Rattle.packet.proofs.Rulings.{disagrees, waits, whole}
@@ -198,7 +198,7 @@ module _ (s : List ℕ) (e : verdict s ≡ isWaiting) where
       (λ h. let l = waits-late h in let m = waits-size h in rw (lacks-late s h) (omega arith))
 
 -- fewer bytes than the shortest packet has decide no event
-undecided : (u : List ℕ) → length u < 10 → Undecided (verdict u)
+pub undecided : (u : List ℕ) → length u < 10 → Undecided (verdict u)
 undecided u h = go (agrees u) (complete u) refl refl
   where
     go : (a c : Bool) → agrees u ≡ a → complete u ≡ c → Undecided (verdict u)

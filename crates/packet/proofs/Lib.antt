@@ -1,6 +1,7 @@
 pub mod Header
 mod Rulings
-mod Looks
+pub mod Looks
+pub mod Answers
 pub mod Sums
 pub mod Laws
 pub mod Begins

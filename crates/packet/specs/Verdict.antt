@@ -1,14 +1,18 @@
 -- The verdict of Protocol 2.0 on the bytes from an offset on, in an open segment, in the order of its tests.
-use mathlib.Core.Bool.{Bool, true, false, _&&_}
-use mathlib.Core.List.{List}
+use mathlib.Core.Bool.{Bool, true, false, cond, _&&_}
+use mathlib.Core.List.{List, _++_}
 use Prim.Native.Nat.{ℕ}
-use lib.ListN.{length, take}
+use lib.Dec.{ltb}
+use lib.ListN.{length, take, drop}
 use Rattle.reading.specs.Rules.{Rules}
 use Rattle.reading.specs.Rules.{isPacket, isBadChecksum, isWaiting, isNothing}
 use Rattle.reading.specs.Rules.{Verdict}
 use Rattle.stuffing.specs.Stuffing.{wellStuffed}
-use Rattle.packet_front.specs.Front.{idOf}
-use Rattle.packet_front.specs.Begun.{frontAgrees, lengthAgrees, sizeOf, complete, lacks}
+use Rattle.packet_front.specs.Front.{header, idOf}
+use Rattle.packet_front.specs.Begun.{frontAgrees, lengthAgrees, sizeOf, complete, lacks, begunBy}
+use Rattle.packet_front.specs.declared.Begun.{Begun}
+use Rattle.packet_front.specs.declared.Begun.the-variants.{Whole}
+use Rattle.packet_front.specs.declared.Begun.the-variants.{Nothing as Nothing·begun, Waiting as Waiting·begun}
 use Rattle.packet.specs.Packet.{bodyOf, checksumRight, WellFormed}
 use Rattle.packet.specs.declared.Judgement.{Judgement}
 use Rattle.packet.specs.declared.Judgement.the-variants.{Packet, BadChecksum, Waiting, Nothing}
@@ -38,6 +42,20 @@ answerFor (isBadChecksum id) k = BadChecksum id
 answerFor isWaiting k = Waiting k
 answerFor isNothing k = Nothing
 
--- the answer where agreement and completeness are known
+-- The answer on the bytes w where header, ID and length are known to be right, so that the header is not looked at. Fewer bytes
+-- than the shortest packet has are nothing. [K5 V4 V5]
 abbrev pub wholeAnswer : List ℕ → Judgement
-wholeAnswer w = answerFor (ruling true true (checksumRight w) (wellStuffed (bodyOf w)) (length w) (idOf w)) 0
+wholeAnswer w =
+    cond (ltb (length w) 10) Nothing
+    (answerFor (ruling true true (checksumRight (header ++ drop 4 w)) (wellStuffed (bodyOf w)) (length w) (idOf w)) 0)
+
+-- how many bytes checksum and stuffing are judged by: the packet's, where they are all there. 0 where no packet begins, which
+-- as many bytes as the shortest has show, or where some are missing.
+abbrev pub settledAs : Begun → ℕ
+settledAs Nothing·begun = 0
+settledAs (Waiting·begun k) = 0
+settledAs (Whole n) = n
+
+-- [V12]
+abbrev pub settledBy : List ℕ → ℕ
+settledBy s = settledAs (begunBy s)

@@ -4,8 +4,7 @@ use stuffing::Checked;
 use stuffing::Unstuffed;
 ghost use mathlib.Core.Path.{_≡_};
 ghost use mathlib.Core.List.{_++_};
-ghost use Prim.Native.Nat.{_≤_};
-ghost use lib.ListN.{length, take, drop};
+ghost use lib.ListN.{drop};
 ghost use Rattle.crc.specs.Crc.{crcFrom};
 ghost use Rattle.stuffing.specs.Answers.{unstuffedAnswer, removalAnswer, removalOut};
 ghost use Rattle.packet_front.specs.Front.{header};
@@ -53,12 +52,15 @@ pub fn checksum(rest: &[u8]) -> u16
     crc16::update(HEADER_SUM, rest)
 }
 
-// The verdict if all bytes of a packet are there and header, ID and length are right: the checksum first, then the stuffing.
-fn judge_whole(packet: &[u8]) -> Judgement
-    requires { ⌜ (9 ≤ length (now packet)) × (take 4 (now packet) ≡ header) ⌝ }
+// The verdict on all bytes of a packet whose header, ID and length are right: the checksum first, then the stuffing. Fewer than
+// the shortest packet has are nothing. [P7 P8 V4 V5]
+pub fn judge_whole(packet: &[u8]) -> Judgement
     ensures { λ r. ⌜ r ≡ wholeAnswer (now (packet .entry)) ⌝ }
 {
     let n = packet.len();
+    if n < 10 {
+        return Judgement::Nothing;
+    }
     let end = n - 2;
     let crc = checksum(&packet[4..end]);
     if (crc as usize) != packet_front::word(packet[end], packet[end + 1]) {

@@ -1,3 +1,4 @@
 pub mod Lists
 pub mod Agreement
 pub mod Tests
+pub mod Starts

@@ -1,7 +1,7 @@
 -- What header, ID and length field say of the bytes from an offset on, in an open segment.
 use mathlib.Core.Bool.{Bool, true, false, cond, _&&_, _||_}
-use mathlib.Core.List.{List}
-use Prim.Native.Nat.{ℕ, _+_, _-_}
+use mathlib.Core.List.{List, [], _∷_}
+use Prim.Native.Nat.{ℕ, suc, _+_, _-_}
 use lib.Dec.{leb, ltb, eqb}
 use lib.ListN.{length, getD}
 use Rattle.packet_front.specs.Front.{goodId, lengthOf}
@@ -43,13 +43,7 @@ begunAs true true k n = Whole n
 abbrev pub begunBy : List ℕ → Begun
 begunBy s = begunAs (frontAgrees s && lengthAgrees s) (complete s) (lacks s) (sizeOf s)
 
--- how many bytes checksum and stuffing are judged by: the packet's, where they are all there. 0 where no packet begins, which
--- as many bytes as the shortest has show, or where some are missing.
-abbrev pub settledAs : Begun → ℕ
-settledAs Nothing = 0
-settledAs (Waiting k) = 0
-settledAs (Whole n) = n
-
--- [V12]
-abbrev pub settledBy : List ℕ → ℕ
-settledBy s = settledAs (begunBy s)
+-- how many bytes stand before the first FF: a packet begins with it [P1 V8]
+unfoldable pub beforeFF : List ℕ → ℕ
+beforeFF [] = 0
+beforeFF (b ∷ s) = cond (eqb 0xFF b) 0 (suc (beforeFF s))

@@ -1,10 +1,11 @@
 // The front of a packet of Protocol 2.0: what header, ID and length field say of the bytes from an offset on.
 ghost use mathlib.Core.Path.{_≡_};
+ghost use Prim.Native.Nat.{_+_};
 ghost use lib.Dec.{eqb};
 ghost use lib.ListN.{drop};
 ghost use Rattle.packet_front.specs.Front.{goodId};
 ghost use Rattle.packet_front.specs.Front.{word as Front·word};
-ghost use Rattle.packet_front.specs.Begun.{soFar, frontAgrees, begunBy, settledBy};
+ghost use Rattle.packet_front.specs.Begun.{soFar, frontAgrees, begunBy, beforeFF};
 
 // The largest ID of a device, and the one that addresses all.
 pub const MAX_ID: u8 = 252;
@@ -70,7 +71,7 @@ fn front_agrees(s: &[u8]) -> bool
     id_agrees(s)
 }
 
-// What header, ID and length field say of the bytes from the slice's start on. [V8 V9 V11]
+// What header, ID and length field say of the bytes from the slice's start on. [V8 V9 V11 V12]
 pub fn look(s: &[u8]) -> Begun
     ensures { λ r. ⌜ r ≡ begunBy (now (s .entry)) ⌝ }
 {
@@ -95,17 +96,17 @@ pub fn look(s: &[u8]) -> Begun
     Begun::Whole(size)
 }
 
-// By how many bytes checksum and stuffing are judged at an offset: all bytes of the packet that header, ID and length announce, if
-// they are there; 0 if some are missing or no packet begins. [V12]
-pub fn settled(segment: &[u8], offset: usize) -> usize
-    ensures { λ r. ⌜ r ≡ settledBy (drop offset (now (segment .entry))) ⌝ }
+// The first FF at the offset or behind it; the end where there is none, and the offset itself where it is past the end. No packet
+// begins before. [V8]
+pub fn next_ff(segment: &[u8], from: usize) -> usize
+    ensures { λ r. ⌜ r ≡ from + beforeFF (drop from (now (segment .entry))) ⌝ }
 {
-    if segment.len() <= offset {
-        return 0;
+    let mut at = from;
+    while at < segment.len() {
+        if segment[at] == 0xFF {
+            return at;
+        }
+        at += 1;
     }
-    match look(&segment[offset..]) {
-        Begun::Nothing => 0,
-        Begun::Waiting(_) => 0,
-        Begun::Whole(size) => size,
-    }
+    at
 }

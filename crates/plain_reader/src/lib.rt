@@ -1,6 +1,7 @@
 // A plain reader: the next event of a whole segment, which lies in one slice, by the rule of reading and nothing else. It keeps no
 // bytes of its own.
 use packet::Judgement;
+use packet_front::Begun;
 ghost use mathlib.Core.Path.{_≡_};
 ghost use Rattle.plain_reader.specs.Next.{nextEvent};
 
@@ -21,32 +22,37 @@ pub enum Next {
 }
 
 // The next event at the offset `from` or behind it. At each offset stands a packet, or a bad checksum, or it is passed by one byte;
-// so is one that waits for more bytes, since none follow a whole segment. [R1-R5]
+// so is one that waits for more bytes, since none follow a whole segment. Every offset before the next FF is passed, and the last
+// nine, where no packet has room. [R1-R5]
 pub fn next_event(segment: &[u8], from: usize) -> Next
     ensures { λ r. ⌜ r ≡ nextEvent (now (segment .entry)) from ⌝ }
 {
-    let mut offset = from;
+    let mut offset = packet_front::next_ff(segment, from);
     while offset < segment.len() {
-        match packet::judge(segment, offset) {
-            Judgement::Packet(count) => {
-                return Next::Packet {
-                    offset,
-                    count,
-                    next: offset + count,
-                    id: segment[offset + 4],
-                };
-            }
-            Judgement::BadChecksum(id) => {
-                return Next::BadChecksum {
-                    offset,
-                    next: offset + 1,
-                    id,
-                };
-            }
-            Judgement::Waiting(_) => {}
-            Judgement::Nothing => {}
+        if segment.len() - offset < 10 {
+            return Next::Nothing;
         }
-        offset += 1;
+        if let Begun::Whole(size) = packet_front::look(&segment[offset..]) {
+            match packet::judge_whole(&segment[offset..offset + size]) {
+                Judgement::Packet(count) => {
+                    return Next::Packet {
+                        offset,
+                        count,
+                        next: offset + count,
+                        id: segment[offset + 4],
+                    };
+                }
+                Judgement::BadChecksum(id) => {
+                    return Next::BadChecksum {
+                        offset,
+                        next: offset + 1,
+                        id,
+                    };
+                }
+                _ => {}
+            }
+        }
+        offset = packet_front::next_ff(segment, offset + 1);
     }
     Next::Nothing
 }

@@ -124,13 +124,12 @@ fn heard_read(table: &[u8], registered: RegisteredWrite, all: bool, params: &[u8
     if params.len() != 4 {
         return nothing_done(registered, ERROR_DATA_LENGTH, all, LEVEL_READ);
     }
-    let done = instructions::read(
+    let reading = instructions::read(
         table,
-        registered,
         parameters::word_at(params, 0),
         parameters::word_at(params, 2),
     );
-    own_only(done, all, LEVEL_READ)
+    own_only(instructions::keeping(reading, registered), all, LEVEL_READ)
 }
 
 fn heard_write(table: &mut [u8], registered: RegisteredWrite, all: bool, params: &[u8]) -> Reacted
@@ -235,9 +234,9 @@ fn sync_read_by(
     requires { ⌜ length (now table) ≡ tableSize ⌝ }
     ensures { λ r. ⌜ r ≡ reactedOf (syncReadBy (now (table .entry)) registered slot address count) ⌝ }
 {
-    let done = instructions::read(table, registered, address, count);
+    let reading = instructions::read(table, address, count);
     Reacted {
-        done,
+        done: instructions::keeping(reading, registered),
         speaks: true,
         level: LEVEL_READ,
         slot,

@@ -7,9 +7,9 @@ use Prim.Native.Nat.{ℕ, zero, suc, _+_, _-_, _≤_, _<_}
 use native.Mathlib.Omega.{arith}
 use native.Mathlib.Decide.{decLt}
 use lib.ListN.{length, take, drop, length-take, length-drop, take-append-drop, drop-of-length-le}
-use lib.Seq.{take-all}
+use lib.Seq.{take-all, drop-drop}
 use Rattle.reading.specs.Rules.{Verdict, isPacket, isBadChecksum, isWaiting, isNothing, Rules, Laws}
-use Rattle.reading.specs.Reading.{open′}
+use Rattle.reading.specs.Reading.{Mode, open′}
 use Rattle.reading.specs.Calls.{silent, first}
 use Rattle.reading.specs.Progress.{Reached, Settles}
 use Rattle.reading.proofs.Progress.{first-at, first-none, first-waits, reached-silent}
@@ -29,12 +29,17 @@ module _ (R : Rules) where
   abbrev pub Passed : List ℕ → ℕ → Type 0
   Passed s p = (q : ℕ) → q < p → R .verdict (drop q s) ≡ isNothing
 
-  pub first-past : (u : List ℕ) (p : ℕ) → Passed u p → p ≤ length u → first R open′ u ≡ first R open′ (drop p u)
-  first-past u zero h l = refl
-  first-past [] (suc p) h l = absurd (omega arith)
-  first-past (b ∷ u) (suc p) h l =
-      first-at R open′ (b ∷ u) isNothing (omega arith) (h 0 (omega arith))
-      ∙ first-past u p (λ q i. h (suc q) (omega arith)) (omega arith)
+  -- so they are passed, whether more bytes may follow or not
+  pub first-past : (m : Mode) (u : List ℕ) (p : ℕ) → Passed u p → p ≤ length u → first R m u ≡ first R m (drop p u)
+  first-past m u zero h l = refl
+  first-past m [] (suc p) h l = absurd (omega arith)
+  first-past m (b ∷ u) (suc p) h l =
+      first-at R m (b ∷ u) isNothing (omega arith) (h 0 (omega arith))
+      ∙ first-past m u p (λ q i. h (suc q) (omega arith)) (omega arith)
+
+  -- no packet begins: that is decided, and no bytes of a packet were judged for it
+  abbrev pub NoneBegins : (List ℕ → ℕ) → List ℕ → Type 0
+  NoneBegins settled s = (R .verdict s ≡ isNothing) × (settled s ≡ 0)
 
 module _ (R : Rules) (L : Laws R) where
   -- where the offsets before p say nothing and p waits, no event is decided by the first k bytes
@@ -70,10 +75,11 @@ module _ (R : Rules) (L : Laws R) where
           let z : _≡_ {A = ℕ} 0 1 = cc in
           absurd (omega arith)
 
--- The offsets of s before p say nothing, e bytes settle that, and with fewer no event is decided.
+-- The offsets of s before p say nothing, e bytes settle that, and with fewer no event is decided. An offset where no packet begins
+-- is settled by none, also behind e.
 pub record Ahead (R : Rules) (settled : List ℕ → ℕ) (s : List ℕ) (p e : ℕ) : Type 0 where
   pub passed : Passed R s p
-  pub behind : (q : ℕ) → q < p → q + settled (drop q s) ≤ e
+  pub behind : (q : ℕ) → q < p → settled (drop q s) ≤ e - q
   pub within : e ≤ length s
   pub silent-so-far : (k : ℕ) → k < e → (t : List ℕ) × (first R open′ (take k s) ≡ silent t)
 
@@ -119,9 +125,9 @@ module _ (R : Rules) (L : Laws R) (settled : List ℕ → ℕ) (S : Settles R se
         by q (yes i) j = a .passed q i
         by q (no i) j = let z : q ≡ p = omega arith in rw z v
 
-        so-far : (q : ℕ) → Dec (q < p) → q < p + 1 → q + settled (drop q s) ≤ e′
+        so-far : (q : ℕ) → Dec (q < p) → q < p + 1 → settled (drop q s) ≤ e′ - q
         so-far q (yes i) j = omega (arith, a .behind q i)
-        so-far q (no i) j = let z : q ≡ p = omega arith in rw z m
+        so-far q (no i) j = let z : q ≡ p = omega arith in rw z (omega arith)
 
     -- p decides an event
     module _ (d : R .verdict (drop p s) ≡ isWaiting → ⊥) (n : R .lacks [] ≤ settled (drop p s)) where
@@ -134,7 +140,7 @@ module _ (R : Rules) (L : Laws R) (settled : List ℕ → ℕ) (S : Settles R se
 
       pub ahead-first : first R open′ (take e′ s) ≡ first R open′ (drop p (take e′ s))
       ahead-first =
-          first-past R (take e′ s) p
+          first-past R open′ (take e′ s) p
           (λ q j.
           ap (R .verdict) (part q e′ s)
           ∙ S .enough (drop q s) (e′ - q)
@@ -142,6 +148,30 @@ module _ (R : Rules) (L : Laws R) (settled : List ℕ → ℕ) (S : Settles R se
           (omega (arith, a .behind q j)) (omega arith)
           ∙ a .passed q j)
           (simp length-take (omega (arith, within′)))
+
+  -- no packet begins at the next k offsets
+  module _ (k : ℕ) (n : (q : ℕ) → q < k → NoneBegins R settled (drop q (drop p s))) where
+    begins-none : (q : ℕ) → ¬ (q < p) → q < p + k → NoneBegins R settled (drop q s)
+    begins-none q i j =
+        let z : p + (q - p) ≡ q = omega arith in
+        rw (← z) (rw (← drop-drop (q - p) p s) (n (q - p) (omega arith)))
+
+    pub ahead-past : Ahead R settled s (p + k) e
+    ahead-past =
+        record {
+          passed = λ q j. by q (decLt q p) j;
+          behind = λ q j. so-far q (decLt q p) j;
+          within = a .within;
+          silent-so-far = a .silent-so-far;
+        }
+      where
+        by : (q : ℕ) → Dec (q < p) → q < p + k → R .verdict (drop q s) ≡ isNothing
+        by q (yes i) j = a .passed q i
+        by q (no i) j = begins-none q i j .0
+
+        so-far : (q : ℕ) → Dec (q < p) → q < p + k → settled (drop q s) ≤ e - q
+        so-far q (yes i) j = a .behind q i
+        so-far q (no i) j = omega (arith, begins-none q i j .1)
 
   -- p waits for bytes past the end, or is the end: the whole of s is taken
   module _ (w : (R .verdict (drop p s) ≡ isWaiting) ⊎ (length s ≤ p)) (h : p ≤ length s) where
@@ -167,7 +197,7 @@ module _ (R : Rules) (L : Laws R) (settled : List ℕ → ℕ) (S : Settles R se
             by (isBadChecksum id) e = e ∙ stayed (isBadChecksum id) e (λ i. let z : _≡_ {A = ℕ} 0 1 = cc in omega arith)
 
     pub ahead-silent : first R open′ s ≡ silent (drop p s)
-    ahead-silent = first-past R s p (a .passed) h ∙ by w
+    ahead-silent = first-past R open′ s p (a .passed) h ∙ by w
       where
         by : (R .verdict (drop p s) ≡ isWaiting) ⊎ (length s ≤ p) → first R open′ (drop p s) ≡ silent (drop p s)
         by (inl z) = first-waits R (drop p s) z

@@ -9,7 +9,7 @@ use lib.ListN.{length, take, drop, length-append, length-take, length-drop, take
 use lib.Seq.{length-take-le, take-append-le, drop-append-le, drop-drop, drop-length}
 use native.Mathlib.Decide.{decLe}
 use Rattle.reading.specs.Rules.{Verdict, isPacket, isWaiting, isNothing, Undecided, Rules, Laws}
-use Rattle.reading.specs.Reading.{Event, Mode, open′}
+use Rattle.reading.specs.Reading.{Event, Mode, open′, closed}
 use Rattle.reading.specs.Calls.{First, event, silent, firstAt, first, CallResult, oneMore, fed, fedAll, fedOn}
 use Rattle.reading.specs.Progress.{afterTaking, Reached, Patient}
 use Rattle.reading.proofs.Offsets.{short}
@@ -42,6 +42,16 @@ module _ (R : Rules) where
   unfolding first
   first-waits [] e = refl
   first-waits (b ∷ s) e = first-at open′ (b ∷ s) isWaiting (omega arith) e
+
+  -- so few bytes that none of them decides an event have none, if no others follow
+  pub first-few : (n : ℕ) → ((u : List ℕ) → length u < n → Undecided (R .verdict u)) → (t : List ℕ) → length t < n
+      → first R closed t ≡ silent []
+  first-few n q [] h = first-none closed
+  first-few n q (b ∷ t) h = by (q (b ∷ t) h) (first-few n q t (omega arith))
+    where
+      by : Undecided (R .verdict (b ∷ t)) → first R closed t ≡ silent [] → first R closed (b ∷ t) ≡ silent []
+      by (inl w) later = first-at closed (b ∷ t) isWaiting (omega arith) w ∙ later
+      by (inr w) later = first-at closed (b ∷ t) isNothing (omega arith) w ∙ later
 
   -- ---- how far a feeding call has come
 

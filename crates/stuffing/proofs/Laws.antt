@@ -91,6 +91,25 @@ stuffed-length a b (c ∷ s) = turn (stuffed-length b c s) (mark a b c)
 pub length-stuff : (body : List ℕ) → length (stuff body) ≡ length body + marks body
 length-stuff body = stuffed-length 0 0 body
 
+-- ---- where nothing is added, or taken away
+
+no-marks : (a b : ℕ) (s : List ℕ) → marksAfter a b s ≡ 0 → stuffAfter a b s ≡ s
+unfolding stuffAfter marksAfter
+no-marks a b [] e = refl
+no-marks a b (c ∷ s) e = turn (no-marks b c s) (mark a b c) e
+  where
+    turn : (marksAfter b c s ≡ 0 → stuffAfter b c s ≡ s) → (m : Bool) → cond m (1 + marksAfter b c s) (marksAfter b c s) ≡ 0
+        → c ∷ cond m (0xFD ∷ stuffAfter b c s) (stuffAfter b c s) ≡ c ∷ s
+    turn rest false e = ap (λ (l : List ℕ). c ∷ l) (rest e)
+    turn rest true e = absurd (omega arith)
+
+pub stuff-same : (body : List ℕ) → length (stuff body) ≡ length body → stuff body ≡ body
+stuff-same body e = no-marks 0 0 body (omega (arith, length-stuff body))
+
+pub unstuff-same : (bytes : List ℕ) → wellStuffed bytes ≡ true → length (unstuff bytes) ≡ length bytes → unstuff bytes ≡ bytes
+unstuff-same bytes w e =
+    let back = stuff-unstuff bytes w in sym (stuff-same (unstuff bytes) (ap length back ∙ sym e)) ∙ back
+
 -- ---- how many bytes stuffing adds
 
 -- Three bytes make a mark, and no byte is of two marks. Before s there may stand two of the next one's bytes, one, or none.

@@ -82,7 +82,7 @@ fn write_unstuffed(body: &[u8], out: &mut [u8])
 }
 
 // Writes the body without its stuffing to the start of out. Refused, in this order: a body that is not well stuffed, a buffer
-// without room. A refusal writes nothing. [N3 N4 N10-N12 N14 S6-S11]
+// without room. A refusal writes nothing. A body that has no stuffing is copied. [N3 N4 N10-N12 N14 S6-S11]
 pub fn unstuff_into(body: &[u8], out: &mut [u8]) -> Unstuffed
     ensures { λ r. ⌜ unstuffedAnswer r ≡ removalAnswer (now (body .entry)) (now (out .entry)) ⌝ }
     ensures { λ _. ⌜ now (out .exit) ≡ removalOut (now (body .entry)) (now (out .entry)) ⌝ }
@@ -93,6 +93,10 @@ pub fn unstuff_into(body: &[u8], out: &mut [u8]) -> Unstuffed
     if out.len() < n {
         return Unstuffed::NoRoom;
     }
-    write_unstuffed(body, out);
+    if n == body.len() {
+        buffers::place(out, 0, body);
+    } else {
+        write_unstuffed(body, out);
+    }
     Unstuffed::Count(n)
 }

@@ -1,4 +1,5 @@
 pub mod Scans
 pub mod Windows
 mod Seeking
+mod Looking
 pub mod Behind

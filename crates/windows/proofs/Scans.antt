@@ -1,48 +1,18 @@
 -- One turn of the scan: the offset is passed, or the first event or the waiting offset has been found.
-use mathlib.Core.Path.{_≡_, refl, ap, _∙_}
-use mathlib.Core.Bool.{Bool, true, false}
+use mathlib.Core.Path.{_≡_, sym, ap, _∙_}
 use mathlib.Core.List.{List, []}
 use Prim.Native.Nat.{ℕ, _+_, _≤_, _<_}
 use native.Mathlib.Omega.{arith}
 use lib.ListN.{length, take, drop, length-drop, drop-of-length-le}
-use lib.Seq.{drop-drop}
-use Rattle.reading.specs.Rules.{Rules, Laws, isPacket, isBadChecksum, isWaiting, isNothing}
+use lib.Seq.{drop-drop, drop-length}
+use Rattle.reading.specs.Rules.{Rules, Laws, Undecided, isPacket, isBadChecksum, isWaiting, isNothing}
 use Rattle.reading.specs.Rules.{Verdict}
 use Rattle.reading.specs.Reading.{Mode, open′, closed, packet, badChecksum}
-use Rattle.reading.specs.Calls.{firstAt, first}
-use Rattle.reading.proofs.Progress.{first-at, first-none, waiting-patient, packet-short}
-use Rattle.packet.specs.Verdict.{answerFor}
-use Rattle.packet.specs.declared.Judgement.the-variants.{Packet, BadChecksum, Waiting, Nothing}
+use Rattle.reading.specs.Calls.{silent, firstAt, first}
+use Rattle.reading.proofs.Progress.{first-at, first-none, first-few, waiting-patient, packet-short}
+use Rattle.reading.proofs.Ahead.{NoneBegins, first-past}
 use Rattle.reading.specs.Progress.{Patient}
-use Rattle.windows.specs.Scan.{modeOf, Decides, Waits}
-
--- ---- the verdict behind the code's answer
-
-pub was-packet : (v : Verdict) (k n : ℕ) → answerFor v k ≡ Packet n → v ≡ isPacket n
-was-packet (isPacket m) k n e = cc
-was-packet (isBadChecksum id) k n e = let z : _≡_ {A = ℕ} 0 1 = cc in absurd (omega arith)
-was-packet isWaiting k n e = let z : _≡_ {A = ℕ} 0 1 = cc in absurd (omega arith)
-was-packet isNothing k n e = let z : _≡_ {A = ℕ} 0 1 = cc in absurd (omega arith)
-
-pub was-bad : (v : Verdict) (k id : ℕ) → answerFor v k ≡ BadChecksum id → v ≡ isBadChecksum id
-was-bad (isPacket m) k id e = let z : _≡_ {A = ℕ} 0 1 = cc in absurd (omega arith)
-was-bad (isBadChecksum i) k id e = cc
-was-bad isWaiting k id e = let z : _≡_ {A = ℕ} 0 1 = cc in absurd (omega arith)
-was-bad isNothing k id e = let z : _≡_ {A = ℕ} 0 1 = cc in absurd (omega arith)
-
-pub was-waiting : (v : Verdict) (k n : ℕ) → answerFor v k ≡ Waiting n → (v ≡ isWaiting) × (k ≡ n)
-was-waiting (isPacket m) k n e = let z : _≡_ {A = ℕ} 0 1 = cc in absurd (omega arith)
-was-waiting (isBadChecksum i) k n e = let z : _≡_ {A = ℕ} 0 1 = cc in absurd (omega arith)
-was-waiting isWaiting k n e = (refl, cc)
-was-waiting isNothing k n e = let z : _≡_ {A = ℕ} 0 1 = cc in absurd (omega arith)
-
-pub was-nothing : (v : Verdict) (k : ℕ) → answerFor v k ≡ Nothing → v ≡ isNothing
-was-nothing (isPacket m) k e = let z : _≡_ {A = ℕ} 0 1 = cc in absurd (omega arith)
-was-nothing (isBadChecksum i) k e = let z : _≡_ {A = ℕ} 0 1 = cc in absurd (omega arith)
-was-nothing isWaiting k e = let z : _≡_ {A = ℕ} 0 1 = cc in absurd (omega arith)
-was-nothing isNothing k e = refl
-
--- ---- turns
+use Rattle.windows.specs.Scan.{Decides, Waits}
 
 module _ (R : Rules) (L : Laws R) (m : Mode) (s : List ℕ) (from at : ℕ) (begins : from ≤ at)
     (inv : first R m (drop from s) ≡ first R m (drop at s)) where
@@ -86,18 +56,29 @@ module _ (R : Rules) (L : Laws R) (m : Mode) (s : List ℕ) (from at : ℕ) (beg
 -- an open segment stops at a waiting offset, a closed one passes it
 module _ (R : Rules) (L : Laws R) (s : List ℕ) (from at : ℕ) (begins : from ≤ at) (h : at < length s)
     (e : R .verdict (drop at s) ≡ isWaiting) where
-  abbrev Inv : Bool → Type 0
-  Inv live = first R (modeOf live) (drop from s) ≡ first R (modeOf live) (drop at s)
-
-  pub scan-waits : (live : Bool) → live ≡ true → Inv live → Waits R (modeOf live) s from at
-  scan-waits false t inv = let z : _≡_ {A = ℕ} 0 1 = cc in absurd (omega arith)
-  scan-waits true t inv =
+  pub scan-waits : first R open′ (drop from s) ≡ first R open′ (drop at s) → Waits R open′ s from at
+  scan-waits inv =
       record { begins = begins; fits = omega arith; first-is = here R L open′ s from at begins inv isWaiting h e }
 
   pub scan-wants : (k : ℕ) → R .lacks (drop at s) ≡ k → Patient R (drop at s) k
   scan-wants k l = rw (← l) (waiting-patient R L (drop at s) e)
 
-  pub scan-past : (live : Bool) → live ≡ false → Inv live
-      → first R (modeOf live) (drop from s) ≡ first R (modeOf live) (drop (at + 1) s)
-  scan-past false t inv = here R L closed s from at begins inv isWaiting h e
-  scan-past true t inv = let z : _≡_ {A = ℕ} 0 1 = cc in absurd (omega arith)
+  pub scan-past : first R closed (drop from s) ≡ first R closed (drop at s)
+      → first R closed (drop from s) ≡ first R closed (drop (at + 1) s)
+  scan-past inv = here R L closed s from at begins inv isWaiting h e
+
+-- k offsets at which no packet begins are passed
+module _ (R : Rules) (settled : List ℕ → ℕ) (s : List ℕ) (at k : ℕ)
+    (n : (q : ℕ) → q < k → NoneBegins R settled (drop q (drop at s))) where
+  pub scan-none : (m : Mode) → k ≤ length (drop at s) → first R m (drop at s) ≡ first R m (drop (at + k) s)
+  scan-none m h = first-past R m (drop at s) k (λ q i. n q i .0) h ∙ ap (λ (l : List ℕ). first R m l) (drop-drop k at s)
+
+-- a closed segment of which fewer bytes are left than decide an event
+module _ (R : Rules) (s : List ℕ) (at n : ℕ) (q : (u : List ℕ) → length u < n → Undecided (R .verdict u)) where
+  pub scan-few : first R closed s ≡ first R closed (drop at s) → length (drop at s) < n → Waits R closed s 0 (length s)
+  scan-few inv h =
+      record {
+        begins = omega arith;
+        fits = omega arith;
+        first-is = inv ∙ first-few R n q (drop at s) h ∙ ap silent (sym (drop-length s));
+      }

@@ -13,7 +13,7 @@ use Rattle.reading.specs.Reading.{open′}
 use Rattle.reading.specs.Calls.{first}
 use Rattle.reading.specs.Progress.{Reached, Settles}
 use Rattle.reading.proofs.Progress.{reached-end}
-use Rattle.reading.proofs.Ahead.{Ahead, ahead-start, ahead-next, ahead-reached, ahead-verdict, ahead-first, ahead-whole, ahead-silent}
+use Rattle.reading.proofs.Ahead.{Ahead, NoneBegins, ahead-start, ahead-past, ahead-next, ahead-reached, ahead-verdict, ahead-first, ahead-whole, ahead-silent}
 use Rattle.windows.specs.declared.Scanned.the-variants.{Packet, BadChecksum, Waiting}
 use Rattle.windows.specs.Scan.{Ends}
 use Rattle.windows.proofs.Scans.{scan-packet, scan-bad}
@@ -29,6 +29,21 @@ module _ (R : Rules) (L : Laws R) (settled : List ℕ → ℕ) (S : Settles R se
   sought-start = record { fits = omega arith; within = omega arith; ahead = ahead-start R settled chunk }
 
   module _ (at end : ℕ) (w : Sought R settled chunk at end) where
+    -- no packet begins at the next k offsets
+    pub sought-past : (k : ℕ) → ((q : ℕ) → q < k → NoneBegins R settled (drop q (drop at chunk))) → k ≤ length (drop at chunk)
+        → Sought R settled chunk (at + k) end
+    sought-past k n h =
+        record {
+          fits = omega (arith, w .fits, length-drop at chunk);
+          within = w .within;
+          ahead = ahead-past R L settled S chunk at end (w .ahead) k n;
+        }
+
+    -- nor at this one
+    pub sought-none : at < length chunk → NoneBegins R settled (drop at chunk) → Sought R settled chunk (at + 1) end
+    sought-none h n =
+        sought-past 1 (λ q i. let z : q ≡ 0 = omega arith in rw z n) (simp length-drop (omega arith))
+
     -- the bytes up to `last` settle `at` too
     module _ (last : ℕ) (h : at < length chunk) (l : end ≤ last) (m : at + settled (drop at chunk) ≤ last)
         (is : (last ≡ end) ⊎ (last ≡ at + settled (drop at chunk))) where

@@ -1,22 +1,17 @@
 -- What the parts of the reader find, over any packet rules R: where the first event stands, and how a feeding call ends.
 use mathlib.Core.Path.{_≡_}
-use mathlib.Core.Bool.{Bool, true, false}
 use mathlib.Core.List.{List, []}
 use mathlib.Core.Option.{Option, none, some}
 use Prim.Native.Nat.{ℕ, _+_, _≤_, _<_}
 use lib.ListN.{length, take, drop}
 use Rattle.reading.specs.Rules.{Rules}
-use Rattle.reading.specs.Reading.{Event, packet, badChecksum, Mode, open′, closed}
+use Rattle.reading.specs.Reading.{Event, packet, badChecksum, Mode, open′}
 use Rattle.reading.specs.Calls.{event, silent, first, CallResult, fed}
 use Rattle.reading.specs.Progress.{Reached, Patient}
 use Rattle.windows.specs.declared.Stop.{Stop}
 use Rattle.windows.specs.declared.Stop.the-variants.{Done, Passed, Full}
 use Rattle.windows.specs.declared.Scanned.{Scanned}
 use Rattle.windows.specs.declared.Scanned.the-variants.{Packet, BadChecksum, Waiting}
-
-abbrev pub modeOf : Bool → Mode
-modeOf true = open′
-modeOf false = closed
 
 -- the first event of the bytes of s from offset `from` on is this one; it begins at offset `at`, and reading goes on at `on`
 pub record Decides (R : Rules) (m : Mode) (s : List ℕ) (from at on : ℕ) (e : Event) : Type 0 where

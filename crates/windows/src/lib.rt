@@ -1,13 +1,14 @@
 // Looking for the first event in held bytes and in a chunk, in place.
 use packet::Judgement;
+use packet_front::Begun;
 ghost use mathlib.Core.Path.{_≡_};
 ghost use mathlib.Core.List.{[], _++_};
 ghost use mathlib.Core.Logic.{_⊎_};
 ghost use Prim.Native.Nat.{_+_, _-_, _≤_, min};
 ghost use lib.ListN.{length, take, drop};
-ghost use Rattle.reading.specs.Reading.{closed};
+ghost use Rattle.reading.specs.Reading.{open′, closed};
 ghost use Rattle.packet.specs.Verdict.{protocol2};
-ghost use Rattle.windows.specs.Scan.{modeOf, Seen, Wants, Ends, Filled};
+ghost use Rattle.windows.specs.Scan.{Seen, Wants, Ends, Filled};
 
 // What stands at the first offset that is not nothing. Waiting stands also at the end, where all has been passed.
 pub enum Scanned {
@@ -56,37 +57,38 @@ fn greatest(a: usize, b: usize) -> usize
     if a < b { b } else { a }
 }
 
-// The bytes of s from `from` on, offset by offset; a waiting offset is passed once the segment is closed.
-fn scan(s: &[u8], from: usize, live: bool) -> Live
+// The bytes of s from `from` on, offset by offset; those before the next FF say nothing.
+fn scan(s: &[u8], from: usize) -> Live
     requires { ⌜ from ≤ length (now s) ⌝ }
-    ensures { λ r. ⌜ Seen protocol2 (modeOf live) (now (s .entry)) from (r .seen) × Wants protocol2 (now (s .entry)) (r .seen) (r .lacks) ⌝ }
+    ensures { λ r. ⌜ Seen protocol2 open′ (now (s .entry)) from (r .seen) × Wants protocol2 (now (s .entry)) (r .seen) (r .lacks) ⌝ }
 {
-    let mut at = from;
+    let mut at = packet_front::next_ff(s, from);
     while at < s.len() {
-        match packet::judge(s, at) {
-            Judgement::Packet(count) => {
+        match packet_front::look(&s[at..]) {
+            Begun::Nothing => {}
+            Begun::Waiting(lacks) => {
                 return Live {
-                    seen: Scanned::Packet { at, count },
-                    lacks: 0,
+                    seen: Scanned::Waiting { at },
+                    lacks,
                 };
             }
-            Judgement::BadChecksum(id) => {
-                return Live {
-                    seen: Scanned::BadChecksum { at, id },
-                    lacks: 0,
-                };
-            }
-            Judgement::Waiting(lacks) => {
-                if live {
+            Begun::Whole(size) => match packet::judge_whole(&s[at..at + size]) {
+                Judgement::Packet(count) => {
                     return Live {
-                        seen: Scanned::Waiting { at },
-                        lacks,
+                        seen: Scanned::Packet { at, count },
+                        lacks: 0,
                     };
                 }
-            }
-            Judgement::Nothing => {}
+                Judgement::BadChecksum(id) => {
+                    return Live {
+                        seen: Scanned::BadChecksum { at, id },
+                        lacks: 0,
+                    };
+                }
+                _ => {}
+            },
         }
-        at += 1;
+        at = packet_front::next_ff(s, at + 1);
     }
     Live {
         seen: Scanned::Waiting { at },
@@ -94,48 +96,65 @@ fn scan(s: &[u8], from: usize, live: bool) -> Live
     }
 }
 
-// The first event of a closed segment, or that it has none. [K4]
-pub fn scan_closed(s: &[u8]) -> Scanned
-    ensures { λ r. ⌜ Seen protocol2 closed (now (s .entry)) 0 r ⌝ }
+// The first event of a closed segment, or that it has none: what waits is passed like what says nothing, and fewer bytes than the
+// shortest packet has are left alone. [K4]
+pub fn scan_closed(segment: &[u8]) -> Scanned
+    ensures { λ r. ⌜ Seen protocol2 closed (now (segment .entry)) 0 r ⌝ }
 {
-    let all = scan(s, 0, false);
-    all.seen
+    let mut at = packet_front::next_ff(segment, 0);
+    while at < segment.len() {
+        if segment.len() - at < 10 {
+            return Scanned::Waiting { at: segment.len() };
+        }
+        if let Begun::Whole(size) = packet_front::look(&segment[at..]) {
+            match packet::judge_whole(&segment[at..at + size]) {
+                Judgement::Packet(count) => return Scanned::Packet { at, count },
+                Judgement::BadChecksum(id) => return Scanned::BadChecksum { at, id },
+                _ => {}
+            }
+        }
+        at = packet_front::next_ff(segment, at + 1);
+    }
+    Scanned::Waiting { at }
 }
 
-// The chunk, where no bytes are held. Each offset is judged once, by all the bytes that follow; what is taken are those that
+// The chunk, where no bytes are held. Each offset is looked at once, by all the bytes that follow; what is taken are those that
 // settle the offsets up to the event. [K4]
 pub fn advance(chunk: &[u8]) -> Window
     ensures { λ r. ⌜ (r .end ≤ length (now (chunk .entry)))
         × Ends protocol2 [] (now (chunk .entry)) (take (r .end) (now (chunk .entry))) (r .end) (r .seen) ⌝ }
 {
-    let mut at = 0;
+    let mut at = packet_front::next_ff(chunk, 0);
     let mut end = 0;
     while at < chunk.len() {
-        match packet::judge(chunk, at) {
-            Judgement::Packet(count) => {
-                let last = greatest(end, at + count);
-                return Window {
-                    seen: Scanned::Packet { at, count },
-                    end: last,
-                };
-            }
-            Judgement::BadChecksum(id) => {
-                let last = greatest(end, at + packet_front::settled(chunk, at));
-                return Window {
-                    seen: Scanned::BadChecksum { at, id },
-                    end: last,
-                };
-            }
-            Judgement::Waiting(_) => {
+        match packet_front::look(&chunk[at..]) {
+            Begun::Nothing => {}
+            Begun::Waiting(_) => {
                 return Window {
                     seen: Scanned::Waiting { at },
                     end: chunk.len(),
                 };
             }
-            Judgement::Nothing => {}
+            Begun::Whole(size) => {
+                end = greatest(end, at + size);
+                match packet::judge_whole(&chunk[at..at + size]) {
+                    Judgement::Packet(count) => {
+                        return Window {
+                            seen: Scanned::Packet { at, count },
+                            end,
+                        };
+                    }
+                    Judgement::BadChecksum(id) => {
+                        return Window {
+                            seen: Scanned::BadChecksum { at, id },
+                            end,
+                        };
+                    }
+                    _ => {}
+                }
+            }
         }
-        end = greatest(end, at + packet_front::settled(chunk, at));
-        at += 1;
+        at = packet_front::next_ff(chunk, at + 1);
     }
     Window {
         seen: Scanned::Waiting { at },
@@ -171,7 +190,7 @@ pub fn fill(held: &mut [u8], count: usize, chunk: &[u8]) -> Stop
     let mut at = 0;
     let mut taken = 0;
     loop {
-        let live = scan(&held[..end], at, true);
+        let live = scan(&held[..end], at);
         let seen = live.seen;
         let Scanned::Waiting { at: start } = seen else {
             return Stop::Done { seen, end, taken };

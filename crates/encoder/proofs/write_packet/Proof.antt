@@ -2,7 +2,7 @@ use mathlib.Core.List.{_∷_}
 use Prim.Native.Nat.{_≤_}
 use native.Mathlib.Omega.{arith}
 use lib.ListN.{length}
-use Rattle.lists.proofs.Write.{tail-filled}
+use Rattle.lists.proofs.Write.{tail-placed}
 use Rattle.stuffing.specs.Stuffing.{stuff}
 use Rattle.encoder.specs.Writing.{packetOf}
 use Rattle.encoder.proofs.Writing.{packet-headed, packet-written}
@@ -13,17 +13,17 @@ use Rattle.encoder.proofs.write_packet.Tie as tie
 write-front-requires : tie.Need-write-front-requires
 write-front-requires c κs = search needs
 
-sub-write-stuffed : tie.Need-sub-write-stuffed
-sub-write-stuffed c = search needs
+sub-write-body : tie.Need-sub-write-body
+sub-write-body c = search needs
 
-part-write-stuffed-start : tie.Need-part-write-stuffed-start
-part-write-stuffed-start c = search needs
+part-write-body-start : tie.Need-part-write-body-start
+part-write-body-start c = search needs
 
-part-write-stuffed-end : tie.Need-part-write-stuffed-end
-part-write-stuffed-end c = search needs
+part-write-body-end : tie.Need-part-write-body-end
+part-write-body-end c = search needs
 
-write-stuffed-requires : tie.Need-write-stuffed-requires
-write-stuffed-requires c κs = search needs
+write-body-requires : tie.Need-write-body-requires
+write-body-requires c κs = search needs
 
 add-write-checksum : tie.Need-add-write-checksum
 add-write-checksum c = search needs
@@ -38,7 +38,7 @@ write-checksum-requires c κs =
       omega arith,
       search needs,
       packet-headed (a .args .id) (a .args .n) b (a .args .out .now) (f .last .1 .1 .0) _ (a .pre .0) (a .pre .2) (f .ensures)
-          (tail-filled 7 (f .last .1 .1 .0) _ b h (w .write-stuffed .ensures .1)),
+          (tail-placed 7 (f .last .1 .1 .0) _ b h (w .write-body .ensures)),
     )
 
 same-length : tie.Need-same-length
@@ -53,17 +53,17 @@ returns c =
     let f = w .before .before .before .before .write-front in
     let h : 7 ≤ length (f .last .1 .1 .0) = search needs in
     packet-written (a .args .id) (a .args .n) b _ (f .last .1 .1 .0) _ (a .pre .0) (a .pre .2) (f .ensures)
-    (tail-filled 7 (f .last .1 .1 .0) _ b h (w .write-stuffed .ensures .1)) _ (c .before .before .write-checksum .ensures)
+    (tail-placed 7 (f .last .1 .1 .0) _ b h (w .write-body .ensures)) _ (c .before .before .write-checksum .ensures)
 
 pub write-packet-spec : {M : Type 1} → statement M
 write-packet-spec =
     tie.close
     (tie.spec
     write-front-requires
-    sub-write-stuffed
-    part-write-stuffed-start
-    part-write-stuffed-end
-    write-stuffed-requires
+    sub-write-body
+    part-write-body-start
+    part-write-body-end
+    write-body-requires
     add-write-checksum
     write-checksum-requires
     same-length

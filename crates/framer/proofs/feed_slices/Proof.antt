@@ -8,7 +8,7 @@ use Rattle.packet.specs.Verdict.{protocol2}
 use Rattle.packet.proofs.Laws.{laws}
 use Rattle.windows.specs.declared.Stop.the-variants.{Full}
 use Rattle.windows.specs.Scan.{Filled}
-use Rattle.windows.proofs.Scans.{was-packet, was-bad}
+use Rattle.packet.proofs.Answers.{was-packet, was-bad}
 use Rattle.framer.proofs.Turns.{rest-here, filled-rest, room-for, ends-on, ends-fed, passed-fed, filled-done, filled-passed, filled-full}
 use Rattle.framer.proofs.Turns.{full-packet, full-bad, full-other}
 use mathlib.Core.Path.{_≡_, refl, sym, ap, _∙_}

@@ -17,18 +17,15 @@ is-done-requires c κs = search needs
 error-of-requires : tie.Need-error-of-requires
 error-of-requires c κs = search needs
 
-without-data-requires : tie.Need-without-data-requires
-without-data-requires c κs = search needs
-
 returns : tie.Need-returns
 returns c =
-    let k = c .before .before in
+    let k = c .before in
     let d = k .before in
     let r = d .before in
     let a = r .before .before in
-    c .without-data .ensures
-    ∙ ap (λ (error : ℕ). doneWith error [] (a .args .registered)) (c .before .error-of .ensures)
-    ∙ read-refused (a .args .table .now) (a .args .registered) (a .args .address) (a .args .count) (r .read .result .outcome) (r .read .ensures .0)
+    λ w.
+    ap (λ (error : ℕ). doneWith error [] w) (c .error-of .ensures)
+    ∙ read-refused (a .args .table .now) w (a .args .address) (a .args .count) (r .read .result .outcome) (r .read .ensures .0)
     (sym (d .is-done .ensures) ∙ not-true _ (k .if1 .taken))
 
 returns-2 : tie.Need-returns-2
@@ -37,7 +34,8 @@ returns-2 c =
     let d = k .before in
     let r = d .before in
     let a = r .before .before in
-    read-done (a .args .table .now) (a .args .registered) (a .args .address) (a .args .count) (r .read .result .outcome) (r .read .ensures .0)
+    λ w.
+    read-done (a .args .table .now) w (a .args .address) (a .args .count) (r .read .result .outcome) (r .read .ensures .0)
     (sym (d .is-done .ensures) ∙ not-false _ (k .if1 .left)) (r .read .result .bytes) (r .read .ensures .1)
 
 pub read-spec : {M : Type 1} → statement M
@@ -47,6 +45,5 @@ read-spec =
     read-requires
     is-done-requires
     error-of-requires
-    without-data-requires
     returns
     returns-2)

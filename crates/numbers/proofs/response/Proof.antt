@@ -44,29 +44,29 @@ enum-told-6 c = search needs
 
 returns : tie.Need-returns
 returns c =
-    let t = c .before .before .before .before .before .args .answer in
+    let t = c .before .before .before .before .before .before .args .answer in
     let v = c .before .before .replied .given in
     ap (λ (z : ℤ). numbers z (v .0 .1 .0) (t .registered))
     (toZ-ofZ {w = w64} (record { sfits = c .count .ok }) ∙ c .count .ensures)
     ∙ by-case _ _ (t .registered) (v .1)
 
 returns-2 : tie.Need-returns-2
-returns-2 c = by-case _ _ (c .before .before .before .args .answer .registered) (c .enum-told .given .1)
+returns-2 c = by-case _ _ (c .before .before .before .before .args .answer .registered) (c .enum-told .given .1)
 
 returns-3 : tie.Need-returns-3
-returns-3 c = by-case _ _ (c .before .before .before .args .answer .registered) (c .enum-told2 .given .1)
+returns-3 c = by-case _ _ (c .before .before .before .before .args .answer .registered) (c .enum-told2 .given .1)
 
 returns-4 : tie.Need-returns-4
-returns-4 c = by-case _ _ (c .before .before .before .args .answer .registered) (c .enum-told3 .given .1)
+returns-4 c = by-case _ _ (c .before .before .before .before .args .answer .registered) (c .enum-told3 .given .1)
 
 returns-5 : tie.Need-returns-5
-returns-5 c = by-case _ _ (c .before .before .before .args .answer .registered) (c .enum-told4 .given .1)
+returns-5 c = by-case _ _ (c .before .before .before .before .args .answer .registered) (c .enum-told4 .given .1)
 
 returns-6 : tie.Need-returns-6
-returns-6 c = by-case _ _ (c .before .before .before .args .answer .registered) (c .enum-told5 .given .1)
+returns-6 c = by-case _ _ (c .before .before .before .before .args .answer .registered) (c .enum-told5 .given .1)
 
 returns-7 : tie.Need-returns-7
-returns-7 c = by-case _ _ (c .before .before .before .args .answer .registered) (c .enum-told6 .given .1)
+returns-7 c = by-case _ _ (c .before .before .before .before .args .answer .registered) (c .enum-told6 .given .1)
 
 pub response-spec : {M : Type 1} → statement M
 response-spec =

@@ -1,6 +1,6 @@
 use borrow.Author.Needs.{needs}
 use mathlib.Core.Path.{sym, _∙_}
-use Rattle.packet.proofs.Looks.{look-nothing, look-waiting, look-length, look-long, look-header, look-whole}
+use Rattle.packet.proofs.Looks.{look-nothing, look-waiting, look-length, look-whole}
 use Rattle.packet.proofs.judge_start.Statement.{statement}
 use Rattle.packet.proofs.judge_start.Tie as tie
 
@@ -22,11 +22,7 @@ slice-aggregate-judge-whole c =
     sym (look-length (d .before .before .before .before .args .s .now) _ (sym (d .before .before .look .ensures) ∙ d .size .given .1))
 
 judge-whole-requires : tie.Need-judge-whole-requires
-judge-whole-requires c κs =
-    let d = c .before .before in
-    let s = d .before .before .before .before .args .s .now in
-    let e = sym (d .before .before .look .ensures) ∙ d .size .given .1 in
-    (look-long s _ e, look-header s _ e)
+judge-whole-requires c κs = search needs
 
 returns : tie.Need-returns
 returns c = look-nothing _ (sym (c .before .before .look .ensures) ∙ c .enum-told .given .1)

@@ -1,12 +1,14 @@
 use mathlib.Core.Path.{_≡_, refl, sym, _∙_}
+use mathlib.Core.List.{List, [], _∷_}
 use mathlib.Core.Logic.{⊎-elim}
-use Prim.Native.Nat.{_-_}
+use Prim.Native.Nat.{ℕ, _+_, _-_, _≤_}
 use native.Mathlib.Omega.{arith}
+use types.Run.{miss}
 use lib.ListN.{length}
 use Rattle.plain_reader.specs.Next.{nextEvent}
 use Rattle.packet.specs.declared.Judgement.{Judgement}
 use Rattle.packet.specs.declared.Judgement.the-variants.{Packet}
-use Rattle.plain_reader.proofs.Turns.{Turn, turn, next-end}
+use Rattle.plain_reader.proofs.Turns.{Turn, fits, judged-turn, look-turn, passed-turn, next-start, next-few, next-end}
 use borrow.Author.Needs.{needs}
 use Rattle.plain_reader.proofs.next_event.Statement.{statement}
 use Rattle.plain_reader.proofs.next_event.Tie as tie
@@ -17,66 +19,142 @@ Inv-loop segment from offset₀ offset = nextEvent segment from ≡ nextEvent se
 abbrev μ-loop : tie.MeasureT-loop
 μ-loop segment from offset₀ offset = length segment - offset
 
-loop-holds : tie.Need-loop-holds Inv-loop μ-loop
-loop-holds c = refl
+next-ff-requires : tie.Need-next-ff-requires Inv-loop μ-loop
+next-ff-requires c κs = search needs
 
-judge-requires : tie.Need-judge-requires Inv-loop μ-loop
-judge-requires c κs = search needs
+loop-holds : tie.Need-loop-holds Inv-loop μ-loop
+loop-holds c = next-start _ _ _ (c .next-ff .ensures)
+
+sub-if1 : tie.Need-sub-if1 Inv-loop μ-loop
+sub-if1 c = search needs
+
+returns : tie.Need-returns Inv-loop μ-loop
+returns c =
+    let p = c .before .before in
+    let s = p .before .before .before .args .segment .now in
+    sym (p .loop .inv ∙ next-few s (length s - p .loop .offset) (p .loop .offset) (omega arith) (c .if1 .taken))
+
+sub-look : tie.Need-sub-look Inv-loop μ-loop
+sub-look c = search needs
+
+part-look-start : tie.Need-part-look-start Inv-loop μ-loop
+part-look-start c = search needs
+
+part-look-end : tie.Need-part-look-end Inv-loop μ-loop
+part-look-end c = search needs
+
+look-requires : tie.Need-look-requires Inv-loop μ-loop
+look-requires c κs = search needs
+
+enum-known-size : tie.Need-enum-known-size Inv-loop μ-loop
+enum-known-size c = search needs
+
+-- the offset, and the segment
+module _ (l : tie.After-look Inv-loop μ-loop) where
+  abbrev s : List ℕ
+  s = l .before .before .before .before .before .before .before .args .segment .now
+
+  abbrev here : ℕ
+  here = l .before .before .before .before .loop .offset
+
+-- all bytes of a packet are there
+whole : (z : tie.After-size Inv-loop μ-loop) → here (z .before .before) + z .size .given .0 .0 ≤ length (s (z .before .before))
+whole z =
+    let l = z .before .before in
+    fits (s l) (here l) (l .before .before .before .loop-test .taken) (l .look .result) (l .look .ensures) _ (z .size .given .1)
+
+add-judge-whole : tie.Need-add-judge-whole Inv-loop μ-loop
+add-judge-whole c = omega (arith, whole (c .before))
+
+sub-judge-whole : tie.Need-sub-judge-whole Inv-loop μ-loop
+sub-judge-whole c = search needs
+
+part-judge-whole-start : tie.Need-part-judge-whole-start Inv-loop μ-loop
+part-judge-whole-start c = search needs
+
+part-judge-whole-end : tie.Need-part-judge-whole-end Inv-loop μ-loop
+part-judge-whole-end c = whole (c .before)
+
+judge-whole-requires : tie.Need-judge-whole-requires Inv-loop μ-loop
+judge-whole-requires c κs = search needs
 
 enum-known-count : tie.Need-enum-known-count Inv-loop μ-loop
 enum-known-count c = search needs
 
--- what the turn comes to, by the verdict's cases
-module _ (j : tie.After-judge Inv-loop μ-loop) where
-  here : (r : Judgement) → j .judge .result ≡ r → Turn (j .before .before .before .before .args .segment .now) (j .before .before .loop .offset) r
-  here r e = turn _ _ (j .before .loop-test .taken) r _ (sym (j .judge .ensures) ∙ e)
+-- and what the turn comes to by them
+module _ (j : tie.After-judge-whole Inv-loop μ-loop) where
+  abbrev z : tie.After-size Inv-loop μ-loop
+  z = j .before .before .before
 
-abbrev found : (k : tie.After-known-told Inv-loop μ-loop) → Turn (k .before .before .before .before .before .before .before .args .segment .now)
-    (k .before .before .before .before .before .loop .offset) (Packet (k .before .count .given .0 .0))
-found k = here (k .before .before .before) _ (k .before .count .given .1)
+  abbrev l : tie.After-look Inv-loop μ-loop
+  l = z .before .before
 
-add-t9 : tie.Need-add-t9 Inv-loop μ-loop
-add-t9 c = omega (arith, found c .1)
+  comes-to : (r : Judgement) → j .judge-whole .result ≡ r → Turn (s l) (here l) r
+  comes-to r e =
+      judged-turn (s l) (here l) (l .before .before .before .loop-test .taken) (l .look .result) (l .look .ensures) (z .size .given .0 .0)
+      (z .size .given .1) (j .judge-whole .result) r (j .judge-whole .ensures) e
 
-add-t10 : tie.Need-add-t10 Inv-loop μ-loop
-add-t10 c = omega (arith, found c .0)
+abbrev found : (k : tie.After-known-told2 Inv-loop μ-loop)
+    → Turn (s (l (k .before .before .before))) (here (l (k .before .before .before))) (Packet (k .before .count .given .0 .0))
+found k = comes-to (k .before .before .before) _ (k .before .count .given .1)
 
-shared-slice-read-t12 : tie.Need-shared-slice-read-t12 Inv-loop μ-loop
-shared-slice-read-t12 c = found (c .before) .0
+add-t20 : tie.Need-add-t20 Inv-loop μ-loop
+add-t20 c = omega (arith, found c .1)
 
-returns : tie.Need-returns Inv-loop μ-loop
-returns c = sym (c .before .before .before .before .before .before .loop .inv ∙ found (c .before) .2)
+add-t21 : tie.Need-add-t21 Inv-loop μ-loop
+add-t21 c = omega (arith, found c .0)
+
+shared-slice-read-t23 : tie.Need-shared-slice-read-t23 Inv-loop μ-loop
+shared-slice-read-t23 c = found (c .before) .0
+
+returns-2 : tie.Need-returns-2 Inv-loop μ-loop
+returns-2 c =
+    let l = l (c .before .before .before .before) in
+    sym (l .before .before .before .before .loop .inv ∙ found (c .before) .2)
 
 enum-known-id : tie.Need-enum-known-id Inv-loop μ-loop
 enum-known-id c = search needs
 
-add-t13 : tie.Need-add-t13 Inv-loop μ-loop
-add-t13 c = search needs
+add-t24 : tie.Need-add-t24 Inv-loop μ-loop
+add-t24 c = search needs
 
-returns-2 : tie.Need-returns-2 Inv-loop μ-loop
-returns-2 c =
+returns-3 : tie.Need-returns-3 Inv-loop μ-loop
+returns-3 c =
     let j = c .before .before .before in
-    sym (j .before .before .loop .inv ∙ here j _ (c .before .id .given .1))
+    sym (l j .before .before .before .before .loop .inv ∙ comes-to j _ (c .before .id .given .1))
 
-enum-told : tie.Need-enum-told Inv-loop μ-loop
-enum-told c = search needs
+add-next-ff : tie.Need-add-next-ff Inv-loop μ-loop
+add-next-ff c = search needs
 
-enum-told-2 : tie.Need-enum-told-2 Inv-loop μ-loop
-enum-told-2 c = search needs
-
-add-offset : tie.Need-add-offset Inv-loop μ-loop
-add-offset c = search needs
+next-ff-requires-2 : tie.Need-next-ff-requires-2 Inv-loop μ-loop
+next-ff-requires-2 c κs = search needs
 
 loop-less : tie.Need-loop-less Inv-loop μ-loop
 loop-less c = search needs
 
+-- an offset that is passed
+passed : (k : tie.At-match-came Inv-loop μ-loop) → nextEvent (s (k .before)) (here (k .before)) ≡ nextEvent (s (k .before)) (here (k .before) + 1)
+passed k =
+    let a = k .before in
+    let t = a .before .before .before .loop-test .taken in
+    ⊎-elim
+    (λ w.
+    passed-turn (s a) (here a) t (a .look .result) (a .look .ensures) (w .4 .result)
+    (judged-turn (s a) (here a) t (a .look .result) (a .look .ensures) (w .1 .given .0 .0) (w .1 .given .1) (w .4 .result) (w .4 .result) (w .4 .ensures) refl)
+    (λ n e. miss (2 ∷ 3 ∷ []) 0 tt (rw e at (w .5 .keys3)))
+    (λ id e. miss (2 ∷ 3 ∷ []) 1 tt (rw e at (w .5 .keys3))))
+    (λ w.
+    look-turn (s a) (here a) t (a .look .result) (a .look .ensures)
+    (λ n e. miss (0 ∷ 1 ∷ []) 2 tt (rw e at (w .keys2))))
+    (k .match .came)
+
 loop-again : tie.Need-loop-again Inv-loop μ-loop
 loop-again c =
-    let j = c .before in
-    j .before .before .loop .inv ∙ ⊎-elim (λ w. here j _ (w .1 .given .1)) (λ w. here j _ (w .1 .given .1)) (c .match .came)
+    let k = c .before in
+    k .before .before .before .before .before .loop .inv ∙ passed k ∙ next-start _ _ _ (c .next-ff2 .ensures)
 
-returns-3 : tie.Need-returns-3 Inv-loop μ-loop
-returns-3 c = sym (c .before .loop .inv ∙ next-end _ _ (c .loop-test .left))
+returns-4 : tie.Need-returns-4 Inv-loop μ-loop
+returns-4 c = sym (c .before .loop .inv ∙ next-end _ _ (c .loop-test .left))
 
 pub next-event-spec : {M : Type 1} → statement M
 next-event-spec =
@@ -84,19 +162,30 @@ next-event-spec =
     (tie.spec
     Inv-loop
     μ-loop
+    next-ff-requires
     loop-holds
-    judge-requires
-    enum-known-count
-    add-t9
-    add-t10
-    shared-slice-read-t12
+    sub-if1
     returns
-    enum-known-id
-    add-t13
+    sub-look
+    part-look-start
+    part-look-end
+    look-requires
+    enum-known-size
+    add-judge-whole
+    sub-judge-whole
+    part-judge-whole-start
+    part-judge-whole-end
+    judge-whole-requires
+    enum-known-count
+    add-t20
+    add-t21
+    shared-slice-read-t23
     returns-2
-    enum-told
-    enum-told-2
-    add-offset
+    enum-known-id
+    add-t24
+    returns-3
+    add-next-ff
+    next-ff-requires-2
     loop-less
     loop-again
-    returns-3)
+    returns-4)

@@ -29,18 +29,22 @@ word-at-requires-2 c κs = search needs
 read-requires : tie.Need-read-requires
 read-requires c κs = search needs
 
+keeping-requires : tie.Need-keeping-requires
+keeping-requires c κs = search needs
+
 own-only-requires : tie.Need-own-only-requires
 own-only-requires c κs = search needs
 
 returns-2 : tie.Need-returns-2
 returns-2 c =
-    let r = c .before in
+    let g = c .before in
+    let r = g .before in
     let w₂ = r .before in
     let w₁ = w₂ .before in
     let s = w₁ .before .before .before .before in
     let a = s .args in
     right-count (ownOnly (a .all) 1) (a .table .now) (a .registered) (read (a .table .now) (a .registered) (wordAt (a .params .now) 0) (wordAt (a .params .now) 2)) (eqb (length (a .params .now)) 4) (eq-eqb _ _ (w₁ .before .if1 .left)) _ _ (c .own-only .ensures)
-    ((rw (w₁ .word-at .ensures, w₂ .word-at2 .ensures) at (r .read .ensures)) ∙ ap doneOf (of-size (a .table .now) (a .registered) _ (s .pre)))
+    (g .keeping .ensures ∙ (rw (w₁ .word-at .ensures, w₂ .word-at2 .ensures) at (r .read .ensures (a .registered))) ∙ ap doneOf (of-size (a .table .now) (a .registered) _ (s .pre)))
 
 pub heard-read-spec : {M : Type 1} → statement M
 heard-read-spec =
@@ -51,5 +55,6 @@ heard-read-spec =
     word-at-requires
     word-at-requires-2
     read-requires
+    keeping-requires
     own-only-requires
     returns-2)

@@ -1,92 +1,163 @@
+use mathlib.Core.Path.{_≡_, refl, _∙_}
+use mathlib.Core.List.{List, [], _∷_}
 use mathlib.Core.Logic.{⊎-elim}
-use borrow.Author.Needs.{needs}
-use mathlib.Core.Path.{_≡_, refl, sym, _∙_}
-use Prim.Native.Nat.{_-_, _≤_}
+use Prim.Native.Nat.{ℕ, _+_, _-_, _≤_}
 use native.Mathlib.Omega.{arith}
+use types.Run.{miss}
 use lib.ListN.{length, drop}
+use Rattle.reading.specs.Rules.{isNothing}
+use Rattle.reading.specs.Reading.{open′}
 use Rattle.reading.specs.Calls.{first}
-use Rattle.packet.specs.Verdict.{protocol2}
+use Rattle.packet_front.specs.declared.Begun.{Begun}
+use Rattle.packet_front.specs.declared.Begun.the-variants.{Nothing}
+use Rattle.packet.specs.Verdict.{protocol2, settledBy}
 use Rattle.packet.proofs.Laws.{laws}
-use Rattle.windows.specs.Scan.{modeOf}
-use Rattle.windows.proofs.Scans.{was-packet, was-bad, was-waiting, was-nothing, scan-packet, scan-bad, scan-nothing}
-use Rattle.windows.proofs.Scans.{scan-end, scan-waits, scan-wants, scan-past}
+use Rattle.packet.specs.declared.Judgement.{Judgement}
+use Rattle.packet.proofs.Looks.{Looked, Judged}
+use Rattle.windows.proofs.Scans.{scan-packet, scan-bad, scan-nothing, scan-end, scan-waits, scan-wants}
+use Rattle.windows.proofs.Looking.{look-at, fits-at, judge-at, judged-nothing, next-start}
+use borrow.Author.Needs.{needs}
 use Rattle.windows.proofs.scan.Statement.{statement}
 use Rattle.windows.proofs.scan.Tie as tie
 
 abbrev Inv-loop : tie.InvT-loop
-Inv-loop s from live at₀ at = (from ≤ at) × (at ≤ length s) ×
-    (first protocol2 (modeOf live) (drop from s) ≡ first protocol2 (modeOf live) (drop at s))
+Inv-loop s from at₀ at = (from ≤ at) × (at ≤ length s) × (first protocol2 open′ (drop from s) ≡ first protocol2 open′ (drop at s))
 
 abbrev μ-loop : tie.MeasureT-loop
-μ-loop s from live at₀ at = length s - at
+μ-loop s from at₀ at = length s - at
+
+next-ff-requires : tie.Need-next-ff-requires Inv-loop μ-loop
+next-ff-requires c κs = search needs
 
 loop-holds : tie.Need-loop-holds Inv-loop μ-loop
-loop-holds c = (search needs, search needs, refl)
+loop-holds c =
+    next-start (c .before .before .args .s .now) (c .before .before .args .from) (c .next-ff .result) (c .next-ff .ensures) open′ (search needs)
 
-judge-requires : tie.Need-judge-requires Inv-loop μ-loop
-judge-requires c κs = search needs
+sub-look : tie.Need-sub-look Inv-loop μ-loop
+sub-look c = search needs
 
-enum-known-count : tie.Need-enum-known-count Inv-loop μ-loop
-enum-known-count c = search needs
+part-look-start : tie.Need-part-look-start Inv-loop μ-loop
+part-look-start c = search needs
 
-returns : tie.Need-returns Inv-loop μ-loop
-returns c =
-    let j = c .before .before .before in
-    let i = j .before .before .loop .inv in
-    let v = was-packet _ _ _ (sym (j .judge .ensures) ∙ c .before .count .given .1) in
-    (scan-packet protocol2 laws _ _ _ _ (i .0) (i .2) _ (search needs) v, refl)
+part-look-end : tie.Need-part-look-end Inv-loop μ-loop
+part-look-end c = search needs
 
-enum-known-id : tie.Need-enum-known-id Inv-loop μ-loop
-enum-known-id c = search needs
-
-returns-2 : tie.Need-returns-2 Inv-loop μ-loop
-returns-2 c =
-    let j = c .before .before .before in
-    let i = j .before .before .loop .inv in
-    let v = was-bad _ _ _ (sym (j .judge .ensures) ∙ c .before .id .given .1) in
-    (scan-bad protocol2 laws _ _ _ _ (i .0) (i .2) _ (search needs) (search needs) v, refl)
-
-enum-known-lacks : tie.Need-enum-known-lacks Inv-loop μ-loop
-enum-known-lacks c = search needs
-
-returns-3 : tie.Need-returns-3 Inv-loop μ-loop
-returns-3 c =
-    let j = c .before .before .before .before in
-    let i = j .before .before .loop .inv in
-    let w = was-waiting _ _ _ (sym (j .judge .ensures) ∙ c .before .before .lacks .given .1) in (
-      scan-waits protocol2 laws _ _ _ (i .0) (search needs) (w .0) _ (c .if1 .taken) (i .2),
-      λ _. scan-wants protocol2 laws _ _ _ (i .0) (search needs) (w .0) _ (w .1),
-    )
+look-requires : tie.Need-look-requires Inv-loop μ-loop
+look-requires c κs = search needs
 
 enum-told : tie.Need-enum-told Inv-loop μ-loop
 enum-told c = search needs
 
-add-at : tie.Need-add-at Inv-loop μ-loop
-add-at c = search needs
+enum-known-lacks : tie.Need-enum-known-lacks Inv-loop μ-loop
+enum-known-lacks c = search needs
+
+-- what the look at the offset tells
+module _ (l : tie.After-look Inv-loop μ-loop) where
+  abbrev s : List ℕ
+  s = l .before .before .before .before .before .before .args .s .now
+
+  abbrev here : ℕ
+  here = l .before .before .before .loop .at
+
+  told : (b : Begun) → l .look .result ≡ b → Looked protocol2 settledBy (drop here s) b
+  told b e = look-at s here (l .look .result) (l .look .ensures) b e
+
+returns : tie.Need-returns Inv-loop μ-loop
+returns c =
+    let l = c .before .before .before in
+    let i = l .before .before .before .loop .inv in
+    let w = told l _ (c .before .lacks .given .1) in (
+      scan-waits protocol2 laws (s l) _ (here l) (i .0) (search needs) (w .0) (i .2),
+      λ _. scan-wants protocol2 laws (s l) _ (here l) (i .0) (search needs) (w .0) _ (w .1),
+    )
+
+enum-known-size : tie.Need-enum-known-size Inv-loop μ-loop
+enum-known-size c = search needs
+
+-- all bytes of a packet are there
+whole : (z : tie.After-size Inv-loop μ-loop) → here (z .before .before) + z .size .given .0 .0 ≤ length (s (z .before .before))
+whole z =
+    let l = z .before .before in
+    fits-at (s l) (here l) (l .look .result) (l .look .ensures) (z .size .given .0 .0) (z .size .given .1)
+
+add-judge-whole : tie.Need-add-judge-whole Inv-loop μ-loop
+add-judge-whole c = omega (arith, whole (c .before))
+
+sub-judge-whole : tie.Need-sub-judge-whole Inv-loop μ-loop
+sub-judge-whole c = search needs
+
+part-judge-whole-start : tie.Need-part-judge-whole-start Inv-loop μ-loop
+part-judge-whole-start c = search needs
+
+part-judge-whole-end : tie.Need-part-judge-whole-end Inv-loop μ-loop
+part-judge-whole-end c = whole (c .before)
+
+judge-whole-requires : tie.Need-judge-whole-requires Inv-loop μ-loop
+judge-whole-requires c κs = search needs
+
+enum-known-count : tie.Need-enum-known-count Inv-loop μ-loop
+enum-known-count c = search needs
+
+-- and what they are
+module _ (j : tie.After-judge-whole Inv-loop μ-loop) where
+  abbrev z : tie.After-size Inv-loop μ-loop
+  z = j .before .before .before
+
+  abbrev l : tie.After-look Inv-loop μ-loop
+  l = z .before .before
+
+  judgement : (v : Judgement) → j .judge-whole .result ≡ v → Judged protocol2 (drop (here l) (s l)) v
+  judgement v e =
+      judge-at (s l) (here l) (l .look .result) (l .look .ensures) (z .size .given .0 .0) (z .size .given .1) (j .judge-whole .result) v
+      (j .judge-whole .ensures) e
+
+returns-2 : tie.Need-returns-2 Inv-loop μ-loop
+returns-2 c =
+    let j = c .before .before .before in
+    let i = l j .before .before .before .loop .inv in
+    (scan-packet protocol2 laws _ (s (l j)) _ (here (l j)) (i .0) (i .2) _ (search needs) (judgement j _ (c .before .count .given .1)), refl)
+
+enum-known-id : tie.Need-enum-known-id Inv-loop μ-loop
+enum-known-id c = search needs
+
+returns-3 : tie.Need-returns-3 Inv-loop μ-loop
+returns-3 c =
+    let j = c .before .before .before in
+    let i = l j .before .before .before .loop .inv in
+    (scan-bad protocol2 laws _ (s (l j)) _ (here (l j)) (i .0) (i .2) _ (omega arith) (search needs) (judgement j _ (c .before .id .given .1)), refl)
+
+add-next-ff : tie.Need-add-next-ff Inv-loop μ-loop
+add-next-ff c = search needs
+
+next-ff-requires-2 : tie.Need-next-ff-requires-2 Inv-loop μ-loop
+next-ff-requires-2 c κs = search needs
 
 loop-less : tie.Need-loop-less Inv-loop μ-loop
 loop-less c = search needs
 
+-- an offset that is passed says nothing
+passed : (k : tie.At-match-came Inv-loop μ-loop) → protocol2 .verdict (drop (here (k .before)) (s (k .before))) ≡ isNothing
+passed k =
+    ⊎-elim (λ w. told (k .before) Nothing (w .1 .given .1) .0)
+    (λ w.
+    judged-nothing protocol2 (drop (here (k .before)) (s (k .before))) (w .4 .result)
+    (judge-at (s (k .before)) (here (k .before)) _ (k .before .look .ensures) (w .1 .given .0 .0) (w .1 .given .1) (w .4 .result) (w .4 .result) (w .4 .ensures) refl)
+    (λ n e. miss (2 ∷ 3 ∷ []) 0 tt (rw e at (w .5 .keys3)))
+    (λ id e. miss (2 ∷ 3 ∷ []) 1 tt (rw e at (w .5 .keys3))))
+    (k .match .came)
+
 loop-again : tie.Need-loop-again Inv-loop μ-loop
 loop-again c =
-    let i = c .before .before .before .loop .inv in (
-      search needs,
-      search needs,
-      ⊎-elim
-          (λ w.
-          scan-past protocol2 laws _ _ _ (i .0) (search needs)
-          ((was-waiting _ _ _ (sym (c .before .judge .ensures) ∙ w .1 .given .1)) .0) _ (w .3 .left) (i .2))
-          (λ w.
-          scan-nothing protocol2 laws _ _ _ _ (i .0) (i .2) (search needs)
-          (was-nothing _ _ (sym (c .before .judge .ensures) ∙ w .1 .given .1)))
-          (c .match .came),
-    )
+    let k = c .before in
+    let i = k .before .before .before .before .loop .inv in
+    let n = next-start (s (k .before)) (here (k .before) + 1) (c .next-ff2 .result) (c .next-ff2 .ensures) open′ (search needs) in
+    (omega (arith, i .0, n .0), n .1, scan-nothing protocol2 laws open′ (s (k .before)) _ (here (k .before)) (i .0) (i .2) (search needs) (passed k) ∙ n .2)
 
 returns-4 : tie.Need-returns-4 Inv-loop μ-loop
 returns-4 c =
     let i = c .before .loop .inv in
     let l = c .loop-test .left in
-    (scan-end protocol2 laws _ _ _ _ (i .0) (i .2) l (search needs), λ h. absurd (omega arith))
+    (scan-end protocol2 laws _ _ _ _ (i .0) (i .2) l (i .1), λ h. absurd (omega arith))
 
 pub scan-spec : {M : Type 1} → statement M
 scan-spec =
@@ -94,16 +165,27 @@ scan-spec =
     (tie.spec
     Inv-loop
     μ-loop
+    next-ff-requires
     loop-holds
-    judge-requires
-    enum-known-count
-    returns
-    enum-known-id
-    returns-2
-    enum-known-lacks
-    returns-3
+    sub-look
+    part-look-start
+    part-look-end
+    look-requires
     enum-told
-    add-at
+    enum-known-lacks
+    returns
+    enum-known-size
+    add-judge-whole
+    sub-judge-whole
+    part-judge-whole-start
+    part-judge-whole-end
+    judge-whole-requires
+    enum-known-count
+    returns-2
+    enum-known-id
+    returns-3
+    add-next-ff
+    next-ff-requires-2
     loop-less
     loop-again
     returns-4)

@@ -169,6 +169,8 @@ pub fn response(answer: Response) -> DeviceNumbers
         address: w.address,
         count: w.count,
         bytes,
+        min: w.min,
+        max: w.max,
     };
     let replied = answer.replied;
     match replied {

@@ -8,7 +8,7 @@ use native.Mathlib.Omega.{arith}
 use lib.Dec.{eqb}
 use lib.ListN.{length, take}
 use lib.Seq.{take-all}
-use borrow.Author.Tests.{eq-eqb, ne-eqb, le-leb, lt-leb}
+use borrow.Author.Tests.{eq-eqb, ne-eqb, le-leb, lt-leb, le-ltb}
 use Rattle.lists.specs.Answer.{unlessRefused}
 use Rattle.lists.specs.Write.{overwritten}
 use Rattle.lists.proofs.Bools.{both-ways}
@@ -26,6 +26,7 @@ use Rattle.packet.specs.Packet.{bodyOf, checksumRight, WellFormed}
 use Rattle.packet.specs.Verdict.{verdict, answerFor, wholeAnswer}
 use Rattle.packet.specs.declared.Judgement.{Judgement}
 use Rattle.packet.specs.declared.Judgement.the-variants.{Packet as Judgement·Packet, Nothing as Judgement·Nothing, Waiting as Judgement·Waiting}
+use Rattle.packet.proofs.Header.{headed}
 use Rattle.packet.proofs.Laws.{laws}
 use Rattle.packet.proofs.Looks.{look-nothing, look-waiting, look-size, look-long, look-header, look-whole}
 use Rattle.instructions.specs.Registered.{keptBy}
@@ -101,8 +102,8 @@ module _ (packet : List ℕ) where
       all : take n packet ≡ packet
       all = take-all n packet (omega arith)
 
-      pub begun-long : 9 ≤ length packet
-      begun-long = subst (λ (w : List ℕ). 9 ≤ length w) all (look-long packet n e)
+      pub begun-long : 10 ≤ length packet
+      begun-long = subst (λ (w : List ℕ). 10 ≤ length w) all (look-long packet n e)
 
       pub begun-header : take 4 packet ≡ header
       begun-header = ap (take 4) (sym all) ∙ look-header packet n e
@@ -113,7 +114,8 @@ module _ (packet : List ℕ) where
       pub right-sum : checksumRight packet ≡ true → wellStuffed (bodyOf packet) ≡ true → idHeard packet ≡ idOf packet
       right-sum h w =
           heard-whole (length packet)
-          (told-packet (wholeAnswer packet) _ (ap wholeAnswer (sym all) ∙ look-whole packet n e) (length packet) (rw (h, w))) refl
+          (told-packet (wholeAnswer packet) _ (ap wholeAnswer (sym all) ∙ look-whole packet n e) (length packet)
+          (rw (le-ltb (length packet) 10 begun-long, headed packet begun-header, h, w))) refl
 
 -- ---- the removal of the stuffing
 

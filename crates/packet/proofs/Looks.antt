@@ -5,18 +5,18 @@ use mathlib.Core.List.{List}
 use Prim.Native.Nat.{ℕ, _+_, _-_, _≤_, _<_}
 use native.Mathlib.Omega.{arith}
 use lib.ListN.{length, take, drop, length-drop}
-use lib.Seq.{length-take-le, take-all}
+use lib.Seq.{length-take-le, take-take, take-all}
 use Rattle.lists.proofs.Bools.{and-left, and-right}
 use Rattle.reading.specs.Rules.{Rules, isPacket, isBadChecksum, isWaiting, isNothing}
 use Rattle.reading.proofs.Ahead.{NoneBegins}
 use Rattle.stuffing.specs.Stuffing.{wellStuffed}
-use Rattle.packet_front.specs.Front.{idOf, lengthOf}
+use Rattle.packet_front.specs.Front.{header, idOf, lengthOf}
 use Rattle.packet_front.specs.Begun.{frontAgrees, lengthAgrees, sizeOf, complete, lacks, begunAs, begunBy, beforeFF}
 use Rattle.packet_front.specs.declared.Begun.{Begun}
 use Rattle.packet_front.specs.declared.Begun.the-variants.{Whole}
 use Rattle.packet_front.specs.declared.Begun.the-variants.{Nothing as Nothing·begun, Waiting as Waiting·begun}
 use Rattle.packet_front.proofs.Tests.{has-field, has-all}
-use Rattle.packet_front.proofs.Agreement.{length-bounds}
+use Rattle.packet_front.proofs.Agreement.{front-tests, front-header, length-bounds}
 use Rattle.packet_front.proofs.Starts.{none-before}
 use Rattle.packet.specs.Packet.{bodyOf, checksumRight}
 use Rattle.packet.specs.Verdict.{ruling, verdict, protocol2, answerFor, wholeAnswer, settledAs, settledBy}
@@ -101,6 +101,14 @@ module _ (s : List ℕ) where
 
     pub look-length : length (take m s) ≡ m
     look-length = length-take-le m s look-fits
+
+    pub look-long : 10 ≤ length (take m s)
+    look-long = omega (arith, look-length, bounds .0, w .2)
+
+    pub look-header : take 4 (take m s) ≡ header
+    look-header =
+        take-take 4 m s (omega (arith, bounds .0, w .2))
+        ∙ front-header s (front-tests s front) (omega (arith, has-field s (w .1)))
 
     pub look-whole : wholeAnswer (take m s) ≡ answerFor (verdict s) (lacks s)
     look-whole =

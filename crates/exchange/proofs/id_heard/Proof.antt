@@ -35,20 +35,23 @@ begun t = sym (t .before .before .before .look .ensures) ∙ t .before .n .given
 
 returns-2 : tie.Need-returns-2
 returns-2 c =
-    let t = c .before in sym (begun-beyond (t .before .before .before .before .before .args .packet .now) _ (begun t) (c .if1 .taken))
+    let t = c .before in sym (begun-beyond (t .before .before .before .before .before .args .packet .now) _ (begun t) (λ e. absurd (omega (arith, e, c .if1 .taken))))
 
 -- and they are all that is lent
-long : (k : tie.Else1) → 9 ≤ length (k .before .before .before .before .before .before .args .packet .now)
-long k = begun-long _ _ (begun (k .before)) (k .if1 .left)
+lent : (k : tie.Else1) → k .before .before .n .given .0 .0 ≡ length (k .before .before .before .before .before .before .args .packet .now)
+lent k = omega (arith, k .if1 .left)
+
+long : (k : tie.Else1) → 10 ≤ length (k .before .before .before .before .before .before .args .packet .now)
+long k = begun-long _ _ (begun (k .before)) (lent k)
 
 sub-end : tie.Need-sub-end
-sub-end c = omega (arith, long c, c .if1 .left)
+sub-end c = omega (arith, long c, lent c)
 
 sub-checksum : tie.Need-sub-checksum
-sub-checksum c = omega (arith, long (c), c .if1 .left)
+sub-checksum c = omega (arith, long c, lent c)
 
 part-checksum-start : tie.Need-part-checksum-start
-part-checksum-start c = omega (arith, long c, c .if1 .left)
+part-checksum-start c = omega (arith, long c, lent c)
 
 part-checksum-end : tie.Need-part-checksum-end
 part-checksum-end c = search needs
@@ -60,13 +63,13 @@ cast-if2 : tie.Need-cast-if2
 cast-if2 c = search needs
 
 shared-slice-read-word : tie.Need-shared-slice-read-word
-shared-slice-read-word c = let k = c .before .before .before in omega (arith, long k, k .if1 .left)
+shared-slice-read-word c = let k = c .before .before .before in omega (arith, long k, lent k)
 
 add-word : tie.Need-add-word
 add-word c = search needs
 
 shared-slice-read-word-2 : tie.Need-shared-slice-read-word-2
-shared-slice-read-word-2 c = let k = c .before .before .before .before in omega (arith, long k, k .if1 .left)
+shared-slice-read-word-2 c = let k = c .before .before .before .before in omega (arith, long k, lent k)
 
 word-requires : tie.Need-word-requires
 word-requires c κs = search needs
@@ -79,29 +82,29 @@ sum-test c =
     let k = c .before .before .before .before .before in
     let p = k .before .before .before .before .before .before .args .packet .now in
     let n = k .before .before .n .given .0 .0 in
-    let l : length p ≡ n = sym (k .if1 .left) in
+    let l : length p ≡ n = sym (lent k) in
     let last : length p - 1 ≡ n - 2 + 1 = omega (arith, l, long k) in
     ap₂ eqb
     (ap (λ (m : ℕ). crcFrom 0 (take (m - 2) p)) l
-    ∙ ap (crcFrom 0) (sym (after-header p (n - 2) (begun-header p n (begun (k .before)) (k .if1 .left)) (omega (arith, l, long k))))
+    ∙ ap (crcFrom 0) (sym (after-header p (n - 2) (begun-header p n (begun (k .before)) (lent k)) (omega (arith, l, long k))))
     ∙ sym (c .before .before .before .checksum .ensures))
     (ap₂ (λ (i j : ℕ). word (getD p (i - 2) 0) (getD p j 0)) l last ∙ sym (c .word .ensures))
 
 returns-3 : tie.Need-returns-3
 returns-3 c =
     let k = c .before .before .before .before .before .before in
-    sym (wrong-sum (k .before .before .before .before .before .before .args .packet .now) _ (begun (k .before)) (k .if1 .left)
+    sym (wrong-sum (k .before .before .before .before .before .before .args .packet .now) _ (begun (k .before)) (lent k)
     (sum-test (c .before) ∙ ne-eqb _ _ (c .if2 .taken)))
 
 shared-slice-read-result : tie.Need-shared-slice-read-result
 shared-slice-read-result c =
-    let k = c .before .before .before .before .before .before .before in omega (arith, long k, k .if1 .left)
+    let k = c .before .before .before .before .before .before .before in omega (arith, long k, lent k)
 
 returns-4 : tie.Need-returns-4
 returns-4 c =
     let k = c .before .before .before .before .before .before .before in
     let b = k .before .before .before .before .before .before in
-    sym (right-sum (b .args .packet .now) _ (begun (k .before)) (k .if1 .left) (sum-test (c .before .before) ∙ eq-eqb _ _ (c .before .if2 .left)) (b .pre))
+    sym (right-sum (b .args .packet .now) _ (begun (k .before)) (lent k) (sum-test (c .before .before) ∙ eq-eqb _ _ (c .before .if2 .left)) (b .pre))
 
 pub id-heard-spec : {M : Type 1} → statement M
 id-heard-spec =

@@ -251,7 +251,10 @@ def narrow(talk):
     # The goal position is 1024. Limits that leave it outside are refused, so that it is moved first.
     talk.ask("Write of max position 1000", WRITE, at(MAX_POSITION, 1000), "06: the goal position is above it", error=0x06)
     talk.ask("Write of goal position", WRITE, at(GOAL_POSITION, 900), "stored: 900")
+    talk.ask("Reg Write of goal position", REG_WRITE, at(GOAL_POSITION, 800), "registered: 800, under max position 4095")
     talk.ask("Write of max position 1000", WRITE, at(MAX_POSITION, 1000), "stored: the goal position is inside")
+    talk.ask("Action", ACTION, b"", "06: the limits are others by now", error=0x06)
+    talk.read("goal position", GOAL_POSITION, 900, 4)
     talk.ask("Write of max position", WRITE, at(MAX_POSITION, 4095), "stored: 4095 again")
 
 

@@ -177,7 +177,8 @@ enum {
     DXL_ERROR_CHECKSUM = 0x03,    /* a packet to the own ID with a wrong checksum */
     DXL_ERROR_DATA_RANGE = 0x04,  /* a value outside its register's range, or an unknown option of Factory Reset */
     DXL_ERROR_DATA_LENGTH = 0x05, /* a wrong count of parameters, a length of 0, or a register written in part */
-    DXL_ERROR_DATA_LIMIT = 0x06,  /* min, max or goal position written, and the goal would lie outside the limits */
+    DXL_ERROR_DATA_LIMIT = 0x06,  /* min, max or goal position written, and the goal would lie outside the limits; or Action, and
+                                     the limits are not those at which its write was registered */
     DXL_ERROR_ACCESS = 0x07,      /* an undefined byte, a read-only one, or ROM while torque is on */
     DXL_ERROR_ALERT = 0x80
 };
@@ -389,11 +390,13 @@ int64_t dxl_fresh(uint8_t *table, size_t n);
 int64_t dxl_measure(uint8_t *table, size_t n, int32_t position, uint8_t hardware_error);
 
 /* A write that waits for Action. Begin with all 0, and pass each call of dxl_device or dxl_exchange what the last one
- * returned. */
+ * returned. min and max are new after 0.1.0: firmware that was compiled with that header must be compiled again. */
 struct dxl_registered {
     uint16_t address;
     uint8_t count; /* how many of bytes are to be written, at most 8; 0 if no write waits */
     uint8_t bytes[8];
+    int32_t min; /* min and max position as they stood in the table when the write was registered; any numbers are accepted */
+    int32_t max;
 };
 
 /* What a call of the device returns. */
@@ -424,6 +427,9 @@ struct dxl_answer {
  * The instruction changes the table. One that is refused with an error in the status leaves it as it was, except that Action
  * drops the registered write that it found and sets byte 69 to 0. The status packet starts at byte 0 of reply, and the bytes
  * after it stay as they were; for silence all of reply stays.
+ *
+ * Action carries a registered write out only if the min and max position in the table are those at which it was registered. Else
+ * it is dropped with DXL_ERROR_DATA_LIMIT, whatever it would write: a master that moves the limits registers anew.
  *
  * On a table that dxl_fresh has filled and only calls of this library have changed, the goal position is never below the min
  * position nor above the max position, whatever was heard. A write of the limits that would leave it outside is refused with

@@ -65,6 +65,7 @@ SHOWN = """
 < FF FF FD 00 01 04 00 55 06 B5 0C  06: min above max
 < FF FF FD 00 01 04 00 55 06 B5 0C  06: the goal position is above it
 < FF FF FD 00 01 04 00 55 00 A1 0C  stored: the goal position is inside
+< FF FF FD 00 01 04 00 55 06 B5 0C  06: the limits are others by now
 > FF FF FD 00 01 0A 00 03 14 00 FF FF FD FD FF 23 83
 < FF FF FD 00 01 05 00 55 00 01 56 A1  in slot 1: the lamp is on
 < FF FF FD 00 01 05 00 55 00 00 53 21  in slot 1: the lamp is off

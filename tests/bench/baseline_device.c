@@ -173,6 +173,8 @@ static uint8_t action(uint8_t *table, struct dxl_registered *registered)
         return UNDEFINED;
     memset(registered, 0, sizeof *registered);
     table[REGISTERED] = 0;
+    if (turn.min != number(table + MIN, 4) || turn.max != number(table + MAX, 4))
+        return LIMIT;
     return store(table, turn.address, turn.bytes, turn.count);
 }
 
@@ -184,6 +186,8 @@ static uint8_t reg_write(uint8_t *table, struct dxl_registered *registered, size
         registered->address = (uint16_t)address;
         registered->count = (uint8_t)n;
         memcpy(registered->bytes, data, n);
+        registered->min = number(table + MIN, 4);
+        registered->max = number(table + MAX, 4);
         table[REGISTERED] = 1;
     }
     return error;

@@ -132,7 +132,7 @@ static void call_measure(void)
 /* To the device itself and to all, as a packet and as a bad checksum, with and without a registered write. */
 static void call_device(void)
 {
-    struct dxl_registered registered[2] = {{0, 0, {0}}, {116, 4, {0}}};
+    struct dxl_registered registered[2] = {{0, 0, {0}, 0, 0}, {116, 4, {0}, 0, 4095}};
     MARK_TOP();
     for (int i = 0; i < 8; i++) {
         uint8_t id = i & 1 ? 1 : DXL_BROADCAST_ID, kind = i & 2 ? DXL_PACKET : DXL_BAD_CHECKSUM;
@@ -144,7 +144,7 @@ static void call_device(void)
 /* The same as packets in their bytes. */
 static void call_exchange(void)
 {
-    struct dxl_registered registered[2] = {{0, 0, {0}}, {116, 4, {0}}};
+    struct dxl_registered registered[2] = {{0, 0, {0}, 0, 0}, {116, 4, {0}, 0, 4095}};
     MARK_TOP();
     for (int i = 0; i < 4; i++) {
         const uint8_t *bytes = received[i & 1];

@@ -137,11 +137,34 @@ static void in_one_call(void)
     expect(last_slot == 1 && table[117] == 2 && table[104] == 200, "in one call: slot or table are not those wanted", 0);
 }
 
+/* Action needs the limits at which the write was registered, though the goal suits those from before and those after it. */
+static void changed_limits(void)
+{
+    static const struct dxl_registered none;
+    const uint8_t goal[] = {DXL_INST_REG_WRITE, 116, 0, 0, 2, 0, 0}, max[] = {DXL_INST_WRITE, 48, 0, 0xA0, 0x0F, 0, 0};
+    const uint8_t action[] = {DXL_INST_ACTION};
+    uint8_t other[DXL_TABLE_BYTES], left[DXL_TABLE_BYTES];
+    dxl_fresh(other, sizeof other);
+    struct dxl_answer answer = dxl_device(other, sizeof other, none, DXL_PACKET, 1, goal, sizeof goal, reply, sizeof reply);
+    expect(answer.count == 11 && reply[8] == 0 && answer.registered.min == 0 && answer.registered.max == 4095,
+           "the registered write does not carry the limits", 0);
+    answer = dxl_device(other, sizeof other, answer.registered, DXL_PACKET, 1, max, sizeof max, reply, sizeof reply);
+    expect(answer.count == 11 && reply[8] == 0 && answer.registered.max == 4095, "max position is not lowered", 0);
+    memcpy(left, other, sizeof left);
+    left[DXL_REG_REGISTERED_INSTRUCTION] = 0;
+    answer = dxl_device(other, sizeof other, answer.registered, DXL_PACKET, 1, action, sizeof action, reply, sizeof reply);
+    expect(answer.count == 11 && reply[8] == DXL_ERROR_DATA_LIMIT, "a turn of the old limits is carried out", 0);
+    expect(memcmp(other, left, sizeof left) == 0, "more than byte 69 is written", 0);
+    expect(answer.registered.address == 0 && answer.registered.count == 0 && memcmp(answer.registered.bytes, none.bytes, 8) == 0
+               && answer.registered.min == 0 && answer.registered.max == 0,
+           "the dropped write is not all 0", 0);
+}
+
 /* Every refusal once; nothing else changes. */
 static void refusals(void)
 {
     static const struct dxl_registered none;
-    struct dxl_registered long_one = {104, 9, {1, 2, 3, 4, 5, 6, 7, 8}};
+    struct dxl_registered long_one = {104, 9, {1, 2, 3, 4, 5, 6, 7, 8}, -7, 7};
     const uint8_t ping[] = {0x01};
     uint8_t other[DXL_TABLE_BYTES];
     dxl_fresh(other, sizeof other);
@@ -154,7 +177,8 @@ static void refusals(void)
     other[7] = 1;
     answer = dxl_device(other, sizeof other, long_one, DXL_PACKET, 1, ping, 1, reply, 0);
     expect(answer.count == -DXL_BAD_REGISTERED && answer.registered.address == 104 && answer.registered.count == 9
-               && memcmp(answer.registered.bytes, long_one.bytes, 8) == 0,
+               && memcmp(answer.registered.bytes, long_one.bytes, 8) == 0 && answer.registered.min == -7
+               && answer.registered.max == 7,
            "a registered write of nine bytes is accepted or changed", 0);
     answer = dxl_device(other, sizeof other, none, DXL_NO_EVENT, 1, ping, 1, reply, DXL_MIN_REPLY - 1);
     expect(answer.count == -DXL_SHORT_REPLY, "a short reply buffer is accepted", 0);
@@ -190,6 +214,7 @@ int main(void)
         exchange(chunks[i], 1);
     }
     in_one_call();
+    changed_limits();
     refusals();
     if (failures != 0)
         return 1;

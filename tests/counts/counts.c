@@ -387,7 +387,7 @@ static const struct heard heard[] = {
 /* The device and its buffers as each call finds them. */
 static void begin(const struct heard *what)
 {
-    static const struct dxl_registered none, goal = {DXL_REG_GOAL_POSITION, 4, {5}};
+    static const struct dxl_registered none, goal = {DXL_REG_GOAL_POSITION, 4, {5}, 0, 4095};
     dxl_fresh(lent.table, sizeof lent.table);
     lent.table[DXL_REG_REGISTERED_INSTRUCTION] = what->registered;
     memset(lent.reply, 0, sizeof lent.reply);

@@ -206,7 +206,7 @@ fn id_of_kind(kind: u8, id: u8) -> u8
 }
 
 // Kind 1 is a packet, 2 a bad checksum. With any other kind nothing was heard: it counts as sent to an ID that no device has.
-// [D1-D37 D40-D47 G5 N5-N8 N10-N12 T1-T3 T6-T20]
+// [D1-D37 D40-D49 G5 N5-N8 N10-N12 T1-T3 T6-T20]
 #[no_mangle]
 pub extern "C" fn dxl_device(
     table: &mut [u8],
@@ -229,7 +229,7 @@ pub extern "C" fn dxl_device(
 }
 
 // The device call on a packet as received; its body is written to `body` without its stuffing. What is no well-formed packet is
-// met with silence. [D38-D42 G5 N3 N4 T20]
+// met with silence. [D38-D42 D49 G5 N3 N4 T20]
 #[no_mangle]
 pub extern "C" fn dxl_exchange(
     table: &mut [u8],

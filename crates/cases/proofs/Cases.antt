@@ -7,6 +7,7 @@ use mathlib.Core.Logic.{⊎-elim}
 use Prim.Native.Nat.{ℕ}
 use native.Mathlib.Omega.{arith}
 use lib.Dec.{eqb}
+use lib.IntN.{ℤ}
 use lib.ListN.{length}
 use lib.Seq.{take-length}
 use borrow.Author.Tests.{eqb-true}
@@ -25,11 +26,13 @@ use Rattle.packet.proofs.Laws.{laws}
 use Rattle.encoder.specs.Writing.{withChecksum, packetOf}
 use Rattle.registers.specs.Registers.{registers, permitsBy}
 use Rattle.lists.specs.Numbers.{numberAt, bytesOf}
-use Rattle.items.specs.Items.{valueAt, put}
+use Rattle.items.specs.Items.{same as sameNumber, valueAt, put}
+use Rattle.items.proofs.Same.{same-equal}
 use Rattle.control_table.specs.Fresh.{freshened}
 use Rattle.registers.specs.Registers.{everyByte}
 use Rattle.table_rules.specs.Rules.{everyTouched, goalInside, limitsKept, writeRule, readRule}
-use Rattle.instructions.specs.Instructions.{read, write, action}
+use Rattle.instructions.specs.Instructions.{read, write, regWrite, action}
+use Rattle.instructions.specs.Registered.{sameLimits}
 use Rattle.parameters.specs.Entries.{occurs, searchFrom}
 use Rattle.reactions.specs.Reactions.{heardInstruction}
 use Rattle.device.specs.Device.{executed}
@@ -69,17 +72,27 @@ packet-of isWaiting n e = let z : _≡_ {A = ℕ} 0 1 = cc in absurd (omega arit
 packet-of isNothing n e = let z : _≡_ {A = ℕ} 0 1 = cc in absurd (omega arith)
 
 abbrev sameRegistered : RegisteredWrite → RegisteredWrite → Bool
-sameRegistered v w = eqb (v .address) (w .address) && (eqb (v .count) (w .count) && same (v .bytes) (w .bytes))
+sameRegistered v w =
+    eqb (v .address) (w .address)
+    && (eqb (v .count) (w .count) && (same (v .bytes) (w .bytes) && (sameNumber (v .min) (w .min) && sameNumber (v .max) (w .max))))
 
 same-registered : (v w : RegisteredWrite) → sameRegistered v w ≡ true → v ≡ w
 same-registered v w e =
     let a = eqb (v .address) (w .address) in
     let n = eqb (v .count) (w .count) in
     let b = same (v .bytes) (w .bytes) in
-    let r = and-right a (n && b) e in
-    ap (λ (x : ℕ). record { address = x; count = v .count; bytes = v .bytes }) (eqb-true (v .address) (w .address) (and-left a (n && b) e))
-    ∙ ap₂ (λ (x : ℕ) (l : List ℕ). record { address = w .address; count = x; bytes = l })
-    (eqb-true (v .count) (w .count) (and-left n b r)) (same-lists (v .bytes) (w .bytes) (and-right n b r))
+    let low = sameNumber (v .min) (w .min) in
+    let high = sameNumber (v .max) (w .max) in
+    let r = and-right a (n && (b && (low && high))) e in
+    let q = and-right n (b && (low && high)) r in
+    let l = and-right b (low && high) q in
+    ap₂ (λ (x y : ℕ). record { address = x; count = y; bytes = v .bytes; min = v .min; max = v .max })
+    (eqb-true (v .address) (w .address) (and-left a (n && (b && (low && high))) e))
+    (eqb-true (v .count) (w .count) (and-left n (b && (low && high)) r))
+    ∙ ap (λ (x : List ℕ). record { address = w .address; count = w .count; bytes = x; min = v .min; max = v .max })
+    (same-lists (v .bytes) (w .bytes) (and-left b (low && high) q))
+    ∙ ap₂ (λ (x y : ℤ). record { address = w .address; count = w .count; bytes = w .bytes; min = x; max = y })
+    (same-equal (v .min) (w .min) (and-left low high l)) (same-equal (v .max) (w .max) (and-right low high l))
 
 abbrev sameAnswer : DeviceAnswer → DeviceAnswer → Bool
 sameAnswer (sent n slot) (sent m place) = eqb n m && eqb slot place
@@ -163,5 +176,5 @@ each (d ∷ cs) e c m =
 
 -- the test is computed here
 pub cases-hold : CasesHold
-unfolding reachesAcross reduceIf shift shifts crcByte crcFrom stuffAfter wellAfter unstuffAfter lengthOf bodyOf checksumRight withChecksum packetOf frontAgrees lengthAgrees verdict registers permitsBy numberAt valueAt bytesOf put freshened everyByte everyTouched goalInside limitsKept writeRule readRule read write action occurs searchFrom heardInstruction executed stateRefusal roomRefusal callRefusal removalRefusal idHeard
+unfolding reachesAcross reduceIf shift shifts crcByte crcFrom stuffAfter wellAfter unstuffAfter lengthOf bodyOf checksumRight withChecksum packetOf frontAgrees lengthAgrees verdict registers permitsBy numberAt valueAt bytesOf put freshened everyByte everyTouched goalInside limitsKept writeRule readRule read write sameLimits regWrite action occurs searchFrom heardInstruction executed stateRefusal roomRefusal callRefusal removalRefusal idHeard
 cases-hold = each table refl

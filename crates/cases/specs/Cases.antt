@@ -10,14 +10,14 @@ use Rattle.stuffing.specs.Stuffing.{stuff, wellStuffed, unstuff}
 use Rattle.packet.specs.Packet.{WellFormed}
 use Rattle.packet.specs.Verdict.{verdict, protocol2}
 use Rattle.encoder.specs.Writing.{packetOf}
-use Rattle.registers.specs.Registers.{minPosition, goalPosition}
+use Rattle.registers.specs.Registers.{maxPosition, minPosition, goalPosition}
 use Rattle.items.specs.Items.{put}
 use Rattle.control_table.specs.Fresh.{freshTable}
 use Rattle.instructions.specs.Registered.{dropped}
 use Rattle.device.specs.Answers.{DeviceAnswer, sent, refused}
 use Rattle.exchange.specs.Demand1.{packetError}
-use Rattle.cases.specs.Exchanges.{Lent, answerTo, leftAfter, lending, left, at166, goalAt512, registeredTable, goalTooLarge, markedLimits}
-use Rattle.cases.specs.Exchanges.{pingWrongSum, pingWithParameter, lengthStatus, actionTo1, actionToAll, rangeStatus, raiseMin, limitStatus, syncReadPosition, bulkReadGoal, zeroStatus, bulkWriteGoal, readLimits, longestStatus}
+use Rattle.cases.specs.Exchanges.{Lent, answerTo, leftAfter, lending, left, at166, goalAt512, registeredTable, goalTooLarge, goalRegistered, markedLimits}
+use Rattle.cases.specs.Exchanges.{pingWrongSum, pingWithParameter, lengthStatus, actionTo1, actionToAll, rangeStatus, raiseMin, limitStatus, registerGoal, lowerMax, syncReadPosition, bulkReadGoal, zeroStatus, bulkWriteGoal, readLimits, longestStatus}
 
 pub data Case : Type 0 where
   -- the packet with an ID and a body, and its bytes
@@ -104,6 +104,15 @@ table =
     (left freshTable dropped 7 (0x03 ∷ 0x34 ∷ 0x00 ∷ 0x00 ∷ 0x02 ∷ 0x00 ∷ 0x00 ∷ []) limitStatus)
     ∷ exchange raiseMin (lending goalAt512 dropped 7) (sent 11 0)
     (left (put goalAt512 minPosition 512) dropped 7 (0x03 ∷ 0x34 ∷ 0x00 ∷ 0x00 ∷ 0x02 ∷ 0x00 ∷ 0x00 ∷ []) writeStatus)
+    -- a goal position is registered, max position is lowered, Action follows: refused, and all that was registered is 0
+    ∷ exchange registerGoal (lending freshTable dropped 7) (sent 11 0)
+    (left registeredTable goalRegistered 7 (take 7 (drop 7 registerGoal)) writeStatus)
+    ∷ exchange lowerMax (lending registeredTable goalRegistered 7) (sent 11 0)
+    (left (put registeredTable maxPosition 4000) goalRegistered 7 (take 7 (drop 7 lowerMax)) writeStatus)
+    ∷ exchange actionTo1 (lending (put registeredTable maxPosition 4000) goalRegistered 1) (sent 11 0)
+    (left (put freshTable maxPosition 4000) dropped 1 (0x05 ∷ []) limitStatus)
+    -- and without that it is carried out
+    ∷ exchange actionTo1 (lending registeredTable goalRegistered 1) (sent 11 0) (left goalAt512 dropped 1 (0x05 ∷ []) writeStatus)
     -- the third of a Sync Read's list; the longest status
     ∷ exchange syncReadPosition (lending at166 dropped 8) (sent 15 2)
     (left at166 dropped 8 (0x82 ∷ 0x84 ∷ 0x00 ∷ 0x04 ∷ 0x00 ∷ 0x03 ∷ 0x02 ∷ 0x01 ∷ []) readStatus)

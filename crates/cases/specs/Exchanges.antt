@@ -59,7 +59,24 @@ registeredTable = put freshTable registeredInstruction 1
 
 abbrev pub goalTooLarge : RegisteredWrite
 goalTooLarge =
-    record { address = 116; count = 4; bytes = 0x00 ∷ 0x10 ∷ 0x00 ∷ 0x00 ∷ 0x00 ∷ 0x00 ∷ 0x00 ∷ 0x00 ∷ [] }
+    record {
+      address = 116;
+      count = 4;
+      bytes = 0x00 ∷ 0x10 ∷ 0x00 ∷ 0x00 ∷ 0x00 ∷ 0x00 ∷ 0x00 ∷ 0x00 ∷ [];
+      min = pos 0;
+      max = pos 4095;
+    }
+
+-- goal position 512, registered at the limits of a fresh table
+abbrev pub goalRegistered : RegisteredWrite
+goalRegistered =
+    record {
+      address = 116;
+      count = 4;
+      bytes = 0x00 ∷ 0x02 ∷ 0x00 ∷ 0x00 ∷ 0x00 ∷ 0x00 ∷ 0x00 ∷ 0x00 ∷ [];
+      min = pos 0;
+      max = pos 4095;
+    }
 
 -- one with FF FF FD 00 in both limits of the position
 abbrev pub markedLimits : List ℕ
@@ -93,6 +110,15 @@ raiseMin = 0xFF ∷ 0xFF ∷ 0xFD ∷ 0x00 ∷ 0x01 ∷ 0x09 ∷ 0x00 ∷ 0x03 �
 
 abbrev pub limitStatus : List ℕ
 limitStatus = 0xFF ∷ 0xFF ∷ 0xFD ∷ 0x00 ∷ 0x01 ∷ 0x04 ∷ 0x00 ∷ 0x55 ∷ 0x06 ∷ 0xB5 ∷ 0x0C ∷ []
+
+-- Reg Write of 512 at 116, and Write of 4000 at 48
+abbrev pub registerGoal : List ℕ
+registerGoal =
+    0xFF ∷ 0xFF ∷ 0xFD ∷ 0x00 ∷ 0x01 ∷ 0x09 ∷ 0x00 ∷ 0x04 ∷ 0x74 ∷ 0x00 ∷ 0x00 ∷ 0x02 ∷ 0x00 ∷ 0x00 ∷ 0xB9 ∷ 0x0E ∷ []
+
+abbrev pub lowerMax : List ℕ
+lowerMax =
+    0xFF ∷ 0xFF ∷ 0xFD ∷ 0x00 ∷ 0x01 ∷ 0x09 ∷ 0x00 ∷ 0x03 ∷ 0x30 ∷ 0x00 ∷ 0xA0 ∷ 0x0F ∷ 0x00 ∷ 0x00 ∷ 0x5F ∷ 0x69 ∷ []
 
 -- Sync Read of four bytes at 132 from 3, 2 and 1
 abbrev pub syncReadPosition : List ℕ

@@ -12,7 +12,7 @@ use Rattle.lists.specs.Answer.{unlessRefused}
 use Rattle.registers.specs.Registers.{tableSize}
 use Rattle.table_rules.specs.Rules.{readRule}
 use Rattle.control_table.proofs.Theorems.{read-short}
-use Rattle.instructions.proofs.Options.{pick, each-option}
+use Rattle.instructions.proofs.Options.{each-option, each-action}
 use Rattle.instructions.proofs.Errors.{read-number, write-number}
 use Rattle.reactions.proofs.Every.{every}
 use Rattle.device.proofs.Replies.{to-whomever}
@@ -61,8 +61,7 @@ module _ (table : List ℕ) (w : RegisteredWrite) (sized : length table ≡ tabl
   reg-write-small address bytes = none-small _ refl (write-number table address bytes)
 
   action-small : Small (action table w)
-  unfolding action
-  action-small = pick Small (eqb (w .count) 0) _ _ (none-small _ refl (omega arith)) (write-small _ _ _ _)
+  action-small = each-action Small table w (none-small _ refl (omega arith)) (write-small _ _ _ _) (none-small _ refl (omega arith))
 
   executed-small : (heard : Heard) (id : ℕ) (body : List ℕ) → Small (executed table w heard id body .effect)
   executed-small heard id body =

@@ -5,4 +5,5 @@ pub mod Stays
 pub mod Unheard
 pub mod Demand1
 pub mod Written
+pub mod ActionLimits
 pub mod Promises

@@ -5,13 +5,13 @@ use mathlib.Core.List.{List}
 use mathlib.Core.Option.{Option, none, some}
 use Prim.Native.Nat.{ℕ, _≤_}
 use native.Mathlib.Omega.{arith}
-use lib.Dec.{eqb, leb}
+use lib.Dec.{leb}
 use lib.ListN.{length}
 use borrow.Author.Tests.{le-leb}
 use Rattle.lists.specs.Answer.{unlessRefused}
 use Rattle.registers.specs.Registers.{tableSize}
-use Rattle.instructions.specs.Instructions.{Effect, read, write, action}
-use Rattle.instructions.proofs.Options.{pick, each-option}
+use Rattle.instructions.specs.Instructions.{Effect, read, write}
+use Rattle.instructions.proofs.Options.{each-option, each-action}
 use Rattle.instructions.proofs.Kept.{Kept, write-keeps, reg-write-keeps, action-keeps, factory-reset-keeps}
 use Rattle.instructions.proofs.Fit.{reg-write-short}
 use Rattle.reactions.specs.Reactions.{Reaction}
@@ -42,11 +42,11 @@ module _ (P : List ℕ → Type 0) (kept : Kept P) (table : List ℕ) (p : P tab
 
 module _ (table : List ℕ) (w : RegisteredWrite) (heard : Heard) (id : ℕ) (body : List ℕ) where
   executed-short : length table ≡ tableSize → w .count ≤ 8 → executed table w heard id body .effect .registered .count ≤ 8
-  unfolding read write action
+  unfolding read write
   executed-short sized short =
       to-whomever table w heard id body (λ (r : Reaction). r .effect .registered .count ≤ 8)
       (λ all. every (λ acting (e : Effect). e .registered .count ≤ 8) table w (λ error le. short) short short (λ address n. short) (λ address bytes. short)
-      (reg-write-short table w sized short) (pick (λ (e : Effect). e .registered .count ≤ 8) (eqb (w .count) 0) _ _ short (omega arith)) (omega arith)
+      (reg-write-short table w sized short) (each-action (λ (e : Effect). e .registered .count ≤ 8) table w short (omega arith) (omega arith)) (omega arith)
       (each-option (λ (e : Effect). e .registered .count ≤ 8) table w (λ keeps low high. omega arith) short) heard all body)
       short
 

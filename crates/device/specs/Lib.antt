@@ -3,4 +3,5 @@ pub mod Answers
 pub mod Results
 pub mod Demand1
 pub mod Written
+pub mod ActionLimits
 pub mod Promises

@@ -158,7 +158,7 @@ fn with_slot(written: Written, slot: usize) -> Replied
     }
 }
 
-// The device call. Faults of the caller come first, whatever was heard, and change nothing. [D1-D37 D43-D47 G4 M4 N5-N8 N10-N12 N14]
+// The device call. Faults of the caller come first, whatever was heard, and change nothing. [D1-D37 D43-D49 G4 M4 N5-N8 N10-N12 N14]
 pub fn hear(
     table: &mut [u8],
     registered: RegisteredWrite,

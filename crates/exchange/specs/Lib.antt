@@ -2,6 +2,7 @@ pub mod Exchange
 pub mod OnlyPackets
 pub mod Demand1
 pub mod Written
+pub mod ActionLimits
 pub mod Calls
 pub mod Stays
 pub mod GoalWithinLimits

@@ -1,4 +1,4 @@
--- What Action writes: the bytes of the registered write, on a table whose byte 69 is 0.
+-- What Action leaves: byte 69 is 0, and the bytes of the registered write are written where the limits have not changed.
 use mathlib.Core.Path.{_≡_, refl, sym, ap, ap₂, _∙_}
 use mathlib.Core.Bool.{Bool, true, false, cond}
 use mathlib.Core.List.{List}
@@ -8,13 +8,18 @@ use lib.Dec.{leb}
 use lib.ListN.{length, take, set, length-set}
 use lib.Seq.{take-all}
 use borrow.Author.Tests.{ne-eqb, leb-true, leb-false}
-use Rattle.registers.specs.Registers.{tableSize, registeredInstruction}
+use Rattle.lists.proofs.Bools.{and-left, and-right}
+use Rattle.registers.specs.Registers.{tableSize, minPosition, maxPosition, registeredInstruction}
+use Rattle.items.specs.Items.{valueOf, same, put}
+use Rattle.items.proofs.Same.{same-equal}
 use Rattle.control_table.proofs.Put.{put-byte}
-use Rattle.instructions.specs.Registered.{dropped}
-use Rattle.instructions.specs.Instructions.{write, action}
+use Rattle.instructions.specs.Registered.{dropped, sameLimits, LimitsOf}
+use Rattle.instructions.specs.Instructions.{Effect, refusing, write, action}
 use Rattle.instructions.specs.Results.{sized}
 use Rattle.instructions.proofs.Sized.{of-size}
 use Rattle.instructions.specs.declared.RegisteredWrite.{RegisteredWrite}
+
+-- ---- how many bytes
 
 pub eight : (count n : ℕ) → n ≡ cond (leb count 8) count 8 → n ≤ 8
 eight count n e = by-count (leb count 8) refl e
@@ -33,11 +38,48 @@ all-eight count n bytes l e = ap (λ (k : ℕ). take k bytes) e ∙ by-count (le
         let h = leb-false count 8 t in
         take-all 8 bytes (omega arith) ∙ sym (take-all count bytes (omega arith))
 
-module _ (table : List ℕ) (w : RegisteredWrite) (n : ℕ) (s : length table ≡ tableSize) (l : length (w .bytes) ≡ 8) where
-  pub acted : (w .count ≡ 0 → ⊥) → n ≡ cond (leb (w .count) 8) (w .count) 8
-      → sized (set table 69 0) dropped (write (set table 69 0) dropped (w .address) (take n (w .bytes))) ≡ action table w
-  unfolding action
-  acted z e =
-      of-size (set table 69 0) dropped _ (simp length-set s)
-      ∙ ap₂ (λ (t b : List ℕ). write t dropped (w .address) b) (sym (put-byte table registeredInstruction 0 refl (omega arith) (omega arith))) (all-eight (w .count) n (w .bytes) l e)
-      ∙ sym (rw (ne-eqb (w .count) 0 z))
+-- ---- the test and the equations
+
+pub limits-of : (table : List ℕ) (w : RegisteredWrite) → sameLimits table w ≡ true → LimitsOf table w
+unfolding sameLimits
+limits-of table w e =
+    let low = same (valueOf minPosition table) (w .min) in
+    let high = same (valueOf maxPosition table) (w .max) in
+    record { same-min = sym (same-equal _ _ (and-left low high e)); same-max = sym (same-equal _ _ (and-right low high e)) }
+
+pub not-limits : (table : List ℕ) (w : RegisteredWrite) → ¬ LimitsOf table w → sameLimits table w ≡ false
+not-limits table w n = by-test (sameLimits table w) refl
+  where
+    by-test : (b : Bool) → sameLimits table w ≡ b → b ≡ false
+    by-test true e = absurd (n (limits-of table w e))
+    by-test false e = refl
+
+-- ---- what is left
+
+module _ (table : List ℕ) (w : RegisteredWrite) (s : length table ≡ tableSize) where
+  cleared : set table 69 0 ≡ put table registeredInstruction 0
+  cleared = sym (put-byte table registeredInstruction 0 refl (omega arith) (omega arith))
+
+  module _ (z : w .count ≡ 0 → ⊥) where
+    -- the limits have changed
+    pub not-acted : sameLimits table w ≡ false → refusing (set table 69 0) dropped 0x06 ≡ action table w
+    unfolding action
+    not-acted f = ap (λ (t : List ℕ). refusing t dropped 0x06) cleared ∙ sym (rw (ne-eqb (w .count) 0 z, f))
+
+    -- an Action that is not refused has found them as they were
+    pub acts-on-same : action table w .error ≡ 0 → sameLimits table w ≡ true
+    acts-on-same e = by-limits (sameLimits table w) refl
+      where
+        by-limits : (b : Bool) → sameLimits table w ≡ b → b ≡ true
+        by-limits true f = refl
+        by-limits false f =
+            let n : _≡_ {A = ℕ} 6 0 = ap (λ (e : Effect). e .error) (not-acted f) ∙ e in
+            absurd (omega arith)
+
+    pub acted : (n : ℕ) → length (w .bytes) ≡ 8 → sameLimits table w ≡ true → n ≡ cond (leb (w .count) 8) (w .count) 8
+        → sized (set table 69 0) dropped (write (set table 69 0) dropped (w .address) (take n (w .bytes))) ≡ action table w
+    unfolding action
+    acted n l t e =
+        of-size (set table 69 0) dropped _ (simp length-set s)
+        ∙ ap₂ (λ (t b : List ℕ). write t dropped (w .address) b) cleared (all-eight (w .count) n (w .bytes) l e)
+        ∙ sym (rw (ne-eqb (w .count) 0 z, t))

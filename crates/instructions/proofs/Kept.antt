@@ -4,7 +4,6 @@ use mathlib.Core.Bool.{Bool, false}
 use mathlib.Core.List.{List}
 use mathlib.Core.Option.{Option, none, some}
 use Prim.Native.Nat.{ℕ}
-use lib.Dec.{eqb}
 use lib.IntN.{ℤ}
 use Rattle.lists.specs.Answer.{unlessRefused}
 use Rattle.registers.specs.Registers.{Register, minPosition, maxPosition, registeredInstruction}
@@ -14,7 +13,7 @@ use Rattle.control_table.specs.Answers.{freshOut, measureOut}
 use Rattle.resets.specs.Resets.{rebooted, resetRom}
 use Rattle.instructions.specs.Registered.{dropped, bytesToWrite}
 use Rattle.instructions.specs.Instructions.{Effect, write, regWrite, action, factoryReset}
-use Rattle.instructions.proofs.Options.{pick, each-option}
+use Rattle.instructions.proofs.Options.{each-option, each-action}
 use Rattle.instructions.specs.declared.RegisteredWrite.{RegisteredWrite}
 
 pub record Kept (P : List ℕ → Type 0) : Type 0 where
@@ -50,7 +49,7 @@ module _ (P : List ℕ → Type 0) (kept : Kept P) where
     factory-reset-keeps = each-option (λ (e : Effect). P (e .table)) table w (kept .by-reset table p) p
 
   pub action-keeps : (table : List ℕ) (w : RegisteredWrite) → P table → P (action table w .table)
-  unfolding action
   action-keeps table w p =
-      pick (λ (e : Effect). P (e .table)) (eqb (w .count) 0) _ _ p
-      (write-keeps (put table registeredInstruction 0) dropped (kept .by-mark table p 0) (w .address) (bytesToWrite w))
+      let cleared = kept .by-mark table p 0 in
+      each-action (λ (e : Effect). P (e .table)) table w p
+      (write-keeps (put table registeredInstruction 0) dropped cleared (w .address) (bytesToWrite w)) cleared

@@ -1,4 +1,4 @@
--- What Ping answers, and the options of Factory Reset.
+-- What Ping answers, the options of Factory Reset, and the outcomes of Action.
 use mathlib.Core.Path.{_≡_, refl, sym, ap, _∙_}
 use mathlib.Core.Bool.{Bool, true, false, cond}
 use mathlib.Core.List.{List, [], _∷_, _++_}
@@ -8,10 +8,11 @@ use lib.Dec.{eqb}
 use borrow.Author.Tests.{ne-eqb}
 use lib.ListN.{length, take, getD}
 use lib.Seq.{drop-cons}
-use Rattle.registers.specs.Registers.{Register, tableSize, modelNumber, firmwareVersion, minPosition, maxPosition}
-use Rattle.items.specs.Items.{itemBytes}
+use Rattle.registers.specs.Registers.{Register, tableSize, modelNumber, firmwareVersion, minPosition, maxPosition, registeredInstruction}
+use Rattle.items.specs.Items.{itemBytes, put}
 use Rattle.instructions.specs.declared.RegisteredWrite.{RegisteredWrite}
-use Rattle.instructions.specs.Instructions.{Effect, refusing, reboot, factoryReset}
+use Rattle.instructions.specs.Instructions.{Effect, refusing, write, action, reboot, factoryReset}
+use Rattle.instructions.specs.Registered.{dropped, bytesToWrite, sameLimits}
 use Rattle.instructions.specs.declared.Done.{Done}
 use Rattle.instructions.specs.Results.{doneOf, sized}
 use Rattle.instructions.proofs.Sized.{of-size, done}
@@ -68,3 +69,12 @@ module _ (P : Effect → Type 0) where
   each-option table w reset refusal option =
       pick (eqb option 0xFF) _ _ (reset keepsNone refl refl)
       (pick (eqb option 0x01) _ _ (reset keepsId refl refl) (pick (eqb option 0x02) _ _ (reset keepsIdAndBaud refl refl) refusal))
+
+  -- and of Action what holds of its two refusals, and of the write on the table that says that none is registered
+  pub each-action : (table : List ℕ) (w : RegisteredWrite) → P (refusing table w 0x02)
+      → P (write (put table registeredInstruction 0) dropped (w .address) (bytesToWrite w))
+      → P (refusing (put table registeredInstruction 0) dropped 0x06) → P (action table w)
+  unfolding action
+  each-action table w missing written changed =
+      pick (eqb (w .count) 0) (refusing table w 0x02) _ missing
+      (pick (sameLimits table w) _ (refusing (put table registeredInstruction 0) dropped 0x06) written changed)

@@ -9,7 +9,7 @@ use Rattle.lists.specs.Answer.{unlessRefused}
 use Rattle.registers.specs.Registers.{modelNumber, firmwareVersion, registeredInstruction}
 use Rattle.items.specs.Items.{itemBytes, put}
 use Rattle.table_rules.specs.Rules.{stored, readRule, writeRule}
-use Rattle.instructions.specs.Registered.{registering, dropped, bytesToWrite, keptBy}
+use Rattle.instructions.specs.Registered.{registering, dropped, bytesToWrite, sameLimits, keptBy}
 use Rattle.instructions.specs.declared.RegisteredWrite.{RegisteredWrite}
 use Rattle.resets.specs.Resets.{rebooted, resetRom, keepsNone, keepsId, keepsIdAndBaud}
 
@@ -55,11 +55,13 @@ regWrite table w address bytes =
     let refusal = writeRule table address bytes in
     leaving (unlessRefused refusal table (put table registeredInstruction 1)) (keptBy refusal w (registering table address bytes)) (errorOf refusal) []
 
--- the registered write is dropped, and then judged afresh [D14 D15]
+-- the registered write is dropped; it is then judged afresh, unless the limits are not those at which it was registered
+-- [D14 D15 D49]
 unfoldable pub action : List ℕ → RegisteredWrite → Effect
 action table w =
+    let cleared = put table registeredInstruction 0 in
     cond (eqb (w .count) 0) (refusing table w 0x02)
-    (write (put table registeredInstruction 0) dropped (w .address) (bytesToWrite w))
+    (cond (sameLimits table w) (write cleared dropped (w .address) (bytesToWrite w)) (refusing cleared dropped 0x06))
 
 -- ---- Reboot and Factory Reset
 

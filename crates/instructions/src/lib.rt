@@ -22,7 +22,7 @@ ghost use lib.ListN.{length};
 ghost use Rattle.registers.specs.Registers.{tableSize};
 ghost use Rattle.table_rules.specs.Outcomes.{refusalOf};
 ghost use Rattle.resets.specs.Resets.{resetRom, keeping};
-ghost use Rattle.instructions.specs.Registered.{dropped as Registered·dropped, registering as Registered·registering};
+ghost use Rattle.instructions.specs.Registered.{dropped as Registered·dropped, registering as Registered·registering, sameLimits};
 ghost use Rattle.instructions.specs.Instructions.{errorOf, regWrite, factoryReset};
 ghost use Rattle.instructions.specs.Instructions.{ping as Instructions·ping};
 ghost use Rattle.instructions.specs.Instructions.{write as Instructions·write};
@@ -43,12 +43,15 @@ pub const RESET_BUT_ID_AND_BAUD: u8 = 0x02;
 // The most bytes of a registered write, as its count has them.
 pub const MAX_REGISTERED: u8 = MAX_DATA as u8;
 
-// A write that waits for Action (the paper's held turn): count 0 means none.
+// A write that waits for Action (the paper's held turn), with the limits of the position at which it was registered: count 0 means
+// none.
 #[repr(C)]
 pub struct RegisteredWrite {
     pub address: u16,
     pub count: u8,
     pub bytes: [u8; MAX_DATA],
+    pub min: i32,
+    pub max: i32,
 }
 
 // What an instruction did, but for the table: the error number of the status (0 for none), its data, the registered write.
@@ -74,18 +77,23 @@ pub fn dropped() -> RegisteredWrite
         address: 0,
         count: 0,
         bytes: [0u8; MAX_DATA],
+        min: 0,
+        max: 0,
     }
 }
 
 // The write of these bytes, which was judged on this table.
 fn registering(table: &[u8], address: u16, bytes: &[u8]) -> RegisteredWrite
-    requires { ⌜ length (now bytes) ≤ 8 ⌝ }
+    requires { ⌜ (length (now table) ≡ tableSize) × (length (now bytes) ≤ 8) ⌝ }
     ensures { λ r. ⌜ r ≡ Registered·registering (now (table .entry)) address (now (bytes .entry)) ⌝ }
 {
+    let limits = table_rules::limits_in(table);
     RegisteredWrite {
         address,
         count: bytes.len() as u8,
         bytes: buffers::first_eight(bytes),
+        min: limits.min,
+        max: limits.max,
     }
 }
 
@@ -179,7 +187,16 @@ fn byte_count(count: u8) -> usize
     MAX_DATA
 }
 
-// The registered write is dropped, and then judged on the table as it is now.
+// The limits in the table are still those at which the write was registered.
+fn same_limits(table: &[u8], registered: RegisteredWrite) -> bool
+    requires { ⌜ length (now table) ≡ tableSize ⌝ }
+    ensures { λ r. ⌜ r ≡ sameLimits (now (table .entry)) registered ⌝ }
+{
+    let limits = table_rules::limits_in(table);
+    limits.min == registered.min && limits.max == registered.max
+}
+
+// The registered write is dropped, and then judged on the table as it is now, unless the limits have changed.
 pub fn action(table: &mut [u8], registered: RegisteredWrite) -> Done
     ensures { λ r. ⌜ r ≡ doneOf (sized (now (table .entry)) registered (Instructions·action (now (table .entry)) registered)) ⌝ }
     ensures { λ _. ⌜ now (table .exit) ≡ sized (now (table .entry)) registered (Instructions·action (now (table .entry)) registered) .table ⌝ }
@@ -190,7 +207,11 @@ pub fn action(table: &mut [u8], registered: RegisteredWrite) -> Done
     if registered.count == 0 {
         return without_data(ERROR_INSTRUCTION, registered);
     }
+    let same = same_limits(&table[..], registered);
     table[REG_REGISTERED_INSTRUCTION] = 0;
+    if !same {
+        return without_data(ERROR_DATA_LIMIT, dropped());
+    }
     let n = byte_count(registered.count);
     let held = registered.bytes;
     let address = registered.address;

@@ -19,6 +19,10 @@ abbrev pub unsigned : ℤ → ℕ
 unsigned (pos n) = n
 unsigned (negsuc n) = 2 ^ 32 - 1 - n
 
+-- two numbers are the same [D49]
+abbrev pub same : ℤ → ℤ → Bool
+same a b = leZ a b && leZ b a
+
 -- the bytes of an item
 abbrev pub itemBytes : Register → List ℕ → List ℕ
 itemBytes r table = take (r .bytes) (drop (r .address) table)

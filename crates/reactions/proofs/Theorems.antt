@@ -1,24 +1,27 @@
 -- What a refused instruction leaves.
 use mathlib.Core.Path.{_≡_, refl}
-use mathlib.Core.Bool.{Bool, true, false, cond, not, _&&_}
-use mathlib.Core.List.{List, []}
+use mathlib.Core.Bool.{Bool, true, false, cond, not, _&&_, false≢true}
+use mathlib.Core.List.{List, [], _∷_}
 use mathlib.Core.Option.{Option, none, some}
 use Prim.Native.Nat.{ℕ}
 use native.Mathlib.Omega.{arith}
 use lib.Dec.{eqb}
 use lib.ListN.{length, set}
+use borrow.Author.Tests.{eqb-true}
+use Rattle.lists.proofs.Bools.{and-left, and-right}
 use Rattle.lists.specs.Answer.{unlessRefused}
 use Rattle.registers.specs.Registers.{tableSize, registeredInstruction}
 use Rattle.items.specs.Items.{put}
 use Rattle.table_rules.specs.Rules.{stored, writeRule}
 use Rattle.control_table.proofs.Put.{put-byte}
-use Rattle.instructions.specs.Registered.{registering, dropped, bytesToWrite, keptBy}
+use Rattle.instructions.specs.Registered.{registering, dropped, bytesToWrite, sameLimits, keptBy}
 use Rattle.instructions.specs.Instructions.{Effect, leaving, errorOf, read, write, regWrite, action}
 use Rattle.instructions.proofs.Options.{each-option}
-use Rattle.reactions.specs.Reactions.{reaction}
+use Rattle.reactions.specs.Reactions.{heardInstruction, reaction}
 use Rattle.reactions.specs.Refused.{isAction, tableIfRefused, registeredIfRefused}
 use Rattle.instructions.specs.declared.RegisteredWrite.{RegisteredWrite}
 use Rattle.reactions.specs.declared.Heard.{Heard}
+use Rattle.reactions.specs.declared.Heard.the-variants.{Packet, BadChecksum}
 use Rattle.reactions.proofs.Every.{every}
 
 module _ (table : List ℕ) (w : RegisteredWrite) (sized : length table ≡ tableSize) where
@@ -62,9 +65,13 @@ module _ (table : List ℕ) (w : RegisteredWrite) (sized : length table ≡ tabl
       by-rule none e = λ n. absurd (n refl)
       by-rule (some number) e = λ n. rw e (put-byte table registeredInstruction 0 refl (omega arith) (omega arith), refl)
 
+      by-limits : (b : Bool) → sameLimits table w ≡ b → eqb (w .count) 0 ≡ false → Refused true (action table w)
+      by-limits true l e = rw (e, l) (rw e at (by-rule (writeRule (put table registeredInstruction 0) (w .address) (bytesToWrite w)) e))
+      by-limits false l e = rw (e, l) (λ n. (put-byte table registeredInstruction 0 refl (omega arith) (omega arith), refl))
+
       by-count : (b : Bool) → eqb (w .count) 0 ≡ b → Refused true (action table w)
       by-count true e = rw e (λ n. (refl, refl))
-      by-count false e = rw e (rw e at (by-rule (writeRule (put table registeredInstruction 0) (w .address) (bytesToWrite w)) e))
+      by-count false e = by-limits (sameLimits table w) refl e
 
   left : (heard : Heard) (all : Bool) (body : List ℕ) → Refused (isAction heard body) (reaction heard all table w body .effect)
   unfolding read
@@ -78,3 +85,14 @@ module _ (table : List ℕ) (w : RegisteredWrite) (sized : length table ≡ tabl
       × (reaction heard all table w body .effect .registered ≡ registeredIfRefused w heard body)
   unfolding Refused
   refused heard all body = left heard all body
+
+-- an Action without parameters, to whomever it was sent
+pub acting : (table : List ℕ) (w : RegisteredWrite) (heard : Heard) (all : Bool) (body : List ℕ) → isAction heard body ≡ true
+    → reaction heard all table w body .effect ≡ action table w
+unfolding heardInstruction
+acting table w BadChecksum all body e = absurd (false≢true e)
+acting table w Packet all [] e = absurd (false≢true e)
+acting table w Packet all (i ∷ params) e =
+    let five = eqb-true i 0x05 (and-left (eqb i 0x05) (eqb (length params) 0) e) in
+    let none-given = and-right (eqb i 0x05) (eqb (length params) 0) e in
+    rw (five, none-given)

@@ -6,6 +6,7 @@ use Prim.Native.Nat.{ℕ}
 use lib.ListN.{length}
 use borrow.Author.Tests.{eq-eqb, ne-eqb}
 use Rattle.registers.specs.Registers.{tableSize}
+use Rattle.table_rules.specs.Limits.{limitsOf, limitsIn}
 use Rattle.table_rules.specs.Outcomes.{inTable, onTable}
 
 module _ (table : List ℕ) where
@@ -15,6 +16,9 @@ module _ (table : List ℕ) where
 
     pub on-table : (new : List ℕ) → onTable table new ≡ new
     on-table new = rw (eq-eqb (length table) tableSize s)
+
+    pub limits-of : limitsIn table ≡ limitsOf table
+    limits-of = rw (eq-eqb (length table) tableSize s)
 
   module _ (n : length table ≡ tableSize → ⊥) where
     pub not-in-table : (next : Option ℕ) → inTable table next ≡ some 21

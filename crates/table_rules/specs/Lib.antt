@@ -1,4 +1,5 @@
 pub mod Rules
 pub mod Fence
 pub mod Outcomes
+pub mod Limits
 pub mod Stages

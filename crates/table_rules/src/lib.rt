@@ -23,6 +23,7 @@ ghost use Rattle.lists.specs.Numbers.{numberAt};
 ghost use Rattle.items.specs.Items.{signed, valueAt};
 ghost use Rattle.table_rules.specs.Rules.{covers, everyTouched, leastToWrite, touchesLimits, limitsKept, stored, writeRule};
 ghost use Rattle.table_rules.specs.Outcomes.{isDone, refusalOf, inTable};
+ghost use Rattle.table_rules.specs.Limits.{limitsIn};
 ghost use Rattle.table_rules.specs.Stages.{whole, itemsRule};
 
 // What became of a read or a write: an error of the status packet where it is not done, or a table of another size.
@@ -74,6 +75,25 @@ fn word_after(table: &[u8], address: usize, bytes: &[u8], a: usize) -> i32
         return signed_at(bytes, a - address);
     }
     signed_at(table, a)
+}
+
+// The limits of the position.
+pub struct PositionLimits {
+    pub min: i32,
+    pub max: i32,
+}
+
+// Those in a table; a table of another size has 0 for both. [D48]
+pub fn limits_in(table: &[u8]) -> PositionLimits
+    ensures { λ r. ⌜ r ≡ limitsIn (now (table .entry)) ⌝ }
+{
+    if table.len() != TABLE_BYTES {
+        return PositionLimits { min: 0, max: 0 };
+    }
+    PositionLimits {
+        min: signed_at(table, REG_MIN_POSITION),
+        max: signed_at(table, REG_MAX_POSITION),
+    }
 }
 
 // The bytes from `address` up to `end` have a byte of the register of `size` bytes at `start`.

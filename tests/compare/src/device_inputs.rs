@@ -118,6 +118,20 @@ pub fn table(rng: &mut Rng) -> Table {
     table
 }
 
+/// The limits that a registered write carries: mostly those in the table, else others near them or anywhere.
+fn limits(rng: &mut Rng, table: &[u8]) -> (i32, i32) {
+    let stored = |at: usize| table.get(at..at + 4).map_or(0, |bytes| i32::from_le_bytes(bytes.try_into().unwrap()));
+    let (min, max) = (stored(52), stored(48));
+    match rng.between(0, 11) {
+        0 => (min.wrapping_add(rng.pick(&[1, -1])), max),
+        1 => (min, max.wrapping_add(rng.pick(&[1, -1]))),
+        2 => (max, min),
+        3 => (rng.word() as i32, rng.word() as i32),
+        4 => rng.pick(&[(0, 0), (i32::MIN, i32::MAX), (min, min), (max, max), (min ^ i32::MIN, max)]),
+        _ => (min, max),
+    }
+}
+
 /// Registered writes: none, good ones, and such as no call has left; the count may be too large.
 pub fn registered(rng: &mut Rng, table: &[u8]) -> Registered {
     let bytes: [u8; 8] = match rng.between(0, 2) {
@@ -128,19 +142,20 @@ pub fn registered(rng: &mut Rng, table: &[u8]) -> Registered {
         }
         _ => rng.bytes(8).try_into().unwrap(),
     };
-    let (address, count) = rng.pick(&WRITABLE);
-    match rng.between(0, 9) {
-        0 | 1 => Registered::default(),
-        2 => Registered { address: rng.word() as u16, count: 0, bytes },
-        3 => Registered { address: rng.word() as u16, count: rng.byte(), bytes },
-        4 => Registered { address: rng.between(0, 140) as u16, count: rng.between(0, 9) as u8, bytes },
-        5 => Registered { address: (address + 256 * rng.between(1, 255)) as u16, count: count as u8, bytes },
-        6 => {
-            let (address, count) = rng.pick(&SIDE_BY_SIDE);
-            Registered { address: address as u16, count: count as u8, bytes }
+    let (min, max) = limits(rng, table);
+    let (address, count) = match rng.between(0, 9) {
+        0 | 1 => return Registered::default(),
+        2 => (rng.word() as usize, 0),
+        3 => (rng.word() as usize, usize::from(rng.byte())),
+        4 => (rng.between(0, 140), rng.between(0, 9)),
+        5 => {
+            let (address, count) = rng.pick(&WRITABLE);
+            (address + 256 * rng.between(1, 255), count)
         }
-        _ => Registered { address: address as u16, count: count as u8, bytes },
-    }
+        6 => rng.pick(&SIDE_BY_SIDE),
+        _ => rng.pick(&WRITABLE),
+    };
+    Registered { address: address as u16, count: count as u8, bytes, min, max }
 }
 
 /// An address and data to write there: mostly whole items, now and then cut, too long, or anywhere.

@@ -177,10 +177,11 @@ impl DevicePair {
 
 fn shown(answer: &exports::Answer) -> String {
     let exports::Answer { count, slot, registered } = answer;
-    let exports::Registered { address, count: n, bytes } = registered;
-    format!("count {count}, slot {slot}, registered: address {address}, count {n}, bytes {}", hex(bytes))
+    let exports::Registered { address, count: n, bytes, min, max } = registered;
+    format!("count {count}, slot {slot}, registered: address {address}, count {n}, bytes {}, min {min}, max {max}", hex(bytes))
 }
 
 fn exported(registered: Registered) -> exports::Registered {
-    exports::Registered { address: registered.address, count: registered.count, bytes: registered.bytes }
+    let Registered { address, count, bytes, min, max } = registered;
+    exports::Registered { address, count, bytes, min, max }
 }

@@ -180,3 +180,35 @@ fn stuffing() {
         assert_eq!(unstuff(stuffed), body);
     }
 }
+
+/// Reg Write of 512 to goal position and Action, to a fresh device 1, with and without a Write of 4000 to max position in between.
+/// [D48 D49 X25 X26]
+#[test]
+fn registered_at_other_limits() {
+    let register = [0xFF, 0xFF, 0xFD, 0x00, 0x01, 0x09, 0x00, 0x04, 0x74, 0x00, 0x00, 0x02, 0x00, 0x00, 0xB9, 0x0E];
+    let lower = [0xFF, 0xFF, 0xFD, 0x00, 0x01, 0x09, 0x00, 0x03, 0x30, 0x00, 0xA0, 0x0F, 0x00, 0x00, 0x5F, 0x69];
+    let action = [0xFF, 0xFF, 0xFD, 0x00, 0x01, 0x03, 0x00, 0x05, 0x02, 0xCE];
+    let (done, limit) = ([0xFF, 0xFF, 0xFD, 0x00, 0x01, 0x04, 0x00, 0x55, 0x00, 0xA1, 0x0C], [0xFF, 0xFF, 0xFD, 0x00, 0x01, 0x04, 0x00, 0x55, 0x06, 0xB5, 0x0C]);
+    for changed in [false, true] {
+        let (mut table, mut registered) = ([0; 136], exports::Registered::default());
+        assert_eq!(exports::fresh(&mut table), 0);
+        let mut wanted = table;
+        let mut heard = |packet: &[u8], status: &[u8]| {
+            let (mut body, mut reply) = ([0; 1022], [0; 32]);
+            let answer = exports::exchange(&mut table, registered, packet, &mut body, &mut reply);
+            assert_eq!((&reply[..answer.count as usize], answer.slot), (status, 0));
+            registered = answer.registered;
+        };
+        heard(&register, &done);
+        if changed {
+            heard(&lower, &done);
+        }
+        heard(&action, if changed { &limit } else { &done });
+        if changed {
+            wanted[48..52].copy_from_slice(&4000i32.to_le_bytes());
+        } else {
+            wanted[116..120].copy_from_slice(&512i32.to_le_bytes());
+        }
+        assert_eq!((table, registered), (wanted, exports::Registered::default()));
+    }
+}

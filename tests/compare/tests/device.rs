@@ -181,7 +181,7 @@ fn refusals() {
                         if length > 7 {
                             bytes[7] = own;
                         }
-                        let registered = Registered { address: 65, count, bytes: [1, 2, 3, 4, 5, 6, 7, 8] };
+                        let registered = Registered { address: 65, count, bytes: [1, 2, 3, 4, 5, 6, 7, 8], min: -1, max: i32::MAX };
                         let mut device = DevicePair::new(&mut rng, &bytes, registered, reply);
                         let body: &[u8] = rng.pick(&[&[1][..], &[], &[8], &[6, 1], &[0x55], &[3, 65, 0, 1], &[5]]);
                         let told = device.hear(kind, id, body);
@@ -252,12 +252,12 @@ fn lives() {
     assert!(stored.iter().all(|&n| n > 1_000) && slots.iter().all(|&n| n > 500), "{stored:?} stored, {slots:?} slots above 0");
 }
 
-/// A registered write is judged again by the table as it is at Action, and is dropped also where it is refused then.
-/// [D15 M4 T14]
+/// A registered write is judged again by the table as it is at Action, and is dropped also where it is refused then. Where a limit
+/// has changed, it is refused whether or not it would be good. [D15 D49 M4 T14]
 #[test]
 fn overtaken_registered_writes() {
     let mut rng = Rng::new(58);
-    let cases: [(&[u8], &[&[u8]], u8); 8] = [
+    let cases: [(&[u8], &[&[u8]], u8); 15] = [
         // the goal lies outside the limits by now
         (&[116, 0, 0, 8, 0, 0], &[&[3, 48, 0, 0, 4, 0, 0]], 6),
         (&[116, 0, 0, 4, 0, 0], &[&[3, 116, 0, 0, 8, 0, 0], &[3, 52, 0, 0, 8, 0, 0]], 6),
@@ -269,7 +269,18 @@ fn overtaken_registered_writes() {
         // the torque locks ROM by now, and not RAM
         (&[8, 0, 3], &[&[3, 64, 0, 1]], 7),
         (&[65, 0, 1], &[&[3, 64, 0, 1]], 0),
-        (&[116, 0, 0, 8, 0, 0], &[&[3, 48, 0, 0, 8, 0, 0]], 0),
+        // the goal suits the limits from before and those by now: max has changed, min, both; whatever was registered
+        (&[116, 0, 0, 2, 0, 0], &[&[3, 48, 0, 0xA0, 0x0F, 0, 0]], 6),
+        (&[116, 0, 0, 2, 0, 0], &[&[3, 116, 0, 9, 0, 0, 0], &[3, 52, 0, 9, 0, 0, 0]], 6),
+        (&[116, 0, 0, 8, 0, 0], &[&[3, 48, 0, 0, 8, 0, 0]], 6),
+        (&[65, 0, 1], &[&[3, 48, 0, 0xFE, 0x0F, 0, 0]], 6),
+        // 06 comes before the write rule, which would give 07
+        (&[8, 0, 3], &[&[3, 48, 0, 0xA0, 0x0F, 0, 0], &[3, 64, 0, 1]], 6),
+        // they were changed and changed back, or written as they were
+        (&[116, 0, 0, 2, 0, 0], &[&[3, 48, 0, 0xA0, 0x0F, 0, 0], &[3, 48, 0, 0xFF, 0x0F, 0, 0]], 0),
+        (&[65, 0, 1], &[&[3, 48, 0, 0xFF, 0x0F, 0, 0, 0, 0, 0, 0]], 0),
+        // another Reg Write in its place carries the limits from then
+        (&[65, 0, 1], &[&[3, 48, 0, 0xA0, 0x0F, 0, 0], &[4, 65, 0, 1]], 0),
     ];
     for (turn, between, error) in cases {
         let mut device = DevicePair::new(&mut rng, &fresh(), Registered::default(), REPLY_BYTES);
@@ -278,7 +289,7 @@ fn overtaken_registered_writes() {
         for body in between {
             assert_eq!(device.hear(PACKET, 1, body).error, Some(0));
         }
-        let stored = device.table().to_vec();
+        let mut stored = device.table().to_vec();
         // a refused Reg Write and an Action with a parameter leave it
         assert_eq!(device.hear(PACKET, 1, &[4, 104, 0, 1]).error, Some(5));
         assert_eq!(device.hear(PACKET, 1, &[5, 0]).error, Some(5));
@@ -286,8 +297,33 @@ fn overtaken_registered_writes() {
         assert_eq!(device.hear(PACKET, 1, &[5]).error, Some(error));
         assert_eq!((device.table()[69], device.registered), (0, Registered::default()));
         let at = usize::from(turn[0]);
-        assert_eq!(device.table()[at..at + turn.len() - 2] == turn[2..], error == 0);
+        stored[69] = 0;
+        if error == 0 {
+            stored[at..at + turn.len() - 2].copy_from_slice(&turn[2..]);
+        }
+        assert_eq!(device.table(), stored);
         assert_eq!(device.hear(PACKET, 1, &[5]).error, Some(2));
+    }
+}
+
+/// Any limits are accepted in a lent registered write, and only compared. [D48 D49 N14]
+#[test]
+fn lent_limits() {
+    let mut rng = Rng::new(61);
+    let numbers = [i32::MIN, -1, 0, 1, 4_095, 4_096, i32::MAX];
+    for (max, min) in numbers.iter().flat_map(|&max| numbers.map(|min| (max, min))) {
+        for (lent_max, lent_min) in numbers.iter().flat_map(|&max| numbers.map(|min| (max, min))) {
+            let turn = Registered { address: 65, count: 1, bytes: [1, 0, 0, 0, 0, 0, 0, 0], min: lent_min, max: lent_max };
+            let mut table = stored(max, min, 0);
+            table[69] = 1;
+            let mut device = DevicePair::new(&mut rng, &table, turn, REPLY_BYTES);
+            assert_eq!(device.hear(PACKET, 1, &[1]).error, Some(0));
+            assert_eq!(device.registered, turn);
+            let same = (lent_min, lent_max) == (min, max);
+            assert_eq!(device.hear(PACKET, 1, &[5]).error, Some(if same { 0 } else { 6 }), "{turn:?} at {min} to {max}");
+            (table[69], table[65]) = (0, same.into());
+            assert_eq!((device.table(), device.registered), (&table[..], Registered::default()));
+        }
     }
 }
 
@@ -344,7 +380,7 @@ const AROUND_THE_GOAL: [([i32; 3], u8, &[i32], u8); 24] = [
     ([50, 0, 100], 104, &[7], 0),
 ];
 
-/// Write, Reg Write and Sync Write go by the goal position that is stored. [D12 T3 T11 T14 T19]
+/// Write, Reg Write, Sync Write and Bulk Write go by the goal position that is stored. [D12 T3 T11 T14 T19]
 #[test]
 fn limits_around_the_stored_goal() {
     let mut rng = Rng::new(60);
@@ -361,12 +397,14 @@ fn limits_around_the_stored_goal() {
         assert_eq!(device.hear(PACKET, 1, &write).error, Some(error), "{shown}");
         assert_eq!(device.table(), after, "{shown}");
 
-        let mut device = DevicePair::new(&mut rng, &table, Registered::default(), REPLY_BYTES);
-        device.hear(PACKET, 254, &[&[0x83, address, 0, data.len() as u8, 0, 1], &data[..]].concat());
-        assert_eq!(device.table(), after, "{shown}");
+        for list in [&[0x83, address, 0, data.len() as u8, 0, 1], &[0x93, 1, address, 0, data.len() as u8, 0]] {
+            let mut device = DevicePair::new(&mut rng, &table, Registered::default(), REPLY_BYTES);
+            device.hear(PACKET, 254, &[list, &data[..]].concat());
+            assert_eq!(device.table(), after, "{shown}");
+        }
 
         // an older registered write stays where this one is refused
-        let older = Registered { address: 65, count: 1, bytes: [1, 0, 0, 0, 0, 0, 0, 0] };
+        let older = Registered { address: 65, count: 1, bytes: [1, 0, 0, 0, 0, 0, 0, 0], min, max };
         let mut device = DevicePair::new(&mut rng, &table, older, REPLY_BYTES);
         assert_eq!(device.hear(PACKET, 1, &[&[4], &write[1..]].concat()).error, Some(error), "{shown}");
         assert_eq!(device.registered == older, error != 0, "{shown}");

@@ -94,7 +94,8 @@ fn order_of_refusals() {
             bytes.push(0);
         }
         bytes[7] = if fault(3) { 253 } else { 252 };
-        let turn = Registered { address: 65, count: if fault(4) { 9 } else { 8 }, bytes: [1, 2, 3, 4, 5, 6, 7, 8] };
+        let count = if fault(4) { 9 } else { 8 };
+        let turn = Registered { address: 65, count, bytes: [1, 2, 3, 4, 5, 6, 7, 8], min: i32::MIN, max: -1 };
         let reply = if fault(5) { 31 } else { 32 };
         let wanted = [14, 13, 21, 22, 23, 24].into_iter().zip(0..).find(|&(_, bit)| fault(bit)).map(|(number, _)| -number);
         // also where the device would have stayed silent

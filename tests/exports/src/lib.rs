@@ -8,6 +8,8 @@ pub struct Registered {
     pub address: u16,
     pub count: u8,
     pub bytes: [u8; 8],
+    pub min: i32,
+    pub max: i32,
 }
 
 /// What a feeding or a gap call answers.

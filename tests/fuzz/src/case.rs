@@ -61,6 +61,8 @@ pub enum Operation {
         address: u16,
         count: u8,
         bytes: [u8; 8],
+        min: i32,
+        max: i32,
     },
     /// One byte of the table, as nobody should write it.
     Poke {

@@ -110,7 +110,9 @@ impl<'a> World<'a> {
             Operation::Board { reply, ref table } => {
                 self.device = DevicePair::of(*self.calls, &mut self.rng, table, self.device.registered, reply);
             }
-            Operation::Registered { address, count, bytes } => self.device.registered = Registered { address, count, bytes },
+            Operation::Registered { address, count, bytes, min, max } => {
+                self.device.registered = Registered { address, count, bytes, min, max };
+            }
             Operation::Poke { address, byte } => self.device.change(|table| {
                 if let Some(place) = table.get_mut(address) {
                     *place = byte;

@@ -51,8 +51,8 @@ fn line(operation: &Operation) -> String {
         Operation::Gap => "gap".to_string(),
         Operation::Finish => "finish".to_string(),
         Operation::Board { reply, table } => format!("board reply={reply} table={}", hex(table)),
-        Operation::Registered { address, count, bytes } => {
-            format!("registered address={address} count={count} bytes={}", hex(bytes))
+        Operation::Registered { address, count, bytes, min, max } => {
+            format!("registered address={address} count={count} bytes={} min={min} max={max}", hex(bytes))
         }
         Operation::Poke { address, byte } => format!("poke address={address} byte=0x{byte:02x}"),
         Operation::Fresh => "fresh".to_string(),
@@ -138,7 +138,8 @@ fn record(fields: &mut Fields) -> Result<Operation, String> {
 fn registered(fields: &mut Fields) -> Result<Operation, String> {
     let (address, count, bytes) = (fields.number("address")?, fields.number("count")?, fields.bytes("bytes")?);
     let bytes = bytes.try_into().map_err(|bytes: Vec<u8>| format!("`bytes` has {} bytes, and not 8", bytes.len()))?;
-    Ok(Operation::Registered { address, count, bytes })
+    let (min, max) = (fields.position("min")?, fields.position("max")?);
+    Ok(Operation::Registered { address, count, bytes, min, max })
 }
 
 /// The fields of a line, taken one by one.

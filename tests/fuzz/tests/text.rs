@@ -31,7 +31,7 @@ fn every_operation_by_hand() {
         gap\n\
         finish\n\
         board reply=32 table=0604\n\
-        registered address=104 count=4 bytes=c800000000000000\n\
+        registered address=104 count=4 bytes=c800000000000000 min=-1 max=4095\n\
         poke address=64 byte=0x01\n\
         fresh\n\
         measure position=-166 error=0x80\n\
@@ -55,7 +55,7 @@ fn every_operation_by_hand() {
         Operation::Gap,
         Operation::Finish,
         Operation::Board { reply: 32, table: vec![6, 4] },
-        Operation::Registered { address: 104, count: 4, bytes: [200, 0, 0, 0, 0, 0, 0, 0] },
+        Operation::Registered { address: 104, count: 4, bytes: [200, 0, 0, 0, 0, 0, 0, 0], min: -1, max: 4095 },
         Operation::Poke { address: 64, byte: 1 },
         Operation::Fresh,
         Operation::Measure { position: -166, error: 0x80 },
@@ -82,7 +82,7 @@ fn malformed_texts() {
         ("checksum start=0 bytes=0g", "`bytes` has something that is no byte in hex"),
         ("checksum start=0 bytes=+1", "`bytes` has something that is no byte in hex"),
         ("gap now", "`gap` has a field too many: `now`"),
-        ("registered address=0 count=0 bytes=00", "`bytes` has 1 bytes, and not 8"),
+        ("registered address=0 count=0 bytes=00 min=0 max=0", "`bytes` has 1 bytes, and not 8"),
         ("board reply=99999999 table=", "`reply` is above 16777216: 99999999"),
         ("measure position=2147483648 error=0", "`position` is no number of four bytes: `2147483648`"),
         (&long, "`held` has 1031 bytes, and a record 1030"),

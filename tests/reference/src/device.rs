@@ -5,12 +5,14 @@ use crate::{packet_of, unstuff, well_formed, well_stuffed};
 
 const FEWEST_REPLY_BYTES: usize = 32;
 
-/// A write that waits for Action; a count of 0 means none.
+/// A write that waits for Action, and the limits of the position that stood when it was registered; a count of 0 means none.
 #[derive(Clone, Copy, PartialEq, Eq, Debug, Default)]
 pub struct Registered {
     pub address: u16,
     pub count: u8,
     pub bytes: [u8; 8],
+    pub min: i32,
+    pub max: i32,
 }
 
 #[derive(Clone, Copy, PartialEq, Eq, Debug)]
@@ -189,7 +191,8 @@ fn reg_write(table: &mut Table, registered: &mut Registered, parameters: &[u8]) 
     table::write(table, number(a, b), data)?;
     let mut bytes = [0; 8];
     bytes[..data.len()].copy_from_slice(data);
-    *registered = Registered { address: u16::from_le_bytes([a, b]), count: data.len() as u8, bytes };
+    let (min, max) = table::limits(table);
+    *registered = Registered { address: u16::from_le_bytes([a, b]), count: data.len() as u8, bytes, min, max };
     table::set_registered(table, true);
     Ok(vec![])
 }
@@ -203,6 +206,9 @@ fn action(table: &mut Table, registered: &mut Registered, parameters: &[u8]) -> 
     }
     let turn = std::mem::take(registered);
     table::set_registered(table, false);
+    if (turn.min, turn.max) != table::limits(table) {
+        return Err(6);
+    }
     store(table, usize::from(turn.address), &turn.bytes[..usize::from(turn.count)])
 }
 
@@ -383,12 +389,25 @@ mod tests {
         let (mut table, mut registered) = (fresh(), Registered::default());
         let reg_write = [0xFF, 0xFF, 0xFD, 0x00, 0x01, 0x09, 0x00, 0x04, 0x68, 0x00, 0xC8, 0x00, 0x00, 0x00, 0xAE, 0x8E];
         assert_eq!(answer(&mut table, &mut registered, &reg_write), STATUS);
-        assert_eq!(registered, Registered { address: 104, count: 4, bytes: [200, 0, 0, 0, 0, 0, 0, 0] });
+        assert_eq!(registered, Registered { address: 104, count: 4, bytes: [200, 0, 0, 0, 0, 0, 0, 0], min: 0, max: 4_095 });
         assert_eq!((table[69], table[104]), (1, 0));
         let action = [0xFF, 0xFF, 0xFD, 0x00, 0x01, 0x03, 0x00, 0x05, 0x02, 0xCE];
         assert_eq!(answer(&mut table, &mut registered, &action), STATUS);
         assert_eq!((table[69], table[104], registered), (0, 200, Registered::default()));
         assert_eq!(answer(&mut table, &mut registered, &action)[8], 2);
+    }
+
+    /// The goal 512 suits the limits from before and those after it.
+    #[test]
+    fn registered_at_other_limits() {
+        let (mut table, mut registered) = (fresh(), Registered::default());
+        let mut hear = |table: &mut Table, body: &[u8]| answer(table, &mut registered, &packet_of(1, body))[8];
+        assert_eq!(hear(&mut table, &[4, 116, 0, 0, 2, 0, 0]), 0);
+        assert_eq!(hear(&mut table, &[3, 48, 0, 0xA0, 0x0F, 0, 0]), 0);
+        assert_eq!(hear(&mut table, &[5]), 6);
+        let mut wanted = fresh();
+        wanted[48..52].copy_from_slice(&4_000i32.to_le_bytes());
+        assert_eq!((table, registered), (wanted, Registered::default()));
     }
 
     /// The error byte of the status to a body sent to ID 1, or nothing.

@@ -192,6 +192,11 @@ pub(crate) fn hardware_error(table: &Table) -> u8 {
     table[HARDWARE_ERROR.address]
 }
 
+/// Min position and max position as they are stored.
+pub(crate) fn limits(table: &Table) -> (i32, i32) {
+    (MIN_POSITION.value(table) as i32, MAX_POSITION.value(table) as i32)
+}
+
 pub(crate) fn set_registered(table: &mut Table, is_registered: bool) {
     REGISTERED_INSTRUCTION.set(table, i64::from(is_registered));
 }

@@ -1,12 +1,14 @@
-use mathlib.Core.Path.{_≡_, refl, ap, _∙_}
+use mathlib.Core.Path.{_≡_, refl, sym, ap, _∙_}
+use mathlib.Core.List.{[]}
 use Prim.Native.Nat.{_≤_}
 use native.Mathlib.Omega.{arith}
 use lib.ListN.{length, length-set, length-take}
-use borrow.Author.Tests.{eq-eqb}
+use borrow.Author.Tests.{eq-eqb, not-true, not-false}
 use Rattle.instructions.specs.Instructions.{Effect, action}
-use Rattle.instructions.specs.Results.{doneOf}
+use Rattle.instructions.specs.Results.{doneWith, doneOf}
 use Rattle.instructions.proofs.Sized.{done, not-done}
-use Rattle.instructions.proofs.Acting.{eight, acted}
+use Rattle.instructions.proofs.Acting.{eight, not-acted, acted}
+use Rattle.instructions.specs.declared.RegisteredWrite.{RegisteredWrite}
 use borrow.Author.Needs.{needs}
 use Rattle.instructions.proofs.action.Statement.{statement}
 use Rattle.instructions.proofs.action.Tie as tie
@@ -32,22 +34,50 @@ returns-2 c =
     let e = eq-eqb (a .registered .count) 0 (i .if2 .taken) in
     done (a .table .now) (a .registered) (action (a .table .now) (a .registered)) _ _ (k .if1 .left) (rw e (c .without-data2 .ensures)) (rw e)
 
+same-limits-requires : tie.Need-same-limits-requires
+same-limits-requires c κs = search needs
+
 slice-write-table : tie.Need-slice-write-table
 slice-write-table c = search needs
-
-byte-count-requires : tie.Need-byte-count-requires
-byte-count-requires c κs = search needs
 
 dropped-requires : tie.Need-dropped-requires
 dropped-requires c κs = search needs
 
-has-eight : (b : tie.After-byte-count) → length (b .before .before .before .before .before .args .registered .bytes) ≡ 8
+without-data-requires-3 : tie.Need-without-data-requires-3
+without-data-requires-3 c κs = search needs
+
+same-length : tie.Need-same-length
+same-length c = search needs
+
+returns-3 : tie.Need-returns-3
+returns-3 c =
+    let t = c .before .before in
+    let l = t .before in
+    let i = l .before .before in
+    let k = i .before .before in
+    let a = k .before .before .args in
+    let e = not-acted (a .table .now) (a .registered) (k .if1 .left) (i .if2 .left) (sym (l .same-limits .ensures) ∙ not-true _ (t .if3 .taken)) in
+    done (a .table .now) (a .registered) (action (a .table .now) (a .registered)) _ _ (k .if1 .left)
+    (c .without-data3 .ensures ∙ ap (λ (w : RegisteredWrite). doneWith 0x06 [] w) (c .before .dropped .ensures) ∙ ap doneOf e)
+    (ap (λ (f : Effect). f .table) e)
+
+byte-count-requires : tie.Need-byte-count-requires
+byte-count-requires c κs = search needs
+
+dropped-requires-2 : tie.Need-dropped-requires-2
+dropped-requires-2 c κs = search needs
+
+-- what stands before the limits are tested
+abbrev acting : tie.After-byte-count → tie.Else2
+acting b = b .before .before .before .before
+
+has-eight : (b : tie.After-byte-count) → length (acting b .before .before .before .before .args .registered .bytes) ≡ 8
 has-eight b = search needs
 
-within : (b : tie.After-byte-count) → b .byte-count .result ≤ length (b .before .before .before .before .before .args .registered .bytes)
+within : (b : tie.After-byte-count) → b .byte-count .result ≤ length (acting b .before .before .before .before .args .registered .bytes)
 within b =
     let l = has-eight b in
-    let h = eight (b .before .before .before .before .before .args .registered .count) (b .byte-count .result) (b .byte-count .ensures) in
+    let h = eight (acting b .before .before .before .before .args .registered .count) (b .byte-count .result) (b .byte-count .ensures) in
     omega arith
 
 array-share-prefix-held : tie.Need-array-share-prefix-held
@@ -59,20 +89,23 @@ slice-aggregate-write c = let h = within (c .before .before .before .before) in 
 write-requires : tie.Need-write-requires
 write-requires c κs = search needs
 
-same-length : tie.Need-same-length
-same-length c = simp length-set at (c .before .before .write .kept .0)
+same-length-2 : tie.Need-same-length-2
+same-length-2 c = simp length-set at (c .before .before .write .kept .0)
 
-returns-3 : tie.Need-returns-3
-returns-3 c =
+returns-4 : tie.Need-returns-4
+returns-4 c =
     let r = c .before .before in
     let d = r .before .before in
     let b = d .before .before .before in
-    let i = b .before in
+    let t = b .before in
+    let l = t .before in
+    let i = l .before .before in
     let k = i .before .before in
     let a = k .before .before .args in
-    let e = acted (a .table .now) (a .registered) (b .byte-count .result) (k .if1 .left) (has-eight b) (i .if2 .left) (b .byte-count .ensures) in
-    done (a .table .now) (a .registered) (action (a .table .now) (a .registered)) _ _ (k .if1 .left) ((rw (d .dropped .ensures) at (r .write .ensures .0)) ∙ ap doneOf e)
-    ((rw (d .dropped .ensures) at (r .write .ensures .1)) ∙ ap (λ (f : Effect). f .table) e)
+    let good = sym (l .same-limits .ensures) ∙ not-false _ (t .if3 .left) in
+    let e = acted (a .table .now) (a .registered) (k .if1 .left) (i .if2 .left) (b .byte-count .result) (has-eight b) good (b .byte-count .ensures) in
+    done (a .table .now) (a .registered) (action (a .table .now) (a .registered)) _ _ (k .if1 .left) ((rw (d .dropped2 .ensures) at (r .write .ensures .0)) ∙ ap doneOf e)
+    ((rw (d .dropped2 .ensures) at (r .write .ensures .1)) ∙ ap (λ (f : Effect). f .table) e)
 
 pub action-spec : {M : Type 1} → statement M
 action-spec =
@@ -82,11 +115,16 @@ action-spec =
     returns
     without-data-requires-2
     returns-2
+    same-limits-requires
     slice-write-table
-    byte-count-requires
     dropped-requires
+    without-data-requires-3
+    same-length
+    returns-3
+    byte-count-requires
+    dropped-requires-2
     array-share-prefix-held
     slice-aggregate-write
     write-requires
-    same-length
-    returns-3)
+    same-length-2
+    returns-4)

@@ -62,7 +62,7 @@ short c =
     write-short (a .table .now) (a .address) (a .bytes .now) (sym (j .judge .ensures) ∙ done-none (j .judge .result) (good c))
 
 registering-requires : tie.Need-registering-requires
-registering-requires c κs = short (c .before)
+registering-requires c κs = (right-size (c .before), short (c .before))
 
 slice-write-table : tie.Need-slice-write-table
 slice-write-table c = let s = right-size (c .before .before) in omega arith

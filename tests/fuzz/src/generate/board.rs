@@ -49,8 +49,8 @@ impl Board {
 
     fn tell(&self, operations: &mut Vec<Operation>) {
         operations.push(Operation::Board { reply: self.reply, table: self.table.clone() });
-        let Registered { address, count, bytes } = self.registered;
-        operations.push(Operation::Registered { address, count, bytes });
+        let Registered { address, count, bytes, min, max } = self.registered;
+        operations.push(Operation::Registered { address, count, bytes, min, max });
     }
 
     /// The table for drawing inputs; a fresh one where it has not its length.
@@ -87,8 +87,8 @@ impl Board {
             8 => self.fresh(operations),
             9 | 10 => {
                 self.registered = device_inputs::registered(rng, &self.known());
-                let Registered { address, count, bytes } = self.registered;
-                operations.push(Operation::Registered { address, count, bytes });
+                let Registered { address, count, bytes, min, max } = self.registered;
+                operations.push(Operation::Registered { address, count, bytes, min, max });
             }
             // one that has gone quiet or is locked would try nothing any more
             11..=15 => self.hear(PACKET, 254, vec![8], operations),

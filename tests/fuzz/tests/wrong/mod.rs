@@ -39,6 +39,7 @@ pub fn all() -> Vec<Wrong> {
         wrong("dxl_device", "the reply buffer", Calls { device: other_error, ..PROVED }),
         wrong("dxl_device", "the table", Calls { device: stores_one_by_one, ..PROVED }),
         wrong("dxl_device", "the table", Calls { device: narrows_past_the_goal, ..PROVED }),
+        wrong("dxl_device", "the table", Calls { device: compares_max_alone, ..PROVED }),
         wrong("dxl_device", "the answer", Calls { device: keeps_registered, ..PROVED }),
         wrong("dxl_exchange", "the body buffer", Calls { exchange: body_before_the_tests, ..PROVED }),
         wrong("dxl_exchange", "the answer", Calls { exchange: hears_a_wrong_checksum, ..PROVED }),
@@ -251,6 +252,16 @@ fn narrows_past_the_goal(table: &mut [u8], registered: Registered, kind: u8, id:
                 table.copy_from_slice(&new);
             }
         }
+    }
+    answer
+}
+
+/// Action goes by max position alone: a registered write that carries another min position is carried out all the same.
+fn compares_max_alone(table: &mut [u8], registered: Registered, kind: u8, id: u8, body: &[u8], reply: &mut [u8]) -> Answer {
+    let min = table.get(52..56).map_or(0, |bytes| i32::from_le_bytes(bytes.try_into().unwrap()));
+    let answer = exports::device(table, Registered { min, ..registered }, kind, id, body, reply);
+    if answer.registered == (Registered { min, ..registered }) {
+        return Answer { registered, ..answer };
     }
     answer
 }

@@ -338,7 +338,7 @@ $(COUNTS): $(COUNTS_SOURCES) tests/bench/baseline.c tests/bench/baseline_reader.
 
 # The same inputs by the baseline, compiled as in the benchmark; what it lacks is called in the archive.
 PLAIN_CALLS := $(foreach name,crc16 encode feed gap reader_feed reader_gap fresh measure device exchange,-Ddxl_$(name)=baseline_$(name)) \
-    -Ddxl_test_crc16_small=baseline_crc16_small -Ddxl_test_crc16_fold=baseline_crc16 -Ddxl_next_event=baseline_next_event
+    -Ddxl_test_crc16_small=baseline_crc16_small -Ddxl_next_event=baseline_next_event
 PLAIN_OBJECTS := $(BASELINE:%=build/c/%.o)
 $(PLAIN_OBJECTS): build/c/%.o: tests/bench/%.c $(BENCH_HEADERS)
 	@$(call need,$(CC))

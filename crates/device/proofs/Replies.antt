@@ -1,6 +1,6 @@
 -- The reply of a reaction, and to whom the device listens.
 use mathlib.Core.Path.{_≡_, refl}
-use mathlib.Core.Bool.{Bool, true, false, cond}
+use mathlib.Core.Bool.{Bool, true, false, not, cond}
 use mathlib.Core.List.{List}
 use Prim.Native.Nat.{ℕ, _-_}
 use lib.Dec.{eqb}
@@ -25,13 +25,12 @@ reply-of table q = by-replying (q .replying)
     by-replying (speaks least slot) = refl
 
 module _ (table : List ℕ) (w : RegisteredWrite) (heard : Heard) (id : ℕ) (body : List ℕ) where
-  pub to-own : id ≡ getD table 7 0 → carried table (reaction heard false table w body) ≡ carryOut table w heard id body
+  -- to the own ID, or to all devices
+  pub to-device : (own : Bool) → eqb id (getD table 7 0) ≡ own → (own ≡ false → id ≡ 254)
+      → carried table (reaction heard (not own) table w body) ≡ carryOut table w heard id body
   unfolding executed
-  to-own e = rw (eq-eqb id (getD table 7 0) e)
-
-  pub to-all : (id ≡ getD table 7 0 → ⊥) → id ≡ 254 → carried table (reaction heard true table w body) ≡ carryOut table w heard id body
-  unfolding executed
-  to-all n e = rw (ne-eqb id (getD table 7 0) n, eq-eqb id 254 e)
+  to-device true e all = rw e
+  to-device false e all = rw (e, eq-eqb id 254 (all refl))
 
   pub to-another : (id ≡ getD table 7 0 → ⊥) → (id ≡ 254 → ⊥)
       → _≡_ {A = Carried} (record { table = table; registered = w; reply = silence }) (carryOut table w heard id body)

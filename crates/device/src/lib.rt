@@ -86,16 +86,16 @@ fn carry_out(
     ensures { λ r. ⌜ r ≡ carriedOf (carryOut (now (table .entry)) registered heard id (now (body .entry))) ⌝ }
     ensures { λ _. ⌜ now (table .exit) ≡ carryOut (now (table .entry)) registered heard id (now (body .entry)) .table ⌝ }
 {
-    if id == table[REG_ID] {
-        return execute(table, registered, heard, false, body);
+    let own = id == table[REG_ID];
+    if !own {
+        if id != BROADCAST_ID {
+            return CarriedOut {
+                reply: status::silence(),
+                registered,
+            };
+        }
     }
-    if id == BROADCAST_ID {
-        return execute(table, registered, heard, true, body);
-    }
-    CarriedOut {
-        reply: status::silence(),
-        registered,
-    }
+    execute(table, registered, heard, !own, body)
 }
 
 // The count of bytes of the status, 0 for silence, and the reply slot; or a fault of the caller. The last two are of a reply that

@@ -2,27 +2,39 @@
 use mathlib.Core.Path.{_≡_, refl, sym, ap, ap₂, subst, _∙_}
 use mathlib.Core.Bool.{Bool, true, false, cond}
 use mathlib.Core.List.{List, [], append-nil}
-use mathlib.Core.Option.{none, some}
+use mathlib.Core.Option.{Option, none, some}
 use Prim.Native.Nat.{ℕ, _≤_, _<_}
 use native.Mathlib.Omega.{arith}
 use lib.Dec.{eqb}
 use lib.ListN.{length, take}
 use lib.Seq.{take-all}
 use borrow.Author.Tests.{eq-eqb, ne-eqb, le-leb, lt-leb}
+use Rattle.lists.specs.Answer.{unlessRefused}
 use Rattle.lists.specs.Write.{overwritten}
+use Rattle.lists.proofs.Bools.{both-ways}
 use Rattle.lists.proofs.Write.{overwritten-take}
-use Rattle.stuffing.specs.Stuffing.{unstuff}
+use Rattle.stuffing.specs.Stuffing.{wellStuffed, unstuff}
 use Rattle.stuffing.specs.Answers.{checked, removalRefusal, removalOut}
 use Rattle.stuffing.specs.declared.Checked.the-variants.{Good, Bad}
-use Rattle.stuffing.proofs.Answers.{checked-bad, checked-good}
+use Rattle.stuffing.proofs.Answers.{checked-bad, checked-good, Removed}
 use Rattle.reading.specs.Rules.{Verdict, isPacket, isBadChecksum, isWaiting, isNothing}
-use Rattle.packet_front.specs.Front.{idOf}
-use Rattle.packet.specs.Packet.{bodyOf, WellFormed}
-use Rattle.packet.specs.Verdict.{verdict, answerFor}
+use Rattle.packet_front.specs.Front.{header, idOf}
+use Rattle.packet_front.specs.Begun.{begunBy}
+use Rattle.packet_front.specs.declared.Begun.{Begun}
+use Rattle.packet_front.specs.declared.Begun.the-variants.{Nothing, Waiting, Whole}
+use Rattle.packet.specs.Packet.{bodyOf, checksumRight, WellFormed}
+use Rattle.packet.specs.Verdict.{verdict, answerFor, wholeAnswer}
 use Rattle.packet.specs.declared.Judgement.{Judgement}
-use Rattle.packet.specs.declared.Judgement.the-variants.{Packet as Judgement·Packet}
+use Rattle.packet.specs.declared.Judgement.the-variants.{Packet as Judgement·Packet, Nothing as Judgement·Nothing, Waiting as Judgement·Waiting}
 use Rattle.packet.proofs.Laws.{laws}
-use Rattle.exchange.specs.Exchange.{idBy, idHeard, Message, heardOf}
+use Rattle.packet.proofs.Looks.{look-nothing, look-waiting, look-size, look-long, look-header, look-whole}
+use Rattle.instructions.specs.Registered.{keptBy}
+use Rattle.instructions.specs.declared.RegisteredWrite.{RegisteredWrite}
+use Rattle.status.specs.declared.Reply.{Reply}
+use Rattle.device.specs.Answers.{orElse, repliedAnswer, answeredBy}
+use Rattle.device.specs.declared.Replied.{Replied}
+use Rattle.device.proofs.Calls.{Refuses}
+use Rattle.exchange.specs.Exchange.{idBy, idHeard, Message, heardOf, refusedOr}
 
 -- ---- the ID
 
@@ -75,6 +87,34 @@ module _ (packet : List ℕ) where
     pub told-other : ((n : ℕ) → r ≡ Judgement·Packet n → ⊥) → idHeard packet ≡ 255
     told-other other = heard-other (verdict packet) refl (λ n i. other n (e ∙ ap (λ (v : Verdict). answerFor v k) i))
 
+  -- by what header, ID and length field say
+  pub not-begun : (b : Begun) → begunBy packet ≡ b → ((n : ℕ) → b ≡ Whole n → ⊥) → idHeard packet ≡ 255
+  not-begun Nothing e other = told-other Judgement·Nothing _ (look-nothing packet e) (λ n i. let z : _≡_ {A = ℕ} 0 1 = cc in absurd (omega arith))
+  not-begun (Waiting m) e other = told-other (Judgement·Waiting m) _ (look-waiting packet m e) (λ n i. let z : _≡_ {A = ℕ} 0 1 = cc in absurd (omega arith))
+  not-begun (Whole m) e other = absurd (other m refl)
+
+  module _ (n : ℕ) (e : begunBy packet ≡ Whole n) where
+    pub begun-beyond : (n ≡ length packet → ⊥) → idHeard packet ≡ 255
+    begun-beyond other = heard-nobody (λ f. other (omega (arith, look-size packet n e, f .counted)))
+
+    module _ (l : n ≡ length packet) where
+      all : take n packet ≡ packet
+      all = take-all n packet (omega arith)
+
+      pub begun-long : 9 ≤ length packet
+      begun-long = subst (λ (w : List ℕ). 9 ≤ length w) all (look-long packet n e)
+
+      pub begun-header : take 4 packet ≡ header
+      begun-header = ap (take 4) (sym all) ∙ look-header packet n e
+
+      pub wrong-sum : checksumRight packet ≡ false → idHeard packet ≡ 255
+      wrong-sum h = heard-nobody (λ f. both-ways _ (f .summed) h)
+
+      pub right-sum : checksumRight packet ≡ true → wellStuffed (bodyOf packet) ≡ true → idHeard packet ≡ idOf packet
+      right-sum h w =
+          heard-whole (length packet)
+          (told-packet (wholeAnswer packet) _ (ap wholeAnswer (sym all) ∙ look-whole packet n e) (length packet) (rw (h, w))) refl
+
 -- ---- the removal of the stuffing
 
 module _ (packet body : List ℕ) where
@@ -89,26 +129,43 @@ module _ (packet body : List ℕ) where
         let g = checked-good (bodyOf packet) n e in
         rw (g .0, lt-leb (length (unstuff (bodyOf packet))) (length body) (omega arith))
 
-    module _ (room : n ≤ length body) where
-      pub fits : removalRefusal (bodyOf packet) body ≡ none
-      unfolding removalRefusal
-      fits =
-          let g = checked-good (bodyOf packet) n e in
-          rw (g .0, le-leb (length (unstuff (bodyOf packet))) (length body) (omega arith))
+    pub fits : n ≤ length body → removalRefusal (bodyOf packet) body ≡ none
+    unfolding removalRefusal
+    fits room =
+        let g = checked-good (bodyOf packet) n e in
+        rw (g .0, le-leb (length (unstuff (bodyOf packet))) (length body) (omega arith))
 
-      -- what the body buffer holds
-      pub unstuffed : (left : List ℕ) → left ≡ removalOut (bodyOf packet) body → left ≡ overwritten body (heardOf packet .body)
-      unstuffed left o = rw fits at o
+  module _ (n : ℕ) (r : Removed (bodyOf packet) body n) (left : List ℕ) (o : left ≡ removalOut (bodyOf packet) body) where
+    -- what the body buffer holds
+    pub unstuffed : left ≡ overwritten body (heardOf packet .body)
+    unstuffed = rw (r .unrefused) at o
 
-      -- and that its first bytes are the body that the device hears
-      first-bytes : (left : List ℕ) → left ≡ removalOut (bodyOf packet) body → take n left ≡ heardOf packet .body
-      first-bytes left o =
-          ap₂ (λ (k : ℕ) (l : List ℕ). take k l) (sym (checked-good (bodyOf packet) n e .1)) (unstuffed left o)
-          ∙ overwritten-take body (heardOf packet .body)
+    -- and that its first bytes are the body that the device hears
+    first-bytes : take n left ≡ heardOf packet .body
+    first-bytes = ap₂ (λ (k : ℕ) (l : List ℕ). take k l) (sym (r .counted)) unstuffed ∙ overwritten-take body (heardOf packet .body)
 
-      pub first-count : (left : List ℕ) → left ≡ removalOut (bodyOf packet) body → n ≡ length (take n left)
-      first-count left o = sym (checked-good (bodyOf packet) n e .1) ∙ ap length (sym (first-bytes left o))
+    pub first-count : n ≡ length (take n left)
+    first-count = sym (r .counted) ∙ ap length (sym first-bytes)
 
-      pub message-is : (id : ℕ) (left : List ℕ) → id ≡ idHeard packet → left ≡ removalOut (bodyOf packet) body
-          → _≡_ {A = Message} (record { id = id; body = take n left }) (heardOf packet)
-      message-is id left i o = ap₂ (λ (k : ℕ) (l : List ℕ). record { id = k; body = l }) i (first-bytes left o)
+    pub message-is : (id : ℕ) → id ≡ idHeard packet → _≡_ {A = Message} (record { id = id; body = take n left }) (heardOf packet)
+    message-is id i = ap₂ (λ (k : ℕ) (l : List ℕ). record { id = k; body = l }) i first-bytes
+
+-- ---- the device refuses: what the call refuses first, and that everything stays
+
+module _ (b c : Option ℕ) (r : Replied) (q : Refuses c r) where
+  pub answers-first : (reply : Reply) → refusedOr b (repliedAnswer r) ≡ refusedOr b (answeredBy c reply)
+  answers-first reply = ap (refusedOr b) (q .answers reply)
+
+  pub keeps-first : (old new : RegisteredWrite) → old ≡ keptBy b old (keptBy c old new)
+  keeps-first old new = by-refusal b
+    where
+      by-refusal : (b : Option ℕ) → old ≡ keptBy b old (keptBy c old new)
+      by-refusal none = q .keeps old new
+      by-refusal (some number) = refl
+
+  pub leaves-first : (old new : List ℕ) → (old ≡ unlessRefused b old (unlessRefused c old new)) × (old ≡ unlessRefused (orElse b c) old new)
+  leaves-first old new = by-refusal b
+    where
+      by-refusal : (b : Option ℕ) → (old ≡ unlessRefused b old (unlessRefused c old new)) × (old ≡ unlessRefused (orElse b c) old new)
+      by-refusal none = (q .leaves old new, q .leaves old new)
+      by-refusal (some number) = (refl, refl)

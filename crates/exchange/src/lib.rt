@@ -2,11 +2,17 @@
 use device::Replied;
 use device::Response;
 use instructions::RegisteredWrite;
-use packet::Judgement;
+use packet_front::Begun;
 use reactions::Heard;
 use stuffing::Checked;
+use stuffing::Unstuffed;
 ghost use mathlib.Core.Path.{_≡_};
-ghost use Rattle.exchange.specs.Exchange.{idHeard, exchangedAnswer, exchangeAnswer, exchangeRegistered, exchangeTable, exchangeBody, exchangeOut};
+ghost use mathlib.Core.Bool.{true};
+ghost use Rattle.stuffing.specs.Stuffing.{wellStuffed};
+ghost use Rattle.stuffing.specs.Answers.{removalRefusal};
+ghost use Rattle.packet.specs.Packet.{bodyOf};
+ghost use Rattle.device.specs.Answers.{repliedAnswer};
+ghost use Rattle.exchange.specs.Exchange.{idHeard, exchangedAnswer, refusedOr, exchangeAnswer, exchangeRegistered, exchangeTable, exchangeBody, exchangeOut};
 
 // The device's answer, or why it does not get the packet: the body is not well stuffed, or has no room when unstuffed.
 pub enum Exchanged {
@@ -23,21 +29,41 @@ pub struct Answered {
 // An ID that no device has.
 const NO_ID: u8 = 255;
 
-// The packet's ID, or NO_ID if the bytes are not exactly one well-formed packet.
+// The packet's ID, or NO_ID if the bytes are not exactly one well-formed packet. That their stuffing is right is known.
 fn id_heard(packet: &[u8]) -> u8
+    requires { ⌜ wellStuffed (bodyOf (now packet)) ≡ true ⌝ }
     ensures { λ r. ⌜ r ≡ idHeard (now (packet .entry)) ⌝ }
 {
-    let Judgement::Packet(n) = packet::judge(packet, 0) else {
+    let Begun::Whole(n) = packet_front::look(packet) else {
         return NO_ID;
     };
     if n != packet.len() {
         return NO_ID;
     }
+    let end = n - 2;
+    let crc = packet::checksum(&packet[4..end]);
+    if (crc as usize) != packet_front::word(packet[end], packet[end + 1]) {
+        return NO_ID;
+    }
     packet[4]
 }
 
-// Writes the packet's body without its stuffing to the body buffer, and lets the device hear it. Faults of the caller come first,
-// in the order of their tests here, and change nothing: the body buffer is written when all tests are passed.
+// A refusal of the removal, or else the device's.
+fn first_refusal(packet: &[u8], body: &[u8], refused: Replied) -> Exchanged
+    ensures { λ r. ⌜ exchangedAnswer r ≡ refusedOr (removalRefusal (bodyOf (now (packet .entry))) (now (body .entry))) (repliedAnswer refused) ⌝ }
+{
+    let Checked::Good(n) = stuffing::check(packet::body(packet)) else {
+        return Exchanged::BadStuffing;
+    };
+    if body.len() < n {
+        return Exchanged::NoRoom;
+    }
+    Exchanged::Device(refused)
+}
+
+// Writes the packet's body without its stuffing to the body buffer, and lets the device hear it. Faults of the caller come first and
+// change nothing: those of the removal, then the device's. The device's are tested first, so that the removal, which tests its own
+// before it writes, goes over the body once.
 // [D38 D39 N3 N4 N6-N8 N10-N12 N14]
 pub fn answer(
     table: &mut [u8],
@@ -52,33 +78,32 @@ pub fn answer(
     ensures { λ _. ⌜ now (body .exit) ≡ exchangeBody (now (table .entry)) registered (now (packet .entry)) (now (body .entry)) (now (out .entry)) ⌝ }
     ensures { λ _. ⌜ now (out .exit) ≡ exchangeOut (now (table .entry)) registered (now (packet .entry)) (now (body .entry)) (now (out .entry)) ⌝ }
 {
-    let Checked::Good(n) = stuffing::check(packet::body(packet)) else {
-        return Answered {
-            exchanged: Exchanged::BadStuffing,
-            registered,
-        };
-    };
-    if body.len() < n {
-        return Answered {
-            exchanged: Exchanged::NoRoom,
-            registered,
-        };
-    }
     let refused = device::call_refusal(&table[..], registered, &out[..]);
     let Replied::Sent(_, _) = refused else {
         return Answered {
-            exchanged: Exchanged::Device(refused),
+            exchanged: first_refusal(packet, &body[..], refused),
             registered,
         };
     };
-    packet::unstuff(packet, body);
-    let heard = Heard::Packet;
-    let id = id_heard(packet);
-    let response = device::hear(table, registered, heard, id, &body[..n], out);
-    let replied = response.replied;
-    let kept = response.registered;
-    Answered {
-        exchanged: Exchanged::Device(replied),
-        registered: kept,
+    match packet::unstuff(packet, body) {
+        Unstuffed::BadStuffing => Answered {
+            exchanged: Exchanged::BadStuffing,
+            registered,
+        },
+        Unstuffed::NoRoom => Answered {
+            exchanged: Exchanged::NoRoom,
+            registered,
+        },
+        Unstuffed::Count(n) => {
+            let heard = Heard::Packet;
+            let id = id_heard(packet);
+            let response = device::hear(table, registered, heard, id, &body[..n], out);
+            let replied = response.replied;
+            let kept = response.registered;
+            Answered {
+                exchanged: Exchanged::Device(replied),
+                registered: kept,
+            }
+        }
     }
 }

@@ -1,6 +1,6 @@
 pub mod Header
 mod Rulings
-mod Looks
+pub mod Looks
 pub mod Sums
 pub mod Laws
 pub mod Begins

@@ -52,6 +52,9 @@ module _ (s : List ℕ) where
     bounds : (3 ≤ lengthOf s) × (lengthOf s ≤ 1024)
     bounds = length-bounds s (and-right (frontAgrees s) (lengthAgrees s) (w .0)) (has-field s (w .1))
 
+    pub look-size : sizeOf s ≡ m
+    look-size = w .2
+
     pub look-fits : m ≤ length s
     look-fits = omega (arith, has-all s (w .1), w .2)
 

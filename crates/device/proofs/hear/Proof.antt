@@ -39,7 +39,9 @@ same-length-3 c = search needs
 -- the two calls, where the reply buffer has room
 both : (r : tie.After-carry-out) → let a = r .before .before .before .before .before .before .args in
     SameAsOne (a .table .now) (a .registered) (a .heard) (a .id) (a .body .now) (a .out .now)
-both r = with-room _ _ _ _ _ _ (omega arith)
+both r =
+    let a = r .before .before .before .before .before .before .args in
+    with-room (a .table .now) (a .registered) (a .heard) (a .id) (a .body .now) (a .out .now) (omega arith) .as-one
 
 returns-2 : tie.Need-returns-2
 returns-2 c =

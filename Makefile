@@ -200,7 +200,7 @@ build/c/board: $(BOARD_SOURCES) examples/pty_line.h include/mednukals.h build/li
 	@$(CC) $(WARNINGS) -O2 -Iinclude -o $@ $(BOARD_SOURCES) build/lib/libmednukals.a || $(call failed,compiling the example board)
 
 # The board again, with a library that refuses what the test asks it to.
-REFUSING := encode unstuff reader_feed reader_gap fresh measure device
+REFUSING := encode unstuff reader_feed reader_gap fresh measure carry_out carry_out_packet status
 build/c/refusing_board: tests/c/refusing.c build/c/board
 	@$(CC) $(WARNINGS) -O2 -Iinclude -o $@ $(REFUSING:%=-Wl$(comma)--wrap=dxl_%) $(BOARD_SOURCES) $< build/lib/libmednukals.a \
 	    || $(call failed,compiling the refusing board)

@@ -27,8 +27,7 @@ returns c =
     let h = c .before .before .before in
     let e = h .carry-out .ensures in
     let i = h .before .before in
-    rw (sym (i .before .heard-by .ensures), sym (i .id-of-kind .ensures))
-    (
+    rw (sym (i .before .heard-by .ensures), sym (i .id-of-kind .ensures)) (
       c .carried .ensures ∙ by-parts _ _ _ _ _ _ (e .0) (e .1 .0) (e .1 .1 .0),
       (e .1 .1 .1, (split, stays-accepted, goal-within-limits)),
     )

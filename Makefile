@@ -200,7 +200,7 @@ build/c/board: $(BOARD_SOURCES) examples/pty_line.h include/mednukals.h build/li
 	@$(CC) $(WARNINGS) -O2 -Iinclude -o $@ $(BOARD_SOURCES) build/lib/libmednukals.a || $(call failed,compiling the example board)
 
 # The board again, with a library that refuses what the test asks it to.
-REFUSING := encode unstuff reader_feed reader_gap fresh measure device
+REFUSING := encode unstuff reader_feed reader_gap fresh measure carry_out carry_out_packet status
 build/c/refusing_board: tests/c/refusing.c build/c/board
 	@$(CC) $(WARNINGS) -O2 -Iinclude -o $@ $(REFUSING:%=-Wl$(comma)--wrap=dxl_%) $(BOARD_SOURCES) $< build/lib/libmednukals.a \
 	    || $(call failed,compiling the refusing board)
@@ -337,7 +337,7 @@ $(COUNTS): $(COUNTS_SOURCES) tests/bench/baseline.c tests/bench/baseline_reader.
 	@$(CC) $(WARNINGS) -O0 -Iinclude -Itests/bench -o $@ $(filter %.c,$^) $(COUNTED) || $(call failed,compiling the counts)
 
 # The same inputs by the baseline, compiled as in the benchmark; what it lacks is called in the archive.
-PLAIN_CALLS := $(foreach name,crc16 encode feed gap reader_feed reader_gap fresh measure device exchange,-Ddxl_$(name)=baseline_$(name)) \
+PLAIN_CALLS := $(foreach name,crc16 encode feed gap reader_feed reader_gap fresh measure device exchange carry_out carry_out_packet status,-Ddxl_$(name)=baseline_$(name)) \
     -Ddxl_test_crc16_small=baseline_crc16_small -Ddxl_next_event=baseline_next_event
 PLAIN_OBJECTS := $(BASELINE:%=build/c/%.o)
 $(PLAIN_OBJECTS): build/c/%.o: tests/bench/%.c $(BENCH_HEADERS)

@@ -31,14 +31,13 @@ static int tracing, self_test_only, help;
 /* What the library's calls use; the header says how. */
 static struct dxl_reader reader; /* all 0: a fresh one */
 static uint8_t packet[DXL_MAX_PACKET], body[DXL_MAX_BODY];
-static uint8_t table[DXL_TABLE_BYTES], reply[DXL_MIN_REPLY];
+static uint8_t table[DXL_TABLE_BYTES];
 static struct dxl_registered registered;
 
 static struct line line;
 static int64_t last_byte; /* when bytes came last */
 
-/* The status that waits for its slot: the first bytes of reply, which a call leaves alone while it has nothing to send. */
-static size_t waiting; /* how many; 0: none waits */
+static struct dxl_reply waiting; /* for its slot; silence: none waits */
 static int64_t waiting_until;
 
 static int32_t position; /* of the arm */
@@ -57,7 +56,7 @@ static void fail(const char *what)
 static const char *meaning(int64_t refusal)
 {
     switch (refusal) {
-    case DXL_BAD_ID: return "an ID of 253 or 255";
+    case DXL_BAD_ID: return "an ID that no packet or no status has";
     case DXL_TOO_LONG: return "the packet would be too long";
     case DXL_NO_ROOM: return "the output buffer has too little room";
     case DXL_BAD_STUFFING: return "the body is not well stuffed";
@@ -111,27 +110,28 @@ static void trace_event(struct dxl_step step)
 
 static void send_waiting(void)
 {
-    trace("sent", reply, waiting);
-    if (line_send(&line, reply, waiting) != 0) {
+    uint8_t status[DXL_MIN_REPLY];
+    size_t n = accepted("dxl_status", dxl_status(waiting, status, sizeof status));
+    trace("sent", status, n);
+    if (line_send(&line, status, n) != 0) {
         if (errno != EAGAIN)
             fail("writing to the line");
         fprintf(stderr, "board: a status is lost: nobody reads the line\n");
     }
-    waiting = 0;
+    waiting.speaks = 0;
 }
 
 /*
- * Sends the first n bytes of reply when their slot comes. Slots are counted from the last byte heard: so boards keep in step,
- * though one hears a packet at its last byte and another, behind noise, only at the gap. What is due goes out at once, before the
- * next event fills reply again. A status that waited until now is given up: the master has not waited for it, and by now its slot
- * may be another's.
+ * The reply is sent when its slot comes. Slots are counted from the last byte heard: so boards keep in step, though one hears a
+ * packet at its last byte and another, behind noise, only at the gap. What is due goes out at once, before the next event takes its
+ * place. A reply that waited until now is given up: the master has not waited for it, and by now its slot may be another's.
  */
-static void send_in_slot(size_t n, size_t slot)
+static void send_in_slot(struct dxl_reply reply)
 {
-    if (waiting > 0 && tracing)
+    if (waiting.speaks && tracing)
         fputs("given up: the status that waited\n", stderr);
-    waiting = n;
-    waiting_until = last_byte + (int64_t)slot * slot_time;
+    waiting = reply;
+    waiting_until = last_byte + (int64_t)reply.slot * slot_time;
     if (line_clock() >= waiting_until)
         send_waiting();
 }
@@ -145,25 +145,24 @@ static int is_event(const char *call, struct dxl_step step)
     return step.kind != DXL_NO_EVENT;
 }
 
-/* Carries out what was heard; the status lies in reply. */
-static struct dxl_answer carry_out(struct dxl_step step)
+/* Carries out what was heard, and answers the reply. */
+static struct dxl_reply carry_out(struct dxl_step step)
 {
     size_t n = 0;
     if (step.kind == DXL_PACKET)
         n = accepted("dxl_unstuff", dxl_unstuff(packet + 7, step.count - 9, body, sizeof body));
-    struct dxl_answer answer =
-        dxl_device(table, sizeof table, registered, step.kind, step.id, body, n, reply, sizeof reply);
-    accepted("dxl_device", answer.count);
-    registered = answer.registered;
-    return answer;
+    struct dxl_carried carried = dxl_carry_out(table, sizeof table, registered, step.kind, step.id, body, n);
+    accepted("dxl_carry_out", carried.refusal);
+    registered = carried.registered;
+    return carried.reply;
 }
 
 static void hear(struct dxl_step step)
 {
     trace_event(step);
-    struct dxl_answer answer = carry_out(step);
-    if (answer.count > 0)
-        send_in_slot((size_t)answer.count, answer.slot);
+    struct dxl_reply reply = carry_out(step);
+    if (reply.speaks)
+        send_in_slot(reply);
 }
 
 /* Feeds until a call gives no event, even if no byte is left: more events may lie in the held bytes. */
@@ -244,7 +243,7 @@ static int64_t earlier(int64_t a, int64_t b)
 static void run(int64_t end)
 {
     while (!stopping && line_clock() < end) {
-        int64_t slot = waiting > 0 ? waiting_until : LINE_NEVER;
+        int64_t slot = waiting.speaks ? waiting_until : LINE_NEVER;
         int64_t until = earlier(earlier(gap_end(), slot), earlier(next_tick, end));
         enum line_news news = line_wait(&line, until);
         if (news == LINE_BROKEN)
@@ -253,7 +252,7 @@ static void run(int64_t end)
             read_line();
         if (news == LINE_TIME && until == gap_end())
             line_was_silent();
-        if (waiting > 0 && line_clock() >= waiting_until)
+        if (waiting.speaks && line_clock() >= waiting_until)
             send_waiting();
         if (line_clock() >= next_tick) {
             move_arm();
@@ -280,19 +279,19 @@ static void expect_checksum(const uint8_t *bytes, size_t n)
 /* Before the line is opened: a Ping to the own ID is encoded, read and answered, and both checksums are computed again. */
 static void self_test(void)
 {
-    uint8_t ping[16];
+    uint8_t ping[16], status[DXL_MIN_REPLY];
     size_t n = accepted("dxl_encode", dxl_encode(table[DXL_REG_ID], DXL_INST_PING, body, 0, ping, sizeof ping, 0));
     expect_checksum(ping, n);
     struct dxl_step step = dxl_reader_feed(&reader, ping, n, packet);
     if (!is_event("dxl_reader_feed", step) || step.count != n || memcmp(packet, ping, n) != 0)
         test_failed("the Ping is not read as it was encoded");
-    size_t status = (size_t)carry_out(step).count;
-    if (status == 0)
+    size_t n_status = accepted("dxl_status", dxl_status(carry_out(step), status, sizeof status));
+    if (n_status == 0)
         test_failed("the Ping is not answered");
-    expect_checksum(reply, status);
+    expect_checksum(status, n_status);
     if (self_test_only) {
         print_bytes(stdout, "Ping", ping, n);
-        print_bytes(stdout, "status", reply, status);
+        print_bytes(stdout, "status", status, n_status);
     }
 }
 

@@ -13,14 +13,13 @@ enum { GAP_MICROS = 1500, CHUNK = 64 };
 /* What the library's calls use; the header says how. */
 static struct dxl_reader reader;
 static uint8_t packet[DXL_MAX_PACKET], body[DXL_MAX_BODY];
-static uint8_t table[DXL_TABLE_BYTES], reply[DXL_MIN_REPLY];
+static uint8_t table[DXL_TABLE_BYTES], status[DXL_MIN_REPLY];
 static struct dxl_registered registered;
 
 static uint32_t taken; /* how many of the received bytes are taken from the ring, or passed over */
 static uint32_t speed; /* of the UART, in baud */
 
-/* The status that waits for its slot: the first bytes of reply. */
-static size_t waiting; /* how many; 0: none waits */
+static struct dxl_reply waiting; /* for its slot; silence: none waits */
 static uint32_t waiting_since, waiting_for; /* microseconds */
 
 /* Written by the interrupt handlers. */
@@ -131,17 +130,17 @@ static void hear(struct dxl_step step)
 {
     uint8_t before[DXL_TABLE_BYTES];
     memcpy(before, table, sizeof before);
-    struct dxl_answer answer;
+    struct dxl_carried carried;
     if (step.kind == DXL_PACKET)
-        answer = dxl_exchange(table, sizeof table, registered, packet, step.count, body, sizeof body, reply, sizeof reply);
+        carried = dxl_carry_out_packet(table, sizeof table, registered, packet, step.count, body, sizeof body);
     else
-        answer = dxl_device(table, sizeof table, registered, step.kind, step.id, body, 0, reply, sizeof reply);
-    size_t n = accepted(answer.count);
-    registered = answer.registered;
-    if (n > 0) { /* a status that still waits gives way: the master has not waited for it */
-        waiting = n;
+        carried = dxl_carry_out(table, sizeof table, registered, step.kind, step.id, body, 0);
+    accepted(carried.refusal);
+    registered = carried.registered;
+    if (carried.reply.speaks) { /* a reply that still waits gives way: the master has not waited for it */
+        waiting = carried.reply;
         waiting_since = clock_micros();
-        waiting_for = (uint32_t)answer.slot * slot_micros();
+        waiting_for = (uint32_t)carried.reply.slot * slot_micros();
     }
     act_on_changes(before);
 }
@@ -201,12 +200,14 @@ static int gap_is_over(void)
 
 /* ---- what goes out ---- */
 
+/* The UART sends from status, which nothing else writes until it is sent. */
 static void send_waiting(void)
 {
+    size_t n = accepted(dxl_status(waiting, status, sizeof status));
     sending = 1;
     echoing = 1;
-    uart_send(reply, waiting);
-    waiting = 0;
+    uart_send(status, n);
+    waiting.speaks = 0;
 }
 
 /* What came while the board was sending is its own echo. */
@@ -220,13 +221,13 @@ static void pass_echo(void)
 /* Its slot has come, and no byte is left that a newer packet could be in. */
 static int status_is_due(void)
 {
-    return waiting > 0 && taken == uart_received() && clock_micros() - waiting_since >= waiting_for;
+    return waiting.speaks && taken == uart_received() && clock_micros() - waiting_since >= waiting_for;
 }
 
 /* A new speed begins when the status to the write of it has left with the old one. */
 static void follow_baud(void)
 {
-    if (speed != baud() && waiting == 0) {
+    if (speed != baud() && !waiting.speaks) {
         speed = baud();
         uart_set_baud(speed);
     }
@@ -270,10 +271,10 @@ void board_start(void)
     static const uint8_t reboot[] = {DXL_INST_REBOOT};
     accepted(dxl_fresh(table, sizeof table));
     restore_rom();
-    accepted(dxl_device(table, sizeof table, none, DXL_PACKET, table[DXL_REG_ID], reboot, 1, reply, sizeof reply).count);
+    accepted(dxl_carry_out(table, sizeof table, none, DXL_PACKET, table[DXL_REG_ID], reboot, 1).refusal);
     registered = none;
     reader.count = 0;
-    waiting = 0;
+    waiting.speaks = 0;
     sending = 0;
     echoing = 0;
     taken = uart_received();

@@ -78,8 +78,9 @@ uint16_t dxl_crc16_flipped(uint16_t crc, const uint8_t *flips, size_t n, size_t 
 
 /* Refusals: a call returns minus the number; for 25, see struct dxl_step. */
 enum {
-    DXL_BAD_ID = 11,         /* an ID of 253 or 255 */
-    DXL_TOO_LONG = 12,       /* the packet's length, which counts stuffed body and checksum, would pass 1,024 */
+    DXL_BAD_ID = 11,         /* an ID of 253 or 255; of a status, also 254 */
+    DXL_TOO_LONG = 12,       /* the packet's length, which counts stuffed body and checksum, would pass 1,024; of a status, more than
+                                8 bytes of data */
     DXL_NO_ROOM = 13,        /* the output buffer has too little room */
     DXL_BAD_STUFFING = 14,   /* the body is not well stuffed */
     DXL_NOT_A_TABLE = 21,    /* the control table is not 136 bytes long */
@@ -254,19 +255,27 @@ struct dxl_step {
  *     static struct dxl_reader reader;          // all 0: a fresh one
  *     static uint8_t packet[DXL_MAX_PACKET], body[DXL_MAX_BODY];
  *     static uint8_t table[DXL_TABLE_BYTES];    // filled once, by dxl_fresh
- *     static uint8_t reply[DXL_MIN_REPLY];
  *     static struct dxl_registered registered;  // all 0: none
+ *     static struct dxl_reply waiting;          // all 0: silence
  *
  *     static void hear(struct dxl_step step)
  *     {
  *         int64_t n = 0;
  *         if (step.kind == DXL_PACKET)          // its body is well stuffed and fits
  *             n = dxl_unstuff(packet + 7, step.count - 9, body, sizeof body);
- *         struct dxl_answer answer =
- *             dxl_device(table, sizeof table, registered, step.kind, step.id, body, (size_t)n, reply, sizeof reply);
- *         registered = answer.registered;
- *         if (answer.count > 0)
- *             send_in_slot(reply, (size_t)answer.count, answer.slot);
+ *         struct dxl_carried carried = dxl_carry_out(table, sizeof table, registered, step.kind, step.id, body, (size_t)n);
+ *         registered = carried.registered;
+ *         if (carried.reply.speaks)
+ *             waiting = carried.reply;          // until the slot waiting.slot comes
+ *     }
+ *
+ *     void slot_came(void)
+ *     {
+ *         uint8_t status[DXL_MIN_REPLY];
+ *         int64_t n = dxl_status(waiting, status, sizeof status);
+ *         if (n > 0)
+ *             send(status, (size_t)n);
+ *         waiting.speaks = 0;
  *     }
  *
  *     void bytes_came(const uint8_t *chunk, size_t n)
@@ -389,8 +398,8 @@ int64_t dxl_fresh(uint8_t *table, size_t n);
  */
 int64_t dxl_measure(uint8_t *table, size_t n, int32_t position, uint8_t hardware_error);
 
-/* A write that waits for Action. Begin with all 0, and pass each call of dxl_device or dxl_exchange what the last one
- * returned. min and max are new after 0.1.0: firmware that was compiled with that header must be compiled again. */
+/* A write that waits for Action. Begin with all 0, and pass each call of the device what the last one returned.
+ * min and max are new after 0.1.0: firmware that was compiled with that header must be compiled again. */
 struct dxl_registered {
     uint16_t address;
     uint8_t count; /* how many of bytes are to be written, at most 8; 0 if no write waits */
@@ -459,6 +468,56 @@ struct dxl_answer dxl_device(uint8_t *table, size_t n_table, struct dxl_register
  */
 struct dxl_answer dxl_exchange(uint8_t *table, size_t n_table, struct dxl_registered registered, const uint8_t *packet,
                                size_t n_packet, uint8_t *body, size_t n_body, uint8_t *reply, size_t n_reply);
+
+/*
+ * The device call in two, for a status that has to wait for its slot: dxl_carry_out or dxl_carry_out_packet carries out what was
+ * heard and returns a small record of the reply, and dxl_status makes the packet of it when the slot has come. One straight after
+ * the other does what dxl_device or dxl_exchange does, for every input where that does not give 24. Where it does, the instruction
+ * has been carried out when dxl_status refuses the buffer: lend it one of DXL_MIN_REPLY bytes.
+ */
+
+/* A reply. The first calls return silence as all 0; to dxl_status any record may be passed. */
+struct dxl_reply {
+    uint8_t speaks;   /* 0: silence; any other mark: a status */
+    uint8_t id;       /* the device's ID, from before the instruction */
+    uint8_t error;    /* the error byte, its alert as the hardware error was after the instruction */
+    uint8_t count;    /* how many of bytes are sent, at most 8 */
+    uint8_t bytes[8]; /* the data; 0 past the count. dxl_status ignores what is past it */
+    size_t slot;      /* when to send it, as in struct dxl_answer */
+};
+
+/* What a first call returns. */
+struct dxl_carried {
+    int64_t refusal;                  /* 0, or minus the number of a refusal */
+    struct dxl_reply reply;           /* if the call is refused: silence */
+    struct dxl_registered registered; /* the registered write from now on; if the call is refused, as it was passed */
+};
+
+/*
+ * Carries out what was heard on the line. table, n_table, registered, kind, id, body and n_body are as for dxl_device, and so are
+ * -21, -22 and -23; a refused call leaves the table as it was.
+ */
+struct dxl_carried dxl_carry_out(uint8_t *table, size_t n_table, struct dxl_registered registered, uint8_t kind, uint8_t id,
+                                 const uint8_t *body, size_t n_body);
+
+/*
+ * Carries out a packet as it was received. The arguments are as for dxl_exchange, and so are -14, -13 and then -21 to -23; a
+ * refused call leaves the table and body as they were.
+ */
+struct dxl_carried dxl_carry_out_packet(uint8_t *table, size_t n_table, struct dxl_registered registered, const uint8_t *packet,
+                                        size_t n_packet, uint8_t *body, size_t n_body);
+
+/*
+ * Writes the status packet of a reply to the start of out; for silence nothing.
+ *
+ * Returns its byte count, 11 to 21 for the reply of a first call and at most 22 for any other, 0 for silence, or, even for silence,
+ *   -11  the reply's ID is above 252
+ *   -12  its count is above 8
+ *   -24  n_out is below 32
+ *
+ * The bytes after the status stay as they were; for silence and for a refusal all of out does.
+ */
+int64_t dxl_status(struct dxl_reply reply, uint8_t *out, size_t n_out);
 
 #ifdef __cplusplus
 }

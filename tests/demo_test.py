@@ -260,7 +260,7 @@ class BoardTest(unittest.TestCase):
 
     def test_refusals(self):
         at_start = {"dxl_fresh": [21], "dxl_encode": [11, 12, 13], "dxl_reader_feed": [25], "dxl_unstuff": [14, 13],
-                    "dxl_device": [21, 22, 23, 24], "dxl_measure": [21]}
+                    "dxl_carry_out": [21, 22, 23], "dxl_status": [11, 12, 24], "dxl_measure": [21]}
         for call, number in [(call, number) for call, numbers in at_start.items() for number in numbers]:
             with self.subTest(call=call, number=number):
                 code, _, errors = run(REFUSING_BOARD, "--seconds", str(PATIENCE), REFUSING=call, REFUSAL=str(number))

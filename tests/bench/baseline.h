@@ -28,6 +28,11 @@ int64_t baseline_fresh(uint8_t *table, size_t n);
 int64_t baseline_measure(uint8_t *table, size_t n, int32_t position, uint8_t hardware_error);
 struct dxl_answer baseline_device(uint8_t *table, size_t n_table, struct dxl_registered registered, uint8_t kind, uint8_t id,
                                   const uint8_t *body, size_t n_body, uint8_t *reply, size_t n_reply);
+struct dxl_carried baseline_carry_out(uint8_t *table, size_t n_table, struct dxl_registered registered, uint8_t kind, uint8_t id,
+                                      const uint8_t *body, size_t n_body);
+struct dxl_carried baseline_carry_out_packet(uint8_t *table, size_t n_table, struct dxl_registered registered, const uint8_t *packet,
+                                             size_t n_packet, uint8_t *body, size_t n_body);
+int64_t baseline_status(struct dxl_reply reply, uint8_t *out, size_t n_out);
 struct dxl_answer baseline_exchange(uint8_t *table, size_t n_table, struct dxl_registered registered, const uint8_t *packet,
                                     size_t n_packet, uint8_t *body, size_t n_body, uint8_t *reply, size_t n_reply);
 

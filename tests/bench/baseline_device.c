@@ -248,19 +248,18 @@ static int64_t fault(const uint8_t *table, size_t n_table, struct dxl_registered
     return n_reply < DXL_MIN_REPLY ? -DXL_SHORT_REPLY : 0;
 }
 
-struct dxl_answer baseline_device(uint8_t *table, size_t n_table, struct dxl_registered registered, uint8_t kind, uint8_t id,
-                                  const uint8_t *body, size_t n_body, uint8_t *reply, size_t n_reply)
+/* What is heard is carried out; all of the reply is 0 for silence. */
+static struct dxl_reply carry_out(uint8_t *table, struct dxl_registered *registered, uint8_t kind, uint8_t id, const uint8_t *body,
+                                  size_t n_body)
 {
-    struct dxl_answer answer = {fault(table, n_table, registered, n_reply), 0, registered};
-    if (answer.count < 0 || (kind != DXL_PACKET && kind != DXL_BAD_CHECKSUM))
-        return answer;
+    struct dxl_reply silence = {0}, reply = {0};
+    if (kind != DXL_PACKET && kind != DXL_BAD_CHECKSUM)
+        return silence;
 
-    uint8_t own = table[ID], level = table[LEVEL], needs = 2, error = GOOD, slot = 0;
-    uint8_t status[1 + 8] = {0};
-    size_t n_data = 0;
+    uint8_t own = table[ID], level = table[LEVEL], needs = 2, error = GOOD;
     int to_all = id == DXL_BROADCAST_ID, answered = !to_all;
     if (id != own && !to_all)
-        return answer;
+        return silence;
 
     const uint8_t *params = n_body > 0 ? body + 1 : body;
     size_t n = n_body > 0 ? n_body - 1 : 0;
@@ -272,7 +271,7 @@ struct dxl_answer baseline_device(uint8_t *table, size_t n_table, struct dxl_reg
     } else {
         switch (body[0]) {
         case 0x55:
-            return answer;
+            return silence;
         case 0x01:
             needs = 0;
             if (n != 0) {
@@ -281,41 +280,41 @@ struct dxl_answer baseline_device(uint8_t *table, size_t n_table, struct dxl_reg
             }
             if (to_all) {
                 answered = 1;
-                slot = own;
+                reply.slot = own;
             }
-            status[1] = table[MODEL];
-            status[2] = table[MODEL + 1];
-            status[3] = table[FIRMWARE];
-            n_data = 3;
+            reply.bytes[0] = table[MODEL];
+            reply.bytes[1] = table[MODEL + 1];
+            reply.bytes[2] = table[FIRMWARE];
+            reply.count = 3;
             break;
         case 0x02:
             needs = 1;
             error = n != 4 ? LENGTH : judge_read(first, second);
             if (error == GOOD) {
-                memcpy(status + 1, table + first, second);
-                n_data = second;
+                memcpy(reply.bytes, table + first, second);
+                reply.count = (uint8_t)second;
             }
             break;
         case 0x03:
             error = n < 2 ? LENGTH : store(table, first, params + 2, n - 2);
             break;
         case 0x04:
-            error = n < 2 ? LENGTH : reg_write(table, &answer.registered, first, params + 2, n - 2);
+            error = n < 2 ? LENGTH : reg_write(table, registered, first, params + 2, n - 2);
             break;
         case 0x05:
-            error = n != 0 ? LENGTH : action(table, &answer.registered);
+            error = n != 0 ? LENGTH : action(table, registered);
             break;
         case 0x06:
             if (n != 1)
                 error = LENGTH;
             else if (!(to_all && params[0] == 0xFF))
-                error = factory_reset(table, &answer.registered, params[0]);
+                error = factory_reset(table, registered, params[0]);
             break;
         case 0x08:
             if (n != 0)
                 error = LENGTH;
             else
-                reboot(table, &answer.registered);
+                reboot(table, registered);
             break;
         case 0x82: {
             needs = 1;
@@ -325,13 +324,13 @@ struct dxl_answer baseline_device(uint8_t *table, size_t n_table, struct dxl_reg
             }
             int place = n < 4 || second == 0 ? -1 : entry_of(params + 4, n - 4, 1, own);
             if (place < 0)
-                return answer;
+                return silence;
             answered = 1;
-            slot = (uint8_t)place;
+            reply.slot = (size_t)place;
             error = judge_read(first, second);
             if (error == GOOD) {
-                memcpy(status + 1, table + first, second);
-                n_data = second;
+                memcpy(reply.bytes, table + first, second);
+                reply.count = (uint8_t)second;
             }
             break;
         }
@@ -343,7 +342,7 @@ struct dxl_answer baseline_device(uint8_t *table, size_t n_table, struct dxl_reg
             int place = n < 4 || second == 0 ? -1 : entry_of(params + 4, n - 4, second + 1, own);
             if (place >= 0)
                 store(table, first, params + 4 + (size_t)place * (second + 1) + 1, second);
-            return answer;
+            return silence;
         }
         case 0x92: {
             needs = 1;
@@ -354,15 +353,15 @@ struct dxl_answer baseline_device(uint8_t *table, size_t n_table, struct dxl_reg
             size_t at = 0;
             int place = bulk_entry_of(params, n, 0, own, &at);
             if (place < 0)
-                return answer;
+                return silence;
             answered = 1;
-            slot = (uint8_t)place;
+            reply.slot = (size_t)place;
             first = word(params + at + 1);
             second = word(params + at + 3);
             error = judge_read(first, second);
             if (error == GOOD) {
-                memcpy(status + 1, table + first, second);
-                n_data = second;
+                memcpy(reply.bytes, table + first, second);
+                reply.count = (uint8_t)second;
             }
             break;
         }
@@ -374,19 +373,57 @@ struct dxl_answer baseline_device(uint8_t *table, size_t n_table, struct dxl_reg
             size_t at = 0;
             if (bulk_entry_of(params, n, 1, own, &at) >= 0)
                 store(table, word(params + at + 1), params + at + 5, word(params + at + 3));
-            return answer;
+            return silence;
         }
         default:
             error = UNDEFINED;
         }
     }
     if (!answered || level < needs)
+        return silence;
+    reply.speaks = 1;
+    reply.id = own;
+    reply.error = table[HARDWARE_ERROR] != 0 ? error | 0x80 : error;
+    return reply;
+}
+
+int64_t baseline_status(struct dxl_reply reply, uint8_t *out, size_t n_out)
+{
+    if (reply.id > 252)
+        return -DXL_BAD_ID;
+    if (reply.count > 8)
+        return -DXL_TOO_LONG;
+    if (n_out < DXL_MIN_REPLY)
+        return -DXL_SHORT_REPLY;
+    if (reply.speaks == 0)
+        return 0;
+    uint8_t status[1 + 8];
+    status[0] = reply.error;
+    memcpy(status + 1, reply.bytes, 8);
+    return baseline_encode(reply.id, 0x55, status, 1 + (size_t)reply.count, out, n_out, 0);
+}
+
+struct dxl_carried baseline_carry_out(uint8_t *table, size_t n_table, struct dxl_registered registered, uint8_t kind, uint8_t id,
+                                      const uint8_t *body, size_t n_body)
+{
+    struct dxl_carried carried = {fault(table, n_table, registered, DXL_MIN_REPLY), {0}, registered};
+    if (carried.refusal == 0)
+        carried.reply = carry_out(table, &carried.registered, kind, id, body, n_body);
+    return carried;
+}
+
+struct dxl_answer baseline_device(uint8_t *table, size_t n_table, struct dxl_registered registered, uint8_t kind, uint8_t id,
+                                  const uint8_t *body, size_t n_body, uint8_t *reply, size_t n_reply)
+{
+    struct dxl_answer answer = {fault(table, n_table, registered, n_reply), 0, registered};
+    if (answer.count < 0)
         return answer;
-    status[0] = table[HARDWARE_ERROR] != 0 ? error | 0x80 : error;
-    answer.count = baseline_encode(own, 0x55, status, 1 + n_data, reply, n_reply, 0);
-    answer.slot = slot;
+    struct dxl_reply waiting = carry_out(table, &answer.registered, kind, id, body, n_body);
+    answer.count = baseline_status(waiting, reply, n_reply);
+    answer.slot = waiting.slot;
     return answer;
 }
+
 
 /* How many bytes a stuffed body has without its stuffing, or -1 where some FF FF FD is not followed by FD. They go to out. */
 static int64_t removed(const uint8_t *stuffed, size_t n, uint8_t *out)
@@ -432,4 +469,21 @@ struct dxl_answer baseline_exchange(uint8_t *table, size_t n_table, struct dxl_r
     removed(stuffed, n_stuffed, body);
     uint8_t id = is_packet(packet, n_packet) ? packet[4] : 255;
     return baseline_device(table, n_table, registered, DXL_PACKET, id, body, (size_t)count, reply, n_reply);
+}
+
+struct dxl_carried baseline_carry_out_packet(uint8_t *table, size_t n_table, struct dxl_registered registered, const uint8_t *packet,
+                                             size_t n_packet, uint8_t *body, size_t n_body)
+{
+    struct dxl_carried refused = {0, {0}, registered};
+    const uint8_t *stuffed = n_packet < 9 ? packet : packet + 7;
+    size_t n_stuffed = n_packet < 9 ? 0 : n_packet - 9;
+    int64_t count = removed(stuffed, n_stuffed, NULL);
+    refused.refusal = count < 0                    ? -DXL_BAD_STUFFING
+                      : n_body < (size_t)count ? -DXL_NO_ROOM
+                                               : fault(table, n_table, registered, DXL_MIN_REPLY);
+    if (refused.refusal < 0)
+        return refused;
+    removed(stuffed, n_stuffed, body);
+    uint8_t id = is_packet(packet, n_packet) ? packet[4] : 255;
+    return baseline_carry_out(table, n_table, registered, DXL_PACKET, id, body, (size_t)count);
 }

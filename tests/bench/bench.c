@@ -339,6 +339,32 @@ static uint16_t device_baseline(uint16_t last, size_t n)
     return told(baseline_device, last, n);
 }
 
+/* The same in two calls, the second when its slot has come. */
+typedef struct dxl_carried first(uint8_t *table, size_t n_table, struct dxl_registered registered, uint8_t kind, uint8_t id,
+                                 const uint8_t *body, size_t n_body);
+typedef int64_t second(struct dxl_reply reply, uint8_t *out, size_t n_out);
+
+static uint16_t told_in_two(first *carry_out, second *status, uint16_t last, size_t n)
+{
+    if (goal_at > 0) {
+        body[goal_at] = (uint8_t)last;
+        body[goal_at + 1] = (uint8_t)(last >> 8 & 15);
+    }
+    struct dxl_carried carried = carry_out(table, sizeof table, none, DXL_PACKET, 1, body, n);
+    struct dxl_answer answer = {status(carried.reply, reply, sizeof reply), carried.reply.slot, carried.registered};
+    return folded(last, &answer);
+}
+
+static uint16_t two_ours(uint16_t last, size_t n)
+{
+    return told_in_two(dxl_carry_out, dxl_status, last, n);
+}
+
+static uint16_t two_baseline(uint16_t last, size_t n)
+{
+    return told_in_two(baseline_carry_out, baseline_status, last, n);
+}
+
 typedef struct dxl_answer exchanger(uint8_t *table, size_t n_table, struct dxl_registered registered, const uint8_t *packet,
                                     size_t n_packet, uint8_t *body, size_t n_body, uint8_t *reply, size_t n_reply);
 
@@ -501,6 +527,7 @@ static int measure_instructions(void)
     good = good && measure_device("device, Read", sizeof get);
     instruct(put, sizeof put, 3);
     good = good && measure_device("device, Write", sizeof put);
+    good = good && measure("device in two, Write", two_ours, two_baseline, sizeof put, 1e-6, "Mcalls/s");
     receive(sizeof put);
     good = good && measure_exchange("exchange, Write", sizeof put + 9);
     good = good && measure_device("device, Sync Write", instruct_200());

@@ -10,12 +10,13 @@ static void tell(const char *what, size_t bytes)
 
 int main(void)
 {
-    size_t kept = sizeof(struct dxl_reader) + DXL_TABLE_BYTES + sizeof(struct dxl_registered);
+    size_t kept = sizeof(struct dxl_reader) + DXL_TABLE_BYTES + sizeof(struct dxl_registered) + sizeof(struct dxl_reply);
     size_t lent = DXL_MAX_PACKET + DXL_MAX_BODY + DXL_MIN_REPLY;
     printf("kept as long as the device, in bytes\n");
     tell("reader, struct dxl_reader", sizeof(struct dxl_reader));
     tell("control table", DXL_TABLE_BYTES);
     tell("registered write, struct dxl_registered", sizeof(struct dxl_registered));
+    tell("reply that waits for its slot, struct dxl_reply", sizeof(struct dxl_reply));
     tell("together", kept);
     printf("lent for one call, in bytes\n");
     tell("packet buffer", DXL_MAX_PACKET);
@@ -26,5 +27,6 @@ int main(void)
     tell("of the reader, struct dxl_step", sizeof(struct dxl_step));
     tell("of the plain reader, struct dxl_event", sizeof(struct dxl_event));
     tell("of the device, struct dxl_answer", sizeof(struct dxl_answer));
+    tell("of a first call, struct dxl_carried", sizeof(struct dxl_carried));
     return 0;
 }

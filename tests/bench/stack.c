@@ -141,6 +141,32 @@ static void call_device(void)
     }
 }
 
+/* The same in two calls. */
+static void call_carry_out(void)
+{
+    struct dxl_registered registered[2] = {{0, 0, {0}, 0, 0}, {116, 4, {0}, 0, 4095}};
+    MARK_TOP();
+    for (int i = 0; i < 8; i++) {
+        uint8_t id = i & 1 ? 1 : DXL_BROADCAST_ID, kind = i & 2 ? DXL_PACKET : DXL_BAD_CHECKSUM;
+        answered = dxl_carry_out(table, sizeof table, registered[i >> 2], kind, id, body, n_body).refusal;
+    }
+}
+
+static void call_carry_out_packet(void)
+{
+    struct dxl_registered registered[2] = {{0, 0, {0}, 0, 0}, {116, 4, {0}, 0, 4095}};
+    MARK_TOP();
+    for (int i = 0; i < 4; i++)
+        answered = dxl_carry_out_packet(table, sizeof table, registered[i >> 1], received[i & 1], n_received, out, sizeof out).refusal;
+}
+
+static void call_status(void)
+{
+    struct dxl_reply waiting = {1, 1, 0xFF, 8, {0xFF, 0xFD, 0xFF, 0xFF, 0xFD, 0xFF, 0xFF, 0xFD}, 0};
+    MARK_TOP();
+    answered = dxl_status(waiting, reply, sizeof reply) + dxl_status(waiting, reply, 0);
+}
+
 /* The same as packets in their bytes. */
 static void call_exchange(void)
 {
@@ -300,5 +326,8 @@ int main(void)
     tell("dxl_measure", deepest(nothing, call_measure));
     tell("dxl_device", deepest_device(call_device));
     tell("dxl_exchange", deepest_device(call_exchange));
+    tell("dxl_carry_out", deepest_device(call_carry_out));
+    tell("dxl_carry_out_packet", deepest_device(call_carry_out_packet));
+    tell("dxl_status", deepest(nothing, call_status));
     return 0;
 }

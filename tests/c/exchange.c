@@ -31,11 +31,11 @@ static void hear(struct dxl_step step)
     int64_t n = 0;
     if (step.kind == DXL_PACKET)
         n = dxl_unstuff(packet + 7, step.count - 9, body, sizeof body);
-    struct dxl_answer answer =
-        dxl_device(table, sizeof table, registered, step.kind, step.id, body, (size_t)n, reply, sizeof reply);
-    registered = answer.registered;
-    if (answer.count > 0)
-        send_in_slot(reply, (size_t)answer.count, answer.slot);
+    struct dxl_carried carried = dxl_carry_out(table, sizeof table, registered, step.kind, step.id, body, (size_t)n);
+    registered = carried.registered;
+    n = dxl_status(carried.reply, reply, sizeof reply);
+    if (n > 0)
+        send_in_slot(reply, (size_t)n, carried.reply.slot);
 }
 
 static void bytes_came(const uint8_t *chunk, size_t n)
@@ -137,6 +137,50 @@ static void in_one_call(void)
     expect(last_slot == 1 && table[117] == 2 && table[104] == 200, "in one call: slot or table are not those wanted", 0);
 }
 
+/* And by the two calls that wait for the slot in between: packet, body buffer, table, registered write and status are the same. */
+static void in_two_calls(void)
+{
+    static const struct dxl_registered none;
+    uint8_t one[DXL_TABLE_BYTES], two[DXL_TABLE_BYTES], other[DXL_MIN_REPLY];
+    struct dxl_registered left = none;
+    dxl_fresh(one, sizeof one);
+    dxl_measure(one, sizeof one, 166, 0x20);
+    memcpy(two, one, sizeof two);
+    for (size_t at = 0; at < sizeof line;) {
+        size_t n = 7 + line[at + 5] + 256 * (size_t)line[at + 6];
+        struct dxl_answer answer = dxl_exchange(one, sizeof one, left, line + at, n, body, sizeof body, reply, sizeof reply);
+        struct dxl_carried carried = dxl_carry_out_packet(two, sizeof two, left, line + at, n, body, sizeof body);
+        expect(carried.refusal == 0 && memcmp(one, two, sizeof one) == 0, "in two calls: another table", 0);
+        expect(memcmp(&carried.registered.bytes, &answer.registered.bytes, 8) == 0 && carried.registered.count == answer.registered.count
+                   && carried.registered.max == answer.registered.max,
+               "in two calls: another registered write", 0);
+        expect(carried.reply.speaks == (answer.count > 0) && carried.reply.slot == answer.slot, "in two calls: another slot", 0);
+        expect(dxl_status(carried.reply, other, sizeof other) == answer.count, "in two calls: another count", 0);
+        expect(answer.count == 0 || memcmp(reply, other, (size_t)answer.count) == 0, "in two calls: another status", 0);
+        left = answer.registered;
+        at += n;
+    }
+}
+
+/* A reply may be any: its refusals in their order, before silence is looked at; what is past its count is not sent. */
+static void lent_replies(void)
+{
+    struct dxl_reply lent = {2, 253, 0xFF, 9, {0xFF, 0xFD, 0xFF, 0xFF, 0xFD, 0xFF, 0xFF, 0xFD}, 7};
+    memset(reply, 0xAA, sizeof reply);
+    expect(dxl_status(lent, reply, 31) == -DXL_BAD_ID, "ID 253 is accepted", 0);
+    lent.id = 252;
+    expect(dxl_status(lent, reply, 31) == -DXL_TOO_LONG, "nine bytes are accepted", 0);
+    lent.count = 8;
+    expect(dxl_status(lent, reply, 31) == -DXL_SHORT_REPLY, "31 bytes are accepted", 0);
+    lent.speaks = 0;
+    expect(dxl_status(lent, reply, 31) == -DXL_SHORT_REPLY, "silence is looked at before the room", 0);
+    expect(dxl_status(lent, reply, 32) == 0 && reply[0] == 0xAA, "silence is written", 0);
+    lent.speaks = 255;
+    expect(dxl_status(lent, reply, 32) == 22 && reply[4] == 252 && reply[8] == 0xFF && reply[22] == 0xAA, "the longest status", 0);
+    lent.count = 1;
+    expect(dxl_status(lent, reply, 32) == 12 && reply[9] == 0xFF, "bytes past the count are sent", 0);
+}
+
 /* Action needs the limits at which the write was registered, though the goal suits those from before and those after it. */
 static void changed_limits(void)
 {
@@ -180,6 +224,11 @@ static void refusals(void)
                && memcmp(answer.registered.bytes, long_one.bytes, 8) == 0 && answer.registered.min == -7
                && answer.registered.max == 7,
            "a registered write of nine bytes is accepted or changed", 0);
+    struct dxl_carried carried = dxl_carry_out(other, sizeof other, long_one, DXL_PACKET, 1, ping, 1);
+    expect(carried.refusal == -DXL_BAD_REGISTERED && carried.registered.count == 9 && carried.reply.speaks == 0 && carried.reply.id == 0,
+           "the first call accepts a registered write of nine bytes, or answers it", 0);
+    carried = dxl_carry_out_packet(other, sizeof other, none, line, 10, body, 0);
+    expect(carried.refusal == -DXL_NO_ROOM && carried.reply.speaks == 0, "the first call accepts a body without room", 0);
     answer = dxl_device(other, sizeof other, none, DXL_NO_EVENT, 1, ping, 1, reply, DXL_MIN_REPLY - 1);
     expect(answer.count == -DXL_SHORT_REPLY, "a short reply buffer is accepted", 0);
 
@@ -214,6 +263,8 @@ int main(void)
         exchange(chunks[i], 1);
     }
     in_one_call();
+    in_two_calls();
+    lent_replies();
     changed_limits();
     refusals();
     if (failures != 0)

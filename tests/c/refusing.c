@@ -45,11 +45,22 @@ COUNT(dxl_measure, (uint8_t *table, size_t n, int32_t position, uint8_t hardware
 STEP(dxl_reader_feed, (struct dxl_reader *reader, const uint8_t *chunk, size_t n, uint8_t packet[1031]), (reader, chunk, n, packet))
 STEP(dxl_reader_gap, (struct dxl_reader *reader, uint8_t packet[1031]), (reader, packet))
 
-DECLARE(struct dxl_answer, dxl_device,
+COUNT(dxl_status, (struct dxl_reply reply, uint8_t *out, size_t n_out), (reply, out, n_out))
+
+/* A first call, with all of its reply 0. */
+#define CARRIED(name, parameters, arguments)                                          \
+    DECLARE(struct dxl_carried, name, parameters)                                     \
+    {                                                                                 \
+        static const struct dxl_reply silence;                                        \
+        struct dxl_carried refused = {-refusal(#name), silence, registered};          \
+        return refused.refusal != 0 ? refused : __real_##name arguments;              \
+    }
+
+CARRIED(dxl_carry_out,
         (uint8_t *table, size_t n_table, struct dxl_registered registered, uint8_t kind, uint8_t id, const uint8_t *body,
-         size_t n_body, uint8_t *reply, size_t n_reply))
-{
-    struct dxl_answer refused = {-refusal("dxl_device"), 0, registered};
-    return refused.count != 0 ? refused
-                              : __real_dxl_device(table, n_table, registered, kind, id, body, n_body, reply, n_reply);
-}
+         size_t n_body),
+        (table, n_table, registered, kind, id, body, n_body))
+CARRIED(dxl_carry_out_packet,
+        (uint8_t *table, size_t n_table, struct dxl_registered registered, const uint8_t *packet, size_t n_packet, uint8_t *body,
+         size_t n_body),
+        (table, n_table, registered, packet, n_packet, body, n_body))

@@ -32,6 +32,7 @@ static struct {
     uint8_t kind, id;
     uint16_t crc;
     struct dxl_registered registered;
+    struct dxl_reply waiting; /* what the first call has left for the second */
 } given;
 
 /* The name of a function; where the baseline is counted, its own. */
@@ -348,6 +349,28 @@ static int64_t exchange(void)
     return told(&answer);
 }
 
+/* The first of two calls, and the second. */
+static int64_t carry_out(void)
+{
+    struct dxl_carried carried =
+        dxl_carry_out(lent.table, sizeof lent.table, given.registered, given.kind, given.id, lent.params, given.n);
+    given.waiting = carried.reply;
+    return joined(carried.refusal, carried.reply.error, lent.table[DXL_REG_GOAL_POSITION]);
+}
+
+static int64_t carry_out_packet(void)
+{
+    struct dxl_carried carried = dxl_carry_out_packet(lent.table, sizeof lent.table, given.registered, lent.packet, given.n,
+                                                      lent.body, sizeof lent.body);
+    given.waiting = carried.reply;
+    return joined(carried.refusal, carried.reply.error, lent.table[DXL_REG_GOAL_POSITION]);
+}
+
+static int64_t status(void)
+{
+    return dxl_status(given.waiting, lent.reply, given.room);
+}
+
 /* What is heard: an instruction with its parameters, and what comes of it on a fresh table. */
 struct heard {
     const char *input;
@@ -410,6 +433,18 @@ static void count_heard(const struct heard *what)
     count(NAME(dxl_exchange), what->input, exchange, wanted);
 }
 
+/* The same in two calls. */
+static void count_in_two(const struct heard *what)
+{
+    int64_t wanted = joined(0, what->error, what->goal);
+    begin(what);
+    count(NAME(dxl_carry_out), what->input, carry_out, wanted);
+    count(NAME(dxl_status), what->input, status, what->bytes);
+    begin(what);
+    given.n = (size_t)baseline_encode(what->id, what->body[0], what->body + 1, what->n - 1, lent.packet, sizeof lent.packet, 0);
+    count(NAME(dxl_carry_out_packet), what->input, carry_out_packet, wanted);
+}
+
 /* The longest lists, with our ID last: as many goals as a packet holds, and all IDs. */
 static void count_lists(void)
 {
@@ -446,6 +481,13 @@ static void count_faults(void)
     begin(ping);
     lent.packet[given.n - 1] ^= 1;
     count(NAME(dxl_exchange), "bad checksum", exchange, 0);
+
+    begin(ping);
+    given.registered.count = 9;
+    count(NAME(dxl_carry_out), "refused", carry_out, joined(-DXL_BAD_REGISTERED, 0, 0));
+    count(NAME(dxl_carry_out_packet), "refused", carry_out_packet, joined(-DXL_BAD_REGISTERED, 0, 0));
+    given.room = 0;
+    count(NAME(dxl_status), "refused", status, -DXL_SHORT_REPLY);
 }
 
 int main(void)
@@ -459,6 +501,8 @@ int main(void)
     count_table();
     for (size_t i = 0; i < sizeof heard / sizeof heard[0]; i++)
         count_heard(&heard[i]);
+    for (size_t i = 0; i < sizeof heard / sizeof heard[0]; i++)
+        count_in_two(&heard[i]);
     count_lists();
     count_faults();
     return 0;

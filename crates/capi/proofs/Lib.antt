@@ -1,1 +1,2 @@
 mod Field
+mod Carried

@@ -1,11 +1,13 @@
 // The functions that C calls. Each passes its arguments on to a crate beneath and makes that crate's promise in numbers and byte
 // slices; include/mednukals.h declares and documents them. A `&[u8]` is a pointer and a length in C.
 use instructions::RegisteredWrite;
+use numbers::CarriedNumbers;
 use numbers::DeviceNumbers;
 use numbers::EventNumbers;
 use numbers::StepNumbers;
 use reactions::Heard;
 use reader::Reader;
+use status::Reply;
 ghost use mathlib.Core.Path.{_≡_};
 ghost use mathlib.Core.List.{_∷_};
 ghost use mathlib.Core.Option.{none};
@@ -23,14 +25,18 @@ ghost use Rattle.packet.specs.Burst.{BurstDetected};
 ghost use Rattle.reader.specs.Records.{stepOn, leftBy, lent, packetOn, records, ReaderPromises};
 ghost use Rattle.plain_reader.specs.Next.{nextEvent};
 ghost use Rattle.plain_reader.specs.Plain.{PlainPromises};
-ghost use Rattle.device.specs.Answers.{callAnswer, callRegistered, callTable, callOut};
+ghost use Rattle.status.specs.Sending.{statusAnswer, statusOut};
+ghost use Rattle.status.specs.Sent.{ReplyWritten};
+ghost use Rattle.device.specs.Answers.{carriedAnswer, carriedReply, carriedRegistered, carriedTable, callAnswer, callRegistered, callTable, callOut};
+ghost use Rattle.device.specs.Split.{Split};
 ghost use Rattle.device.specs.Promises.{DevicePromises};
-ghost use Rattle.exchange.specs.Exchange.{exchangeAnswer, exchangeRegistered, exchangeTable, exchangeBody, exchangeOut};
+ghost use Rattle.exchange.specs.Exchange.{packetAnswer, packetReply, packetRegistered, packetTable, packetBody, exchangeAnswer, exchangeRegistered, exchangeTable, exchangeBody, exchangeOut};
+ghost use Rattle.exchange.specs.Split.{Split as Exchange·Split};
 ghost use Rattle.exchange.specs.Stays.{StaysAccepted};
 ghost use Rattle.exchange.specs.GoalWithinLimits.{GoalWithinLimits};
 ghost use Rattle.exchange.specs.Promises.{ExchangePromises};
 ghost use Rattle.cases.specs.Cases.{CasesHold};
-ghost use Rattle.numbers.specs.Exported.{exported, exportedRefusal, stepNumbers, nextNumbers, deviceNumbers};
+ghost use Rattle.numbers.specs.Exported.{exported, exportedRefusal, stepNumbers, nextNumbers, deviceNumbers, carriedNumbers};
 ghost use Rattle.capi.specs.Heard.{heardBy, idOfKind};
 
 // The checksum of the bytes, going on from an earlier one; 0 starts a packet's. The laws of the sum are promised too.
@@ -247,4 +253,53 @@ pub extern "C" fn dxl_exchange(
     ensures { λ _. ⌜ ExchangePromises × CasesHold ⌝ }
 {
     numbers::answered(exchange::answer(table, registered, packet, body, reply))
+}
+
+// The first of two calls: what was heard is carried out, and its reply waits for its slot. Kinds as of `dxl_device`.
+// [D50 D51 D54 G5 N5-N7 N10-N12]
+#[no_mangle]
+pub extern "C" fn dxl_carry_out(
+    table: &mut [u8],
+    registered: RegisteredWrite,
+    kind: u8,
+    id: u8,
+    body: &[u8],
+) -> CarriedNumbers
+    ensures { λ r. ⌜ r ≡ carriedNumbers (carriedAnswer (now (table .entry)) registered)
+        (carriedReply (now (table .entry)) registered (heardBy kind) (idOfKind kind id) (now (body .entry)))
+        (carriedRegistered (now (table .entry)) registered (heardBy kind) (idOfKind kind id) (now (body .entry))) ⌝ }
+    ensures { λ _. ⌜ now (table .exit) ≡ carriedTable (now (table .entry)) registered (heardBy kind) (idOfKind kind id) (now (body .entry)) ⌝ }
+    ensures { λ _. ⌜ Split × StaysAccepted × GoalWithinLimits ⌝ }
+{
+    let heard = heard_by(kind);
+    let heard_id = id_of_kind(kind, id);
+    numbers::carried(device::carry_out(table, registered, heard, heard_id, body))
+}
+
+// The first call on a packet as received; its body is written to `body` without its stuffing. [D38 D39 D50 D51 D54 G5 N3 N4]
+#[no_mangle]
+pub extern "C" fn dxl_carry_out_packet(
+    table: &mut [u8],
+    registered: RegisteredWrite,
+    packet: &[u8],
+    body: &mut [u8],
+) -> CarriedNumbers
+    ensures { λ r. ⌜ r ≡ carriedNumbers (packetAnswer (now (table .entry)) registered (now (packet .entry)) (now (body .entry)))
+        (packetReply (now (table .entry)) registered (now (packet .entry)) (now (body .entry)))
+        (packetRegistered (now (table .entry)) registered (now (packet .entry)) (now (body .entry))) ⌝ }
+    ensures { λ _. ⌜ (now (table .exit) ≡ packetTable (now (table .entry)) registered (now (packet .entry)) (now (body .entry)))
+        × (now (body .exit) ≡ packetBody (now (table .entry)) registered (now (packet .entry)) (now (body .entry))) ⌝ }
+    ensures { λ _. ⌜ Exchange·Split × StaysAccepted × GoalWithinLimits ⌝ }
+{
+    numbers::carried_packet(exchange::carry_out(table, registered, packet, body))
+}
+
+// The second: the status of a reply that has waited. Any reply is accepted but for its refusals. [D52-D54 G5 N1 N2 N8 N10-N12 N14]
+#[no_mangle]
+pub extern "C" fn dxl_status(reply: Reply, out: &mut [u8]) -> i64
+    ensures { λ r. ⌜ r ≡ exported (statusAnswer reply (now (out .entry))) ⌝ }
+    ensures { λ _. ⌜ now (out .exit) ≡ statusOut reply (now (out .entry)) ⌝ }
+    ensures { λ _. ⌜ Split × Exchange·Split × ReplyWritten ⌝ }
+{
+    numbers::written(status::send(reply, out))
 }

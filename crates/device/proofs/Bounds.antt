@@ -1,6 +1,6 @@
 -- A reply has at most 8 data bytes, an error byte of at most 135, and the own ID or 0.
 use mathlib.Core.Path.{_≡_, refl, ap}
-use mathlib.Core.Bool.{Bool, true, false, cond, false≢true}
+use mathlib.Core.Bool.{Bool, true, false, cond, true≢false}
 use mathlib.Core.List.{List, []}
 use mathlib.Core.Option.{Option, none, some}
 use Prim.Native.Nat.{ℕ, _+_, _%_, _≤_}
@@ -17,7 +17,7 @@ use Rattle.instructions.proofs.Errors.{read-number, write-number}
 use Rattle.reactions.proofs.Every.{every}
 use Rattle.device.proofs.Replies.{to-whomever}
 use Rattle.instructions.specs.Instructions.{Effect, ping, read, write, regWrite, action}
-use Rattle.reactions.specs.Reactions.{ReplyRule, silent, speaks, ownId, Reaction}
+use Rattle.reactions.specs.Reactions.{ReplyRule, silent, speaks, ownId, Reaction, reaction}
 use Rattle.device.specs.Device.{hardwareErrorIn, replyBy, executed, carryOut}
 use Rattle.status.specs.Status.{silence}
 use Rattle.instructions.specs.declared.RegisteredWrite.{RegisteredWrite}
@@ -29,9 +29,9 @@ pub record Sendable (own : ℕ) (r : Reply) : Type 0 where
   pub short : r .count ≤ 8
   -- 7, with the alert 135
   pub numbered : r .error ≤ 135
-  pub own-id : r .speaks ≡ true → r .id ≡ own
+  pub own-id : eqb (r .speaks) 0 ≡ false → r .id ≡ own
 
-record Small (e : Effect) : Type 0 where
+pub record Small (e : Effect) : Type 0 where
   pub few : length (e .bytes) ≤ 8
   pub at-most-7 : e .error ≤ 7
 
@@ -63,13 +63,15 @@ module _ (table : List ℕ) (w : RegisteredWrite) (sized : length table ≡ tabl
   action-small : Small (action table w)
   action-small = each-action Small table w (none-small _ refl (omega arith)) (write-small _ _ _ _) (none-small _ refl (omega arith))
 
+  pub reaction-small : (heard : Heard) (all : Bool) (body : List ℕ) → Small (reaction heard all table w body .effect)
+  reaction-small heard all body =
+      every (λ acting. Small) table w (λ error le. none-small _ refl le) (none-small _ refl (omega arith)) ping-small read-small (write-small table w)
+      reg-write-small action-small (none-small _ refl (omega arith))
+      (each-option Small table w (λ keeps low high. none-small _ refl (omega arith)) (none-small _ refl (omega arith))) heard all body
+
   executed-small : (heard : Heard) (id : ℕ) (body : List ℕ) → Small (executed table w heard id body .effect)
   executed-small heard id body =
-      to-whomever table w heard id body (λ (r : Reaction). Small (r .effect))
-      (λ all. every (λ acting. Small) table w (λ error le. none-small _ refl le) (none-small _ refl (omega arith)) ping-small read-small (write-small table w)
-      reg-write-small action-small (none-small _ refl (omega arith))
-      (each-option Small table w (λ keeps low high. none-small _ refl (omega arith)) (none-small _ refl (omega arith))) heard all body)
-      (none-small _ refl (omega arith))
+      to-whomever table w heard id body (λ (r : Reaction). Small (r .effect)) (λ all. reaction-small heard all body) (none-small _ refl (omega arith))
 
   -- the reply can be sent
   module _ (own : ownId table ≤ 252) where
@@ -83,7 +85,7 @@ module _ (table : List ℕ) (w : RegisteredWrite) (sized : length table ≡ tabl
 
     silence-sendable : Sendable (ownId table) silence
     silence-sendable =
-        record { known = omega arith; short = omega arith; numbered = omega arith; own-id = λ e. absurd (false≢true e) }
+        record { known = omega arith; short = omega arith; numbered = omega arith; own-id = λ e. absurd (true≢false e) }
 
     by-replying : (replying : ReplyRule) (e : Effect) → Small e → Sendable (ownId table) (replyBy replying table e)
     by-replying silent e s = silence-sendable

@@ -10,7 +10,8 @@ use lib.ListN.{length}
 use borrow.Author.Tests.{eq-eqb, ne-eqb, le-leb, lt-leb, eqb-true, leb-true}
 use Rattle.registers.specs.Registers.{tableSize}
 use Rattle.reactions.specs.Reactions.{ownId}
-use Rattle.device.specs.Answers.{sent, stateRefusal, roomRefusal, orElse, callRefusal, repliedAnswer, answeredBy}
+use Rattle.device.specs.Answers.{sent, refused, replyUnless, stateRefusal, roomRefusal, orElse, callRefusal, repliedAnswer, answeredBy}
+use Rattle.device.specs.Split.{answerOfBoth}
 use Rattle.status.specs.Status.{silence}
 use Rattle.instructions.specs.Registered.{keptBy}
 use Rattle.status.specs.declared.Reply.{Reply}
@@ -104,10 +105,24 @@ pub record Refuses (refusal : Option ℕ) (r : Replied) : Type 0 where
   pub before : (later : Option ℕ) → repliedAnswer r ≡ answeredBy (orElse refusal later) silence
   pub leaves : (old new : List ℕ) → old ≡ unlessRefused refusal old new
   pub keeps : (old new : RegisteredWrite) → old ≡ keptBy refusal old new
+  -- of the first call, and of both where the second is not made
+  pub silences : (reply : Reply) → silence ≡ replyUnless refusal reply
+  pub stops : (reply : Reply) (out : List ℕ) → repliedAnswer r ≡ answerOfBoth refusal reply out
+
+pub told-some : (r : Replied) (number : ℕ) → repliedAnswer r ≡ refused number → Refuses (some number) r
+told-some r number e =
+    record {
+      answers = λ reply. e;
+      before = λ later. e;
+      leaves = λ old new. refl;
+      keeps = λ old new. refl;
+      silences = λ reply. refl;
+      stops = λ reply out. e;
+    }
 
 pub fault-told : (refusal : Option ℕ) (r : Replied) → repliedAnswer r ≡ answeredBy refusal silence
     → ((n slot : ℕ) → r ≡ Sent n slot → ⊥) → Refuses refusal r
-fault-told (some number) r e not-sent = record { answers = λ reply. e; before = λ later. e; leaves = λ old new. refl; keeps = λ old new. refl }
+fault-told (some number) r e not-sent = told-some r number e
 fault-told none (Sent n slot) e not-sent = absurd (not-sent n slot refl)
 fault-told none NotTable e not-sent = let z : _≡_ {A = ℕ} 0 1 = cc in absurd (omega arith)
 fault-told none BadId e not-sent = let z : _≡_ {A = ℕ} 0 1 = cc in absurd (omega arith)
@@ -134,3 +149,17 @@ pub state-refused : (table : List ℕ) (w : RegisteredWrite) (out : List ℕ) (r
     → Refuses (stateRefusal table w) r → repliedAnswer r ≡ answeredBy (callRefusal table w out) silence
 unfolding callRefusal
 state-refused table w out r q = q .before (roomRefusal out)
+
+-- a buffer that is too short: whatever is told, the call is refused
+pub short-refused : (table : List ℕ) (w : RegisteredWrite) (out : List ℕ) → length out < 32 → (r : Replied)
+    → repliedAnswer r ≡ answeredBy (callRefusal table w out) silence → Refuses (callRefusal table w out) r
+unfolding callRefusal
+short-refused table w out l r e = by-state (stateRefusal table w) refl
+  where
+    by-refusal : (f : Option ℕ) (number : ℕ) → f ≡ some number → repliedAnswer r ≡ answeredBy f silence → Refuses f r
+    by-refusal none number i h = let z : _≡_ {A = ℕ} 0 1 = cc in absurd (omega arith)
+    by-refusal (some k) number i h = told-some r k h
+
+    by-state : (s : Option ℕ) → stateRefusal table w ≡ s → Refuses (orElse (stateRefusal table w) (roomRefusal out)) r
+    by-state (some number) f = by-refusal _ number (rw f) e
+    by-state none f = by-refusal _ 24 (rw (f, refuses-room out l)) e

@@ -5,5 +5,6 @@ pub mod Stays
 pub mod Unheard
 pub mod Demand1
 pub mod Written
+pub mod Split
 pub mod ActionLimits
 pub mod Promises

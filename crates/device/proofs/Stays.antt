@@ -17,8 +17,9 @@ use Rattle.instructions.proofs.Fit.{reg-write-short}
 use Rattle.reactions.specs.Reactions.{Reaction}
 use Rattle.reactions.proofs.Every.{every}
 use Rattle.device.specs.Device.{executed}
-use Rattle.device.specs.Answers.{callRefusal, callTable, callRegistered}
-use Rattle.device.proofs.Calls.{accepted}
+use Rattle.device.specs.Answers.{stateRefusal, carriedTable, carriedRegistered, callRefusal, callTable, callRegistered}
+use Rattle.instructions.specs.Registered.{keptBy}
+use Rattle.device.proofs.Calls.{AcceptedState, state-accepted, accepted}
 use Rattle.device.proofs.Replies.{to-whomever}
 use Rattle.instructions.specs.declared.RegisteredWrite.{RegisteredWrite}
 use Rattle.reactions.specs.declared.Heard.{Heard}
@@ -33,12 +34,15 @@ module _ (P : List ℕ → Type 0) (kept : Kept P) (table : List ℕ) (p : P tab
       p
 
   -- whatever registered write is lent, and whatever refuses it
+  unless-keeps : (r : Option ℕ) → P (unlessRefused r table (executed table w heard id body .effect .table))
+  unless-keeps none = executed-keeps
+  unless-keeps (some number) = p
+
+  pub carry-keeps : P (carriedTable table w heard id body)
+  carry-keeps = unless-keeps (stateRefusal table w)
+
   pub call-keeps : (out : List ℕ) → P (callTable table w heard id body out)
-  call-keeps out = by-refusal (callRefusal table w out)
-    where
-      by-refusal : (r : Option ℕ) → P (unlessRefused r table (executed table w heard id body .effect .table))
-      by-refusal none = executed-keeps
-      by-refusal (some number) = p
+  call-keeps out = unless-keeps (callRefusal table w out)
 
 module _ (table : List ℕ) (w : RegisteredWrite) (heard : Heard) (id : ℕ) (body : List ℕ) where
   executed-short : length table ≡ tableSize → w .count ≤ 8 → executed table w heard id body .effect .registered .count ≤ 8
@@ -51,11 +55,17 @@ module _ (table : List ℕ) (w : RegisteredWrite) (heard : Heard) (id : ℕ) (bo
       short
 
   -- a registered write with a count above 8 stays
+  unless-count : (r : Option ℕ) → (r ≡ none → AcceptedState table w)
+      → leb (keptBy r w (executed table w heard id body .effect .registered) .count) 8 ≡ leb (w .count) 8
+  unless-count none good =
+      let a = good refl in
+      le-leb _ 8 (executed-short (a .sized) (a .short)) ∙ sym (le-leb (w .count) 8 (a .short))
+  unless-count (some number) good = refl
+
+  pub carry-count : leb (carriedRegistered table w heard id body .count) 8 ≡ leb (w .count) 8
+  carry-count = unless-count (stateRefusal table w) (state-accepted table w)
+
   pub call-count : (out : List ℕ) → leb (callRegistered table w heard id body out .count) 8 ≡ leb (w .count) 8
-  call-count out = by-refusal (callRefusal table w out) refl
-    where
-      by-refusal : (r : Option ℕ) → callRefusal table w out ≡ r → leb (callRegistered table w heard id body out .count) 8 ≡ leb (w .count) 8
-      by-refusal none e =
-          let a = accepted table w out e in
-          rw e (le-leb _ 8 (executed-short (a .sized) (a .short)) ∙ sym (le-leb (w .count) 8 (a .short)))
-      by-refusal (some number) e = rw e refl
+  call-count out =
+      unless-count (callRefusal table w out)
+      (λ e. let a = accepted table w out e in record { sized = a .sized; known = a .known; short = a .short })

@@ -1,14 +1,14 @@
 -- The status that is written.
-use mathlib.Core.Path.{_≡_, refl, sym, ap, subst, _∙_}
-use mathlib.Core.Bool.{Bool, true, false, cond}
-use mathlib.Core.List.{List, []}
+use mathlib.Core.Path.{_≡_, sym, ap, subst, _∙_}
+use mathlib.Core.List.{List}
 use Prim.Native.Nat.{ℕ, _<_}
 use native.Mathlib.Omega.{arith}
 use lib.ListN.{length, take}
 use borrow.Author.Tests.{ne-eqb}
 use Rattle.lists.specs.Write.{overwritten}
 use Rattle.lists.proofs.Write.{overwritten-take}
-use Rattle.status.specs.Status.{statusPacket, replyBytes}
+use Rattle.status.specs.Status.{replyBytes}
+use Rattle.status.proofs.Sent.{speaking}
 use Rattle.status.proofs.Packets.{status-id, status-formed, status-length}
 use Rattle.reactions.specs.Reactions.{ownId}
 use Rattle.device.specs.Device.{carryOut}
@@ -18,14 +18,6 @@ use Rattle.device.proofs.Bounds.{Sendable, sendable}
 use Rattle.device.proofs.Calls.{accepted}
 use Rattle.device.proofs.Demand1.{sent-by}
 use Rattle.status.specs.declared.Reply.{Reply}
-
--- silence has no bytes
-speaking : (r : Reply) → 0 < length (replyBytes r) → (r .speaks ≡ true) × (replyBytes r ≡ statusPacket r)
-speaking r h = by-replying (r .speaks) refl h
-  where
-    by-replying : (b : Bool) → r .speaks ≡ b → 0 < length (cond b (statusPacket r) []) → (r .speaks ≡ true) × (replyBytes r ≡ statusPacket r)
-    by-replying true e l = (e, rw e)
-    by-replying false e l = absurd (omega arith)
 
 is-status : (own : ℕ) (r : Reply) → Sendable own r → 0 < length (replyBytes r) → IsStatus own (length (replyBytes r)) (replyBytes r)
 is-status own r g h =

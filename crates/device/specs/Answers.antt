@@ -1,4 +1,4 @@
--- The device call: refusals, and what is answered and left.
+-- The calls of the device: refusals, and what is answered and left.
 use mathlib.Core.List.{List, [], _∷_}
 use mathlib.Core.Option.{Option, none, some}
 use Prim.Native.Nat.{ℕ}
@@ -15,11 +15,33 @@ use Rattle.status.specs.declared.Reply.{Reply}
 use Rattle.reactions.specs.declared.Heard.{Heard}
 use Rattle.device.specs.declared.Replied.{Replied}
 use Rattle.device.specs.declared.Replied.the-variants.{Sent, NotTable, BadId, BadRegistered, NoRoom, BadReplyId, LongReply}
-use Rattle.status.specs.Status.{replyBytes}
+use Rattle.status.specs.Status.{silence, replyBytes}
 
 -- of table and registered write [N5-N7]
 unfoldable pub stateRefusal : List ℕ → RegisteredWrite → Option ℕ
 stateRefusal table w = inTable table (firstFailing ((leb (ownId table) 252, 22) ∷ (leb (w .count) 8, 23) ∷ []))
+
+-- ---- the first call: the instruction is carried out, and its reply waits
+
+-- a refused one answers silence [D51]
+abbrev pub replyUnless : Option ℕ → Reply → Reply
+replyUnless none reply = reply
+replyUnless (some number) reply = silence
+
+module _ (table : List ℕ) (w : RegisteredWrite) (heard : Heard) (id : ℕ) (body : List ℕ) where
+  -- [D50 D51]
+  abbrev pub carriedReply : Reply
+  carriedReply = replyUnless (stateRefusal table w) (carryOut table w heard id body .reply)
+
+  -- [D50]
+  abbrev pub carriedTable : List ℕ
+  carriedTable = unlessRefused (stateRefusal table w) table (carryOut table w heard id body .table)
+
+  -- [D50]
+  abbrev pub carriedRegistered : RegisteredWrite
+  carriedRegistered = keptBy (stateRefusal table w) w (carryOut table w heard id body .registered)
+
+-- ---- the device call: instruction and status in one
 
 -- of the reply buffer [N8]
 unfoldable pub roomRefusal : List ℕ → Option ℕ
@@ -58,6 +80,10 @@ withSlot (Lists·refused number) slot = refused number
 abbrev pub answeredBy : Option ℕ → Reply → DeviceAnswer
 answeredBy none reply = sent (length (replyBytes reply)) (reply .slot)
 answeredBy (some number) reply = refused number
+
+-- a refusal of the first call, or none: nothing is sent by it [D51 N5-N7]
+abbrev pub carriedAnswer : List ℕ → RegisteredWrite → DeviceAnswer
+carriedAnswer table w = answeredBy (stateRefusal table w) silence
 
 module _ (table : List ℕ) (w : RegisteredWrite) (heard : Heard) (id : ℕ) (body out : List ℕ) where
   abbrev pub callAnswer : DeviceAnswer

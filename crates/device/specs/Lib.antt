@@ -1,5 +1,6 @@
 pub mod Device
 pub mod Answers
+pub mod Split
 pub mod Results
 pub mod Demand1
 pub mod Written

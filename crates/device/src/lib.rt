@@ -13,18 +13,19 @@ use status::MIN_REPLY;
 use status::Reply;
 use status::Written;
 ghost use mathlib.Core.Path.{_≡_};
+ghost use Prim.Native.Nat.{_≤_};
 ghost use lib.ListN.{length};
 ghost use Rattle.registers.specs.Registers.{tableSize};
 ghost use Rattle.status.specs.Status.{silence as Status·silence};
-ghost use Rattle.status.specs.Sending.{writtenAnswer};
+ghost use Rattle.status.specs.Sending.{writtenAnswer, statusAnswer, statusOut};
 ghost use Rattle.device.specs.Device.{carried, carryOut};
 ghost use Rattle.reactions.specs.Reactions.{reaction as Reactions·reaction};
-ghost use Rattle.device.specs.Answers.{repliedAnswer, withSlot, stateRefusal, callRefusal, answeredBy, callAnswer, callRegistered, callTable, callOut};
+ghost use Rattle.device.specs.Answers.{repliedAnswer, withSlot, stateRefusal, carriedAnswer, carriedReply, carriedRegistered, carriedTable, callRefusal, answeredBy, callAnswer, callRegistered, callTable, callOut};
 ghost use Rattle.device.specs.Results.{replyTo, carriedOf};
 
 // ID and status return level are those before the instruction, the table is that after it.
 fn reply_to(table: &[u8], own: u8, level: u8, reacted: Reacted) -> Reply
-    requires { ⌜ length (now table) ≡ tableSize ⌝ }
+    requires { ⌜ (length (now table) ≡ tableSize) × (reacted .done .count ≤ 8) ⌝ }
     ensures { λ r. ⌜ r ≡ replyTo (now (table .entry)) own level reacted ⌝ }
 {
     if !reacted.speaks {
@@ -36,17 +37,30 @@ fn reply_to(table: &[u8], own: u8, level: u8, reacted: Reacted) -> Reply
     let done = reacted.done;
     let bytes = done.bytes;
     Reply {
-        speaks: true,
+        speaks: 1,
         id: own,
         error: status::error_byte(done.error, table[REG_HARDWARE_ERROR]),
-        count: done.count,
+        count: done.count as u8,
         bytes,
         slot: reacted.slot,
     }
 }
 
-// The reply, and the registered write as it is left.
+// The count of bytes of the status, 0 for silence, and the reply slot; or a fault of the caller. The last two are of a reply that
+// cannot be sent, and the device has none such.
+pub enum Replied {
+    Sent(usize, usize),
+    NotTable,
+    BadId,
+    BadRegistered,
+    NoRoom,
+    BadReplyId,
+    LongReply,
+}
+
+// What the first call leaves: a fault of the caller, or `Sent(0, 0)` for none; the reply; the registered write.
 pub struct CarriedOut {
+    pub refused: Replied,
     pub reply: Reply,
     pub registered: RegisteredWrite,
 }
@@ -69,13 +83,14 @@ fn execute(
     let done = reacted.done;
     let kept = done.registered;
     CarriedOut {
+        refused: Replied::Sent(0, 0),
         reply: reply_to(&table[..], own, level, reacted),
         registered: kept,
     }
 }
 
 // One instruction is carried out, if it is for this device.
-fn carry_out(
+fn dispatch(
     table: &mut [u8],
     registered: RegisteredWrite,
     heard: Heard,
@@ -90,24 +105,13 @@ fn carry_out(
     if !own {
         if id != BROADCAST_ID {
             return CarriedOut {
+                refused: Replied::Sent(0, 0),
                 reply: status::silence(),
                 registered,
             };
         }
     }
     execute(table, registered, heard, !own, body)
-}
-
-// The count of bytes of the status, 0 for silence, and the reply slot; or a fault of the caller. The last two are of a reply that
-// cannot be sent, and the device has none such.
-pub enum Replied {
-    Sent(usize, usize),
-    NotTable,
-    BadId,
-    BadRegistered,
-    NoRoom,
-    BadReplyId,
-    LongReply,
 }
 
 pub struct Response {
@@ -130,6 +134,31 @@ pub fn state_refusal(table: &[u8], registered: RegisteredWrite) -> Replied
         return Replied::BadRegistered;
     }
     Replied::Sent(0, 0)
+}
+
+// The first of two calls: the instruction is carried out, and its reply waits for its slot, the alert bit settled. Faults of the
+// caller come first, whatever was heard, and change nothing; the reply is silence then. [D50 D51 N5-N7 N10-N12]
+pub fn carry_out(
+    table: &mut [u8],
+    registered: RegisteredWrite,
+    heard: Heard,
+    id: u8,
+    body: &[u8],
+) -> CarriedOut
+    ensures { λ r. ⌜ repliedAnswer (r .refused) ≡ carriedAnswer (now (table .entry)) registered ⌝ }
+    ensures { λ r. ⌜ r .reply ≡ carriedReply (now (table .entry)) registered heard id (now (body .entry)) ⌝ }
+    ensures { λ r. ⌜ r .registered ≡ carriedRegistered (now (table .entry)) registered heard id (now (body .entry)) ⌝ }
+    ensures { λ _. ⌜ now (table .exit) ≡ carriedTable (now (table .entry)) registered heard id (now (body .entry)) ⌝ }
+{
+    let refused = state_refusal(&table[..], registered);
+    let Replied::Sent(_, _) = refused else {
+        return CarriedOut {
+            refused,
+            reply: status::silence(),
+            registered,
+        };
+    };
+    dispatch(table, registered, heard, id, body)
 }
 
 // The caller's fault in what is lent to the device call, or silence: the same, then a reply buffer under 32 bytes. [N5-N8 N10]
@@ -158,7 +187,17 @@ fn with_slot(written: Written, slot: usize) -> Replied
     }
 }
 
-// The device call. Faults of the caller come first, whatever was heard, and change nothing. [D1-D37 D43-D49 G4 M4 N5-N8 N10-N12 N14]
+// The second: the reply is sent. Its count of bytes, with the reply slot, or a refusal; those of `status::send`. [D35 D52]
+pub fn send(reply: Reply, out: &mut [u8]) -> Replied
+    ensures { λ r. ⌜ repliedAnswer r ≡ withSlot (statusAnswer reply (now (out .entry))) (reply .slot) ⌝ }
+    ensures { λ _. ⌜ now (out .exit) ≡ statusOut reply (now (out .entry)) ⌝ }
+{
+    let slot = reply.slot;
+    with_slot(status::send(reply, out), slot)
+}
+
+// The device call: the test of the reply buffer, the first call and the second. Faults of the caller come first, whatever was heard,
+// and change nothing. [D1-D37 D43-D49 G4 M4 N5-N8 N10-N12 N14]
 pub fn hear(
     table: &mut [u8],
     registered: RegisteredWrite,
@@ -172,19 +211,24 @@ pub fn hear(
     ensures { λ _. ⌜ now (table .exit) ≡ callTable (now (table .entry)) registered heard id (now (body .entry)) (now (out .entry)) ⌝ }
     ensures { λ _. ⌜ now (out .exit) ≡ callOut (now (table .entry)) registered heard id (now (body .entry)) (now (out .entry)) ⌝ }
 {
-    let replied = call_refusal(&table[..], registered, &out[..]);
-    let Replied::Sent(_, _) = replied else {
+    if out.len() < MIN_REPLY {
         return Response {
-            replied,
+            replied: call_refusal(&table[..], registered, &out[..]),
             registered,
         };
-    };
+    }
     let carried = carry_out(table, registered, heard, id, body);
+    let refused = carried.refused;
     let reply = carried.reply;
     let kept = carried.registered;
-    let slot = reply.slot;
+    let Replied::Sent(_, _) = refused else {
+        return Response {
+            replied: refused,
+            registered: kept,
+        };
+    };
     Response {
-        replied: with_slot(status::send(reply, out), slot),
+        replied: send(reply, out),
         registered: kept,
     }
 }

@@ -32,7 +32,8 @@ use Rattle.packet.proofs.Looks.{look-nothing, look-waiting, look-size, look-lon
 use Rattle.instructions.specs.Registered.{keptBy}
 use Rattle.instructions.specs.declared.RegisteredWrite.{RegisteredWrite}
 use Rattle.status.specs.declared.Reply.{Reply}
-use Rattle.device.specs.Answers.{orElse, repliedAnswer, answeredBy}
+use Rattle.device.specs.Answers.{orElse, repliedAnswer, answeredBy, replyUnless}
+use Rattle.status.specs.Status.{silence}
 use Rattle.device.specs.declared.Replied.{Replied}
 use Rattle.device.proofs.Calls.{Refuses}
 use Rattle.exchange.specs.Exchange.{idBy, idHeard, Message, heardOf, refusedOr}
@@ -157,6 +158,21 @@ module _ (packet body : List ℕ) where
 module _ (b c : Option ℕ) (r : Replied) (q : Refuses c r) where
   pub answers-first : (reply : Reply) → refusedOr b (repliedAnswer r) ≡ refusedOr b (answeredBy c reply)
   answers-first reply = ap (refusedOr b) (q .answers reply)
+
+  -- and of the first call
+  pub told-first : refusedOr b (repliedAnswer r) ≡ answeredBy (orElse b c) silence
+  told-first = by-refusal b
+    where
+      by-refusal : (b : Option ℕ) → refusedOr b (repliedAnswer r) ≡ answeredBy (orElse b c) silence
+      by-refusal none = q .answers silence
+      by-refusal (some number) = refl
+
+  pub silences-first : (reply : Reply) → silence ≡ replyUnless b (replyUnless c reply)
+  silences-first reply = by-refusal b
+    where
+      by-refusal : (b : Option ℕ) → silence ≡ replyUnless b (replyUnless c reply)
+      by-refusal none = q .silences reply
+      by-refusal (some number) = refl
 
   pub keeps-first : (old new : RegisteredWrite) → old ≡ keptBy b old (keptBy c old new)
   keeps-first old new = by-refusal b

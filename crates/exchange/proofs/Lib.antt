@@ -1,5 +1,6 @@
 pub mod Hearing
 pub mod Theorems
+pub mod Split
 pub mod Demand1
 pub mod Kept
 pub mod Stays

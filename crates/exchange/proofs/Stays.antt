@@ -11,24 +11,25 @@ use Rattle.lists.specs.Answer.{firstFailing}
 use Rattle.registers.specs.Registers.{tableSize}
 use Rattle.reactions.specs.Reactions.{ownId}
 use Rattle.instructions.proofs.Fit.{FitTable, fit-kept}
+use Rattle.stuffing.specs.Answers.{removalRefusal}
+use Rattle.packet.specs.Packet.{bodyOf}
+use Rattle.instructions.specs.Registered.{keptBy}
 use Rattle.device.specs.Answers.{stateRefusal}
 use Rattle.device.proofs.Calls.{state-accepted}
-use Rattle.device.proofs.Stays.{call-count}
+use Rattle.device.proofs.Stays.{carry-count, call-count}
 use Rattle.instructions.specs.declared.RegisteredWrite.{RegisteredWrite}
 use Rattle.reactions.specs.declared.Heard.the-variants.{Packet}
-use Rattle.exchange.specs.Exchange.{heardOf, bodyRefusal, exchangeRegistered}
-use Rattle.exchange.specs.Calls.{State, DeviceCall, fresh, measurement, device, exchange, lend, afterCall, afterAll, refusalIn}
+use Rattle.exchange.specs.Exchange.{heardOf, bodyRefusal}
+use Rattle.exchange.specs.Calls.{State, DeviceCall, fresh, measurement, device, exchange, carry, carryPacket, lend, afterCall, afterAll, refusalIn}
 use Rattle.exchange.specs.Stays.{lentBy, lastLent, StaysAccepted}
 use Rattle.exchange.proofs.Kept.{after-keeps}
 
 -- ---- one call
 
-exchange-count : (table : List ℕ) (w : RegisteredWrite) (packet body out : List ℕ) → leb (exchangeRegistered table w packet body out .count) 8 ≡ leb (w .count) 8
-exchange-count table w packet body out = by-refusal (bodyRefusal table w packet body out) refl
-  where
-    by-refusal : (r : Option ℕ) → bodyRefusal table w packet body out ≡ r → leb (exchangeRegistered table w packet body out .count) 8 ≡ leb (w .count) 8
-    by-refusal none e = rw e (call-count table w Packet (heardOf packet .id) (heardOf packet .body) out)
-    by-refusal (some number) e = rw e refl
+-- of a call on a packet, by what removing the stuffing refuses
+unless-count : (r : Option ℕ) (old new : RegisteredWrite) → leb (new .count) 8 ≡ leb (old .count) 8 → leb (keptBy r old new .count) 8 ≡ leb (old .count) 8
+unless-count none old new e = e
+unless-count (some number) old new e = refl
 
 -- the count is as good as that of the registered write that was lent last
 after-count : (s : State) (w : RegisteredWrite) → leb (s .registered .count) 8 ≡ leb (w .count) 8 → (call : DeviceCall)
@@ -36,7 +37,15 @@ after-count : (s : State) (w : RegisteredWrite) → leb (s .registered .count) 8
 after-count s w e fresh = e
 after-count s w e (measurement position error) = e
 after-count s w e (device heard id body out) = call-count (s .table) (s .registered) heard id body out ∙ e
-after-count s w e (exchange packet body out) = exchange-count (s .table) (s .registered) packet body out ∙ e
+after-count s w e (exchange packet body out) =
+    unless-count (bodyRefusal (s .table) (s .registered) packet body out) (s .registered) _
+    (call-count (s .table) (s .registered) Packet (heardOf packet .id) (heardOf packet .body) out)
+    ∙ e
+after-count s w e (carry heard id body) = carry-count (s .table) (s .registered) heard id body ∙ e
+after-count s w e (carryPacket packet body) =
+    unless-count (removalRefusal (bodyOf packet) body) (s .registered) _
+    (carry-count (s .table) (s .registered) Packet (heardOf packet .id) (heardOf packet .body))
+    ∙ e
 after-count s w e (lend new) = refl
 
 -- ---- a list of calls
@@ -62,6 +71,8 @@ last-short (call ∷ calls) w short each = last-short calls (lentBy w call) (by-
     by-call (measurement position error) each = short
     by-call (device heard id body out) each = short
     by-call (exchange packet body out) each = short
+    by-call (carry heard id body) each = short
+    by-call (carryPacket packet body) each = short
     by-call (lend new) each = each new (List·Memᴰ·head refl)
 
 by-lent : (s : State) (calls : List DeviceCall) → refusalIn s ≡ none

@@ -4,10 +4,10 @@ use mathlib.Core.Option.{Option}
 use Prim.Native.Nat.{ℕ}
 use lib.IntN.{ℤ}
 use Rattle.control_table.specs.Answers.{freshOut, measureOut}
-use Rattle.device.specs.Answers.{stateRefusal, callTable, callRegistered}
+use Rattle.device.specs.Answers.{stateRefusal, carriedTable, carriedRegistered, callTable, callRegistered}
 use Rattle.instructions.specs.declared.RegisteredWrite.{RegisteredWrite}
 use Rattle.reactions.specs.declared.Heard.{Heard}
-use Rattle.exchange.specs.Exchange.{exchangeTable, exchangeRegistered}
+use Rattle.exchange.specs.Exchange.{packetTable, packetRegistered, exchangeTable, exchangeRegistered}
 
 pub record State : Type 0 where
   pub table : List ℕ
@@ -22,6 +22,9 @@ pub data DeviceCall : Type 0 where
   device : Heard → ℕ → List ℕ → List ℕ → DeviceCall
   -- a packet as received; the body buffer and the reply buffer
   exchange : List ℕ → List ℕ → List ℕ → DeviceCall
+  -- the first calls of the two in two
+  carry : Heard → ℕ → List ℕ → DeviceCall
+  carryPacket : List ℕ → List ℕ → DeviceCall
   -- no call of ours: from here on the caller lends another registered write
   lend : RegisteredWrite → DeviceCall
 
@@ -35,6 +38,10 @@ afterCall s (device heard id body out) =
     stateOf (callTable (s .table) (s .registered) heard id body out) (callRegistered (s .table) (s .registered) heard id body out)
 afterCall s (exchange packet body out) =
     stateOf (exchangeTable (s .table) (s .registered) packet body out) (exchangeRegistered (s .table) (s .registered) packet body out)
+afterCall s (carry heard id body) =
+    stateOf (carriedTable (s .table) (s .registered) heard id body) (carriedRegistered (s .table) (s .registered) heard id body)
+afterCall s (carryPacket packet body) =
+    stateOf (packetTable (s .table) (s .registered) packet body) (packetRegistered (s .table) (s .registered) packet body)
 afterCall s (lend w) = stateOf (s .table) w
 
 abbrev pub afterAll : State → List DeviceCall → State

@@ -14,7 +14,9 @@ use Rattle.packet_front.specs.Front.{idOf}
 use Rattle.packet.specs.Packet.{bodyOf}
 use Rattle.packet.specs.Verdict.{verdict}
 use Rattle.instructions.specs.Registered.{keptBy}
-use Rattle.device.specs.Answers.{DeviceAnswer, refused, repliedAnswer, orElse, callRefusal, callAnswer, callTable, callRegistered, callOut}
+use Rattle.status.specs.Status.{silence}
+use Rattle.device.specs.Answers.{DeviceAnswer, refused, repliedAnswer, answeredBy, replyUnless, orElse, stateRefusal, carriedReply, carriedTable, carriedRegistered, callRefusal, callAnswer, callTable, callRegistered, callOut}
+use Rattle.status.specs.declared.Reply.{Reply}
 use Rattle.instructions.specs.declared.RegisteredWrite.{RegisteredWrite}
 use Rattle.reactions.specs.declared.Heard.the-variants.{Packet}
 use Rattle.exchange.specs.declared.Exchanged.{Exchanged}
@@ -51,7 +53,34 @@ abbrev pub refusedOr : Option ℕ → DeviceAnswer → DeviceAnswer
 refusedOr none answer = answer
 refusedOr (some number) answer = refused number
 
--- Removal of the stuffing, 14 and 13, comes before the device's call, 21 to 24.
+-- ---- the first call on a packet as received: 14 and 13, then 21 to 23
+module _ (table : List ℕ) (w : RegisteredWrite) (packet body : List ℕ) where
+  -- [D50 N3 N4]
+  abbrev pub packetRefusal : Option ℕ
+  packetRefusal = orElse (removalRefusal (bodyOf packet) body) (stateRefusal table w)
+
+  -- a refusal, or none: nothing is sent by it
+  abbrev pub packetAnswer : DeviceAnswer
+  packetAnswer = answeredBy packetRefusal silence
+
+  -- [D50 D51]
+  abbrev pub packetReply : Reply
+  packetReply = replyUnless (removalRefusal (bodyOf packet) body) (carriedReply table w Packet (heardOf packet .id) (heardOf packet .body))
+
+  -- [D50]
+  abbrev pub packetTable : List ℕ
+  packetTable = unlessRefused (removalRefusal (bodyOf packet) body) table (carriedTable table w Packet (heardOf packet .id) (heardOf packet .body))
+
+  -- [D50]
+  abbrev pub packetRegistered : RegisteredWrite
+  packetRegistered =
+      keptBy (removalRefusal (bodyOf packet) body) w (carriedRegistered table w Packet (heardOf packet .id) (heardOf packet .body))
+
+  -- [D39 D50]
+  abbrev pub packetBody : List ℕ
+  packetBody = unlessRefused packetRefusal body (overwritten body (heardOf packet .body))
+
+-- ---- the call in one. Removal of the stuffing, 14 and 13, comes before the device's call, 21 to 24.
 module _ (table : List ℕ) (w : RegisteredWrite) (packet body out : List ℕ) where
   -- of the packet's body, by the room in the body buffer
   abbrev pub bodyRefusal : Option ℕ

@@ -1,4 +1,5 @@
 pub mod Exchange
+pub mod Split
 pub mod OnlyPackets
 pub mod Demand1
 pub mod Written

@@ -6,7 +6,7 @@ use Prim.Native.Nat.{_≤_}
 use lib.Dec.{leb}
 use Rattle.lists.specs.Answer.{firstFailing}
 use Rattle.instructions.specs.declared.RegisteredWrite.{RegisteredWrite}
-use Rattle.exchange.specs.Calls.{State, DeviceCall, fresh, measurement, device, exchange, lend, afterAll, refusalIn}
+use Rattle.exchange.specs.Calls.{State, DeviceCall, fresh, measurement, device, exchange, carry, carryPacket, lend, afterAll, refusalIn}
 
 -- the registered write that the caller lent last
 abbrev pub lentBy : RegisteredWrite → DeviceCall → RegisteredWrite
@@ -14,6 +14,8 @@ lentBy w fresh = w
 lentBy w (measurement position error) = w
 lentBy w (device heard id body out) = w
 lentBy w (exchange packet body out) = w
+lentBy w (carry heard id body) = w
+lentBy w (carryPacket packet body) = w
 lentBy w (lend new) = new
 
 abbrev pub lastLent : RegisteredWrite → List DeviceCall → RegisteredWrite

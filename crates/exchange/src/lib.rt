@@ -1,9 +1,10 @@
 // One exchange on the bus: from a packet as received to the device's answer.
 use device::Replied;
-use device::Response;
 use instructions::RegisteredWrite;
 use packet_front::Begun;
 use reactions::Heard;
+use status::MIN_REPLY;
+use status::Reply;
 use stuffing::Checked;
 use stuffing::Unstuffed;
 ghost use mathlib.Core.Path.{_≡_};
@@ -12,7 +13,7 @@ ghost use Rattle.stuffing.specs.Stuffing.{wellStuffed};
 ghost use Rattle.stuffing.specs.Answers.{removalRefusal};
 ghost use Rattle.packet.specs.Packet.{bodyOf};
 ghost use Rattle.device.specs.Answers.{repliedAnswer};
-ghost use Rattle.exchange.specs.Exchange.{idHeard, exchangedAnswer, refusedOr, exchangeAnswer, exchangeRegistered, exchangeTable, exchangeBody, exchangeOut};
+ghost use Rattle.exchange.specs.Exchange.{idHeard, exchangedAnswer, refusedOr, packetAnswer, packetReply, packetRegistered, packetTable, packetBody, exchangeAnswer, exchangeRegistered, exchangeTable, exchangeBody, exchangeOut};
 
 // The device's answer, or why it does not get the packet: the body is not well stuffed, or has no room when unstuffed.
 pub enum Exchanged {
@@ -61,10 +62,64 @@ fn first_refusal(packet: &[u8], body: &[u8], refused: Replied) -> Exchanged
     Exchanged::Device(refused)
 }
 
-// Writes the packet's body without its stuffing to the body buffer, and lets the device hear it. Faults of the caller come first and
-// change nothing: those of the removal, then the device's. The device's are tested first, so that the removal, which tests its own
-// before it writes, goes over the body once.
-// [D38 D39 N3 N4 N6-N8 N10-N12 N14]
+// What the first call leaves: why it was refused, or `Device(Sent(0, 0))` where it was not; the reply; the registered write.
+pub struct CarriedPacket {
+    pub refused: Exchanged,
+    pub reply: Reply,
+    pub registered: RegisteredWrite,
+}
+
+// The first of two calls: writes the packet's body without its stuffing to the body buffer, and lets the device carry it out. Faults of
+// the caller come first and change nothing: those of the removal, then the device's. The device's are tested first, so that the
+// removal, which tests its own before it writes, goes over the body once. [D38 D39 D50 D51 N3 N4 N6 N7 N10-N12 N14]
+pub fn carry_out(
+    table: &mut [u8],
+    registered: RegisteredWrite,
+    packet: &[u8],
+    body: &mut [u8],
+) -> CarriedPacket
+    ensures { λ r. ⌜ exchangedAnswer (r .refused) ≡ packetAnswer (now (table .entry)) registered (now (packet .entry)) (now (body .entry)) ⌝ }
+    ensures { λ r. ⌜ r .reply ≡ packetReply (now (table .entry)) registered (now (packet .entry)) (now (body .entry)) ⌝ }
+    ensures { λ r. ⌜ r .registered ≡ packetRegistered (now (table .entry)) registered (now (packet .entry)) (now (body .entry)) ⌝ }
+    ensures { λ _. ⌜ now (table .exit) ≡ packetTable (now (table .entry)) registered (now (packet .entry)) (now (body .entry)) ⌝ }
+    ensures { λ _. ⌜ now (body .exit) ≡ packetBody (now (table .entry)) registered (now (packet .entry)) (now (body .entry)) ⌝ }
+{
+    let fault = device::state_refusal(&table[..], registered);
+    let Replied::Sent(_, _) = fault else {
+        return CarriedPacket {
+            refused: first_refusal(packet, &body[..], fault),
+            reply: status::silence(),
+            registered,
+        };
+    };
+    match packet::unstuff(packet, body) {
+        Unstuffed::BadStuffing => CarriedPacket {
+            refused: Exchanged::BadStuffing,
+            reply: status::silence(),
+            registered,
+        },
+        Unstuffed::NoRoom => CarriedPacket {
+            refused: Exchanged::NoRoom,
+            reply: status::silence(),
+            registered,
+        },
+        Unstuffed::Count(n) => {
+            let heard = Heard::Packet;
+            let id = id_heard(packet);
+            let carried = device::carry_out(table, registered, heard, id, &body[..n]);
+            let refused = carried.refused;
+            let reply = carried.reply;
+            let kept = carried.registered;
+            CarriedPacket {
+                refused: Exchanged::Device(refused),
+                reply,
+                registered: kept,
+            }
+        }
+    }
+}
+
+// The call in one: the test of the reply buffer, the first call and the second. [D38 D39 N3 N4 N6-N8 N10-N12 N14]
 pub fn answer(
     table: &mut [u8],
     registered: RegisteredWrite,
@@ -78,32 +133,31 @@ pub fn answer(
     ensures { λ _. ⌜ now (body .exit) ≡ exchangeBody (now (table .entry)) registered (now (packet .entry)) (now (body .entry)) (now (out .entry)) ⌝ }
     ensures { λ _. ⌜ now (out .exit) ≡ exchangeOut (now (table .entry)) registered (now (packet .entry)) (now (body .entry)) (now (out .entry)) ⌝ }
 {
-    let refused = device::call_refusal(&table[..], registered, &out[..]);
-    let Replied::Sent(_, _) = refused else {
+    if out.len() < MIN_REPLY {
+        let fault = device::call_refusal(&table[..], registered, &out[..]);
         return Answered {
-            exchanged: first_refusal(packet, &body[..], refused),
+            exchanged: first_refusal(packet, &body[..], fault),
             registered,
         };
+    }
+    let carried = carry_out(table, registered, packet, body);
+    let refused = carried.refused;
+    let reply = carried.reply;
+    let kept = carried.registered;
+    let Exchanged::Device(told) = refused else {
+        return Answered {
+            exchanged: refused,
+            registered: kept,
+        };
     };
-    match packet::unstuff(packet, body) {
-        Unstuffed::BadStuffing => Answered {
-            exchanged: Exchanged::BadStuffing,
-            registered,
-        },
-        Unstuffed::NoRoom => Answered {
-            exchanged: Exchanged::NoRoom,
-            registered,
-        },
-        Unstuffed::Count(n) => {
-            let heard = Heard::Packet;
-            let id = id_heard(packet);
-            let response = device::hear(table, registered, heard, id, &body[..n], out);
-            let replied = response.replied;
-            let kept = response.registered;
-            Answered {
-                exchanged: Exchanged::Device(replied),
-                registered: kept,
-            }
-        }
+    let Replied::Sent(_, _) = told else {
+        return Answered {
+            exchanged: Exchanged::Device(told),
+            registered: kept,
+        };
+    };
+    Answered {
+        exchanged: Exchanged::Device(device::send(reply, out)),
+        registered: kept,
     }
 }

@@ -13,6 +13,8 @@ use Rattle.instructions.specs.declared.RegisteredWrite.{RegisteredWrite}
 use Rattle.numbers.specs.declared.StepNumbers.{StepNumbers}
 use Rattle.numbers.specs.declared.EventNumbers.{EventNumbers}
 use Rattle.numbers.specs.declared.DeviceNumbers.{DeviceNumbers}
+use Rattle.numbers.specs.declared.CarriedNumbers.{CarriedNumbers}
+use Rattle.status.specs.declared.Reply.{Reply}
 
 -- a count that no 64-bit signed number holds is answered as the largest one (no buffer of a real machine is that long) [G5 N11]
 abbrev pub exported : Answer → ℤ
@@ -47,3 +49,12 @@ nextNumbers Nothing = record { offset = 0; count = 0; next = 0; kind = 0; id = 0
 abbrev pub deviceNumbers : DeviceAnswer → RegisteredWrite → DeviceNumbers
 deviceNumbers (sent n slot) w = record { count = exported (count n); slot = slot; registered = w }
 deviceNumbers (Device·refused number) w = record { count = negℤ (pos number); slot = 0; registered = w }
+
+-- of a call that sends nothing: 0, or minus the refusal number [D51 G5 N11]
+abbrev pub refusalNumber : DeviceAnswer → ℤ
+refusalNumber (sent n slot) = pos 0
+refusalNumber (Device·refused number) = negℤ (pos number)
+
+-- with the reply that waits and the registered write [D50 G5]
+abbrev pub carriedNumbers : DeviceAnswer → Reply → RegisteredWrite → CarriedNumbers
+carriedNumbers answer reply w = record { refusal = refusalNumber answer; reply = reply; registered = w }

@@ -1,24 +1,29 @@
 // Results as C gets them: each result of a crate beneath becomes a number or a record of numbers. A function has the name of what
 // it converts.
+use device::CarriedOut;
 use device::Replied;
 use device::Response;
 use encoder::Encoded;
 use exchange::Answered;
+use exchange::CarriedPacket;
 use exchange::Exchanged;
 use framer::Step;
 use framer::StepEvent;
 use instructions::RegisteredWrite;
 use plain_reader::Next;
+use status::Reply;
+use status::Written;
 use stuffing::Unstuffed;
 use table_rules::Change;
 ghost use mathlib.Core.Path.{_≡_};
 ghost use Rattle.stuffing.specs.Answers.{unstuffedAnswer};
 ghost use Rattle.encoder.specs.Encoding.{encodedAnswer};
 ghost use Rattle.table_rules.specs.Outcomes.{changeRefusal};
+ghost use Rattle.status.specs.Sending.{writtenAnswer};
 ghost use Rattle.device.specs.Answers.{repliedAnswer};
 ghost use Rattle.exchange.specs.Exchange.{exchangedAnswer};
 ghost use Rattle.lists.specs.Answer.{count as Answer·count};
-ghost use Rattle.numbers.specs.Exported.{exported, exportedRefusal, stepNumbers, nextNumbers, deviceNumbers};
+ghost use Rattle.numbers.specs.Exported.{exported, exportedRefusal, stepNumbers, nextNumbers, deviceNumbers, refusalNumber, carriedNumbers};
 
 // What a feeding or gap call returns. kind 0: no event, from a gap call: nothing is left; 1: a packet of `count` bytes; 2: a bad
 // checksum; 25: the reader's count is above 1,030. `id` is that of the packet or of the bad checksum.
@@ -47,6 +52,15 @@ pub struct EventNumbers {
 pub struct DeviceNumbers {
     pub count: i64,
     pub slot: usize,
+    pub registered: RegisteredWrite,
+}
+
+// What the first of two calls of the device returns: 0, or minus the number of a refusal; the reply that waits; and the registered
+// write from now on.
+#[repr(C)]
+pub struct CarriedNumbers {
+    pub refusal: i64,
+    pub reply: Reply,
     pub registered: RegisteredWrite,
 }
 
@@ -237,5 +251,67 @@ pub fn answered(answer: Answered) -> DeviceNumbers
             slot: 0,
             registered,
         },
+    }
+}
+
+// The refusal alone: 0 where nothing is refused.
+fn replied_refusal(replied: Replied) -> i64
+    ensures { λ r. ⌜ r ≡ refusalNumber (repliedAnswer replied) ⌝ }
+{
+    match replied {
+        Replied::Sent(_, _) => 0,
+        Replied::NotTable => -21,
+        Replied::BadId => -22,
+        Replied::BadRegistered => -23,
+        Replied::NoRoom => -24,
+        Replied::BadReplyId => -11,
+        Replied::LongReply => -12,
+    }
+}
+
+fn exchanged_refusal(exchanged: Exchanged) -> i64
+    ensures { λ r. ⌜ r ≡ refusalNumber (exchangedAnswer exchanged) ⌝ }
+{
+    match exchanged {
+        Exchanged::Device(replied) => replied_refusal(replied),
+        Exchanged::BadStuffing => -14,
+        Exchanged::NoRoom => -13,
+    }
+}
+
+pub fn carried(answer: CarriedOut) -> CarriedNumbers
+    ensures { λ r. ⌜ r ≡ carriedNumbers (repliedAnswer (answer .refused)) (answer .reply) (answer .registered) ⌝ }
+{
+    let refused = answer.refused;
+    let reply = answer.reply;
+    let registered = answer.registered;
+    CarriedNumbers {
+        refusal: replied_refusal(refused),
+        reply,
+        registered,
+    }
+}
+
+pub fn carried_packet(answer: CarriedPacket) -> CarriedNumbers
+    ensures { λ r. ⌜ r ≡ carriedNumbers (exchangedAnswer (answer .refused)) (answer .reply) (answer .registered) ⌝ }
+{
+    let refused = answer.refused;
+    let reply = answer.reply;
+    let registered = answer.registered;
+    CarriedNumbers {
+        refusal: exchanged_refusal(refused),
+        reply,
+        registered,
+    }
+}
+
+pub fn written(answer: Written) -> i64
+    ensures { λ r. ⌜ r ≡ exported (writtenAnswer answer) ⌝ }
+{
+    match answer {
+        Written::Count(n) => count(n),
+        Written::BadId => -11,
+        Written::TooLong => -12,
+        Written::NoRoom => -24,
     }
 }

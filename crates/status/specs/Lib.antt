@@ -1,3 +1,4 @@
 pub mod Status
 pub mod Sending
+pub mod Sent
 pub mod Results

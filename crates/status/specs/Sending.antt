@@ -18,7 +18,7 @@ writtenAnswer BadId = refused 11
 writtenAnswer TooLong = refused 12
 writtenAnswer NoRoom = refused 24
 
--- no device has the ID, more than 8 bytes of data, a buffer under 32 bytes; silence is refused as a status is [N1 N2 N8]
+-- no device has the ID, more than 8 bytes of data, a buffer under 32 bytes; silence is refused as a status is [D52 N1 N2 N8]
 unfoldable pub statusRefusal : Reply → List ℕ → Option ℕ
 statusRefusal r out = firstFailing ((leb (r .id) 252, 11) ∷ (leb (r .count) 8, 12) ∷ (leb 32 (length out), 24) ∷ [])
 

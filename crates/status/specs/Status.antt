@@ -1,5 +1,5 @@
 -- The status: what a reply holds, and its packet.
-use mathlib.Core.Bool.{true, false, cond}
+use mathlib.Core.Bool.{cond}
 use mathlib.Core.List.{List, [], _∷_}
 use Prim.Native.Nat.{ℕ, _+_, _%_}
 use lib.Dec.{eqb}
@@ -10,11 +10,11 @@ use Rattle.status.specs.declared.Reply.{Reply}
 
 abbrev pub status : ℕ → ℕ → List ℕ → ℕ → Reply
 status id error bytes slot =
-    record { speaks = true; id = id; error = error; count = length bytes; bytes = padded 8 bytes; slot = slot }
+    record { speaks = 1; id = id; error = error; count = length bytes; bytes = padded 8 bytes; slot = slot }
 
 -- [D35]
 abbrev pub silence : Reply
-silence = record { speaks = false; id = 0; error = 0; count = 0; bytes = replicate 8 0; slot = 0 }
+silence = record { speaks = 0; id = 0; error = 0; count = 0; bytes = replicate 8 0; slot = 0 }
 
 -- bit 7, the alert, is set where the hardware error is not 0 [D29]
 abbrev pub errorByte : ℕ → ℕ → ℕ
@@ -28,6 +28,6 @@ statusBody r = 0x55 ∷ r .error ∷ take (r .count) (r .bytes)
 abbrev pub statusPacket : Reply → List ℕ
 statusPacket r = packetOf (r .id) (statusBody r)
 
--- silence is no bytes [D35 D36]
+-- silence is no bytes; a mark other than 0 speaks [D35 D36 D53]
 abbrev pub replyBytes : Reply → List ℕ
-replyBytes r = cond (r .speaks) (statusPacket r) []
+replyBytes r = cond (eqb (r .speaks) 0) [] (statusPacket r)

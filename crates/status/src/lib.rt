@@ -17,13 +17,17 @@ pub const MIN_REPLY: usize = 32;
 // The alert bit of the error byte.
 pub const ERROR_ALERT: u8 = 0x80;
 
-// A status to send: ID, error byte with its alert bit, data and reply slot (the paper's turn number); or silence, where `speaks` is
-// false and all else 0.
+// The most data bytes of a reply, as its count has them.
+pub const MAX_REPLY_DATA: u8 = MAX_DATA as u8;
+
+// A status that waits for its reply slot (the paper's turn number): ID, error byte with its alert bit, data; or silence, where
+// `speaks` and all else is 0. Any other mark speaks.
+#[repr(C)]
 pub struct Reply {
-    pub speaks: bool,
+    pub speaks: u8,
     pub id: u8,
     pub error: u8,
-    pub count: usize,
+    pub count: u8,
     pub bytes: [u8; MAX_DATA],
     pub slot: usize,
 }
@@ -32,7 +36,7 @@ pub fn silence() -> Reply
     ensures { λ r. ⌜ r ≡ Status·silence ⌝ }
 {
     Reply {
-        speaks: false,
+        speaks: 0,
         id: 0,
         error: 0,
         count: 0,
@@ -78,7 +82,7 @@ fn write_status(reply: Reply, out: &mut [u8]) -> Encoded
 {
     let b = reply.bytes;
     let params = [reply.error, b[0], b[1], b[2], b[3], b[4], b[5], b[6], b[7]];
-    let n = reply.count + 1;
+    let n = reply.count as usize + 1;
     let id = reply.id;
     encoder::encode(id, INST_STATUS, &params[..n], out, 0)
 }
@@ -92,13 +96,13 @@ pub fn send(reply: Reply, out: &mut [u8]) -> Written
     if MAX_ID < reply.id {
         return Written::BadId;
     }
-    if MAX_DATA < reply.count {
+    if MAX_REPLY_DATA < reply.count {
         return Written::TooLong;
     }
     if out.len() < MIN_REPLY {
         return Written::NoRoom;
     }
-    if !reply.speaks {
+    if reply.speaks == 0 {
         return Written::Count(0);
     }
     as_written(write_status(reply, out))

@@ -12,6 +12,8 @@ use framer::StepEvent;
 use instructions::RegisteredWrite;
 use libc::STDIN_FILENO;
 use libc::STDOUT_FILENO;
+use status::Reply;
+use status::Written;
 use stuffing::Unstuffed;
 ghost use Prim.Native.Nat.{_≤_};
 
@@ -100,15 +102,27 @@ fn print_refusal() {
     print_text(b"refused");
 }
 
-fn print_reply(replied: Replied, out: &[u8]) {
-    match replied {
-        Replied::Sent(n, slot) => {
+// The reply is sent.
+fn print_reply(reply: Reply) {
+    let mut out = [0u8; 32];
+    let slot = reply.slot;
+    match status::send(reply, &mut out) {
+        Written::Count(n) => {
             if n == 0 {
                 print_silence();
             } else {
-                print_status(slot, first(out, n));
+                print_status(slot, first(&out, n));
             }
         }
+        Written::BadId => print_refusal(),
+        Written::TooLong => print_refusal(),
+        Written::NoRoom => print_refusal(),
+    }
+}
+
+fn print_answer(refused: Replied, reply: Reply) {
+    match refused {
+        Replied::Sent(_, _) => print_reply(reply),
         Replied::NotTable => print_refusal(),
         Replied::BadId => print_refusal(),
         Replied::BadRegistered => print_refusal(),
@@ -144,12 +158,13 @@ fn answer(
     body: &[u8],
 ) -> RegisteredWrite {
     let before = *table;
-    let mut out = [0u8; 32];
-    let response = device::hear(table, registered, heard, id, body, &mut out);
-    let replied = response.replied;
-    print_reply(replied, &out);
+    let carried = device::carry_out(table, registered, heard, id, body);
+    let refused = carried.refused;
+    let reply = carried.reply;
+    let kept = carried.registered;
+    print_answer(refused, reply);
     print_changes(&before, table);
-    response.registered
+    kept
 }
 
 fn unstuffed(got: Unstuffed) -> usize {

@@ -1,10 +1,16 @@
-use exports::{Answer, Event, Reader, Registered, Step};
+use exports::{Answer, Carried, Event, Reader, Registered, Reply, Step};
 
 /// Table, registered write, kind, ID, body and reply buffer.
 pub type DeviceCall = fn(&mut [u8], Registered, u8, u8, &[u8], &mut [u8]) -> Answer;
 
 /// Table, registered write, packet as received, body buffer and reply buffer.
 pub type ExchangeCall = fn(&mut [u8], Registered, &[u8], &mut [u8], &mut [u8]) -> Answer;
+
+/// Table, registered write, kind, ID and body.
+pub type CarryCall = fn(&mut [u8], Registered, u8, u8, &[u8]) -> Carried;
+
+/// Table, registered write, packet as received and body buffer.
+pub type CarryPacketCall = fn(&mut [u8], Registered, &[u8], &mut [u8]) -> Carried;
 
 /// The exports that are compared, as one value: a test of the comparison itself puts a wrong one in.
 #[derive(Clone, Copy)]
@@ -22,6 +28,9 @@ pub struct Calls {
     pub measure: fn(&mut [u8], i32, u8) -> i64,
     pub device: DeviceCall,
     pub exchange: ExchangeCall,
+    pub carry_out: CarryCall,
+    pub carry_out_packet: CarryPacketCall,
+    pub status: fn(Reply, &mut [u8]) -> i64,
 }
 
 pub const PROVED: Calls = Calls {
@@ -38,4 +47,7 @@ pub const PROVED: Calls = Calls {
     measure: exports::measure,
     device: exports::device,
     exchange: exports::exchange,
+    carry_out: exports::carry_out,
+    carry_out_packet: exports::carry_out_packet,
+    status: exports::status,
 };

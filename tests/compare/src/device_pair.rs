@@ -1,5 +1,5 @@
-use crate::{hex, must_agree, Calls, Comparison, Difference, Guarded, PROVED};
-use reference::{device_call, packet_call, DeviceAnswer, Heard, Registered, Rng};
+use crate::{compare_status, hex, must_agree, Calls, Comparison, Difference, Guarded, PROVED};
+use reference::{carry_out_call, carry_out_packet_call, device_call, packet_call, DeviceAnswer, Heard, Registered, Rng, Waiting};
 use std::hint::black_box;
 
 pub const PACKET: u8 = 1;
@@ -104,6 +104,7 @@ impl DevicePair {
     pub fn try_hear(&mut self, kind: u8, id: u8, body: &[u8]) -> Result<Told, Difference> {
         let (before, registered) = self.refill();
         let mut lent = body.to_vec();
+        let mut split = Split::new(self);
 
         let Borrowed { table, reply } = &mut self.ours;
         let answer = (self.exports.device)(table.bytes_mut(), exported(registered), kind, id, &lent, reply.bytes_mut());
@@ -122,7 +123,14 @@ impl DevicePair {
         };
         let comparison = Comparison { export: "dxl_device", given: &given };
         comparison.same_bytes("the body", black_box(&mut lent).as_slice(), body)?;
-        self.told(&comparison, answer, wanted)
+        let told = self.told(&comparison, answer, wanted)?;
+
+        let carried = (self.exports.carry_out)(split.ours.table.bytes_mut(), exported(registered), kind, id, &lent);
+        let wanted = carry_out_call(split.expected.table.bytes_mut(), registered, heard);
+        let comparison = Comparison { export: "dxl_carry_out", given: &given };
+        comparison.same_bytes("the body", black_box(&mut lent).as_slice(), body)?;
+        split.same(&comparison, self, &told, carried, wanted)?;
+        Ok(told)
     }
 
     /// A packet as received, whose unstuffed body goes into this buffer.
@@ -130,6 +138,7 @@ impl DevicePair {
         let (before, registered) = self.refill();
         let mut lent = packet.to_vec();
         let (mut body, mut expected_body) = (buffer.clone(), buffer.clone());
+        let mut split = Split::new(self);
 
         let Borrowed { table, reply } = &mut self.ours;
         let answer = (self.exports.exchange)(table.bytes_mut(), exported(registered), &lent, body.bytes_mut(), reply.bytes_mut());
@@ -144,7 +153,17 @@ impl DevicePair {
         let comparison = Comparison { export: "dxl_exchange", given: &given };
         comparison.same_bytes("the packet", black_box(&mut lent).as_slice(), packet)?;
         comparison.same_guarded("the body buffer", &body, &expected_body)?;
-        self.told(&comparison, answer, wanted)
+        let told = self.told(&comparison, answer, wanted)?;
+
+        let (mut body, mut expected_body) = (buffer.clone(), buffer.clone());
+        let carried =
+            (self.exports.carry_out_packet)(split.ours.table.bytes_mut(), exported(registered), &lent, body.bytes_mut());
+        let wanted = carry_out_packet_call(split.expected.table.bytes_mut(), registered, packet, expected_body.bytes_mut());
+        let comparison = Comparison { export: "dxl_carry_out_packet", given: &given };
+        comparison.same_bytes("the packet", black_box(&mut lent).as_slice(), packet)?;
+        comparison.same_guarded("the body buffer", &body, &expected_body)?;
+        split.same(&comparison, self, &told, carried, wanted)?;
+        Ok(told)
     }
 
     /// A new filling for the reply buffers; answers the table and the registered write.
@@ -184,4 +203,63 @@ fn shown(answer: &exports::Answer) -> String {
 fn exported(registered: Registered) -> exports::Registered {
     let Registered { address, count, bytes, min, max } = registered;
     exports::Registered { address, count, bytes, min, max }
+}
+
+fn exported_reply(waiting: Waiting) -> exports::Reply {
+    let Waiting { speaks, id, error, count, bytes, turn } = waiting;
+    exports::Reply { speaks, id, error, count, bytes, slot: turn }
+}
+
+fn shown_carried(carried: &exports::Carried) -> String {
+    let exports::Carried { refusal, reply, registered } = carried;
+    format!("refusal {refusal}, {reply:?}, {registered:?}")
+}
+
+/// What the two calls find that are made beside the one call.
+struct Split {
+    ours: Borrowed,
+    expected: Borrowed,
+    registered: Registered,
+}
+
+impl Split {
+    fn new(device: &DevicePair) -> Split {
+        Split { ours: device.ours.clone(), expected: device.expected.clone(), registered: device.registered }
+    }
+
+    /// After the first call, with the second: what they answer and leave; and that they are the one call, which `device` has
+    /// made, unless that has refused the reply buffer.
+    fn same(
+        &mut self,
+        comparison: &Comparison,
+        device: &DevicePair,
+        one: &Told,
+        carried: exports::Carried,
+        wanted: Result<(Waiting, Registered), u8>,
+    ) -> Result<(), Difference> {
+        let wanted = match wanted {
+            Ok((waiting, left)) => {
+                exports::Carried { refusal: 0, reply: exported_reply(waiting), registered: exported(left) }
+            }
+            Err(refusal) => exports::Carried {
+                refusal: -i64::from(refusal),
+                reply: exports::Reply::default(),
+                registered: exported(self.registered),
+            },
+        };
+        comparison.same_shown("the answer", carried, wanted, shown_carried)?;
+        comparison.same_guarded("the table", &self.ours.table, &self.expected.table)?;
+        let count = if carried.refusal == 0 {
+            compare_status(&device.exports, carried.reply, &mut self.ours.reply, &mut self.expected.reply)?
+        } else {
+            carried.refusal
+        };
+        if one.count != -24 {
+            comparison.same("count and slot of both calls", (count, carried.reply.slot), (one.count, one.slot))?;
+            comparison.same("the registered write of both calls", carried.registered, exported(device.registered))?;
+            comparison.same_guarded("the table of both calls", &self.ours.table, &device.ours.table)?;
+            comparison.same_guarded("the reply buffer of both calls", &self.ours.reply, &device.ours.reply)?;
+        }
+        Ok(())
+    }
 }

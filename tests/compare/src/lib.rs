@@ -18,4 +18,4 @@ pub use inputs::{stuffed_well_or_not, worst_noise};
 pub use lent::{number, Guarded, Lent};
 pub use published::{published, Published, Status};
 pub use reader_pair::{ReaderPair, Stepped};
-pub use single_calls::{compare_checksum, compare_encode, compare_flipped, compare_next_event, compare_unstuff, Encoded};
+pub use single_calls::{compare_checksum, compare_encode, compare_flipped, compare_next_event, compare_status, compare_unstuff, Encoded};

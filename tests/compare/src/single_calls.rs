@@ -1,6 +1,6 @@
 //! The calls that keep nothing: each goes to an export and to the reference, and all that is answered and left must be the same.
 
-use crate::{hex, number, Calls, Comparison, Difference, Lent};
+use crate::{hex, number, Calls, Comparison, Difference, Guarded, Lent};
 use reference::{Event, Found, Rng};
 
 /// The checksum functions beside the one that the exports stand on.
@@ -88,5 +88,24 @@ pub fn compare_next_event(calls: &Calls, rng: &mut Rng, segment: &[u8], from: us
     let comparison = Comparison { export: "dxl_next_event", given: &given };
     comparison.same("the answer", answer, in_numbers(reference::next_event(segment, from)))?;
     comparison.same_lent(&ours, &expected)?;
+    Ok(answer)
+}
+
+/// A reply, whether or not a device has made it, is sent into these two buffers.
+pub fn compare_status(
+    calls: &Calls,
+    reply: exports::Reply,
+    ours: &mut Guarded,
+    expected: &mut Guarded,
+) -> Result<i64, Difference> {
+    let exports::Reply { speaks, id, error, count, bytes, slot } = reply;
+    let answer = (calls.status)(reply, ours.bytes_mut());
+    let waiting = reference::Waiting { speaks, id, error, count, bytes, turn: slot };
+    let wanted = reference::status_call(waiting, expected.bytes_mut());
+    let room = ours.bytes().len();
+    let given = || format!("{reply:?}, reply buffer of {room}");
+    let comparison = Comparison { export: "dxl_status", given: &given };
+    comparison.same("the answer", answer, number(wanted))?;
+    comparison.same_guarded("the reply buffer", ours, expected)?;
     Ok(answer)
 }

@@ -42,6 +42,27 @@ pub struct Answer {
     pub registered: Registered,
 }
 
+/// A reply that waits for its slot; all 0 is silence.
+#[repr(C)]
+#[derive(Clone, Copy, PartialEq, Eq, Debug, Default)]
+pub struct Reply {
+    pub speaks: u8,
+    pub id: u8,
+    pub error: u8,
+    pub count: u8,
+    pub bytes: [u8; 8],
+    pub slot: usize,
+}
+
+/// What the first of two calls answers.
+#[repr(C)]
+#[derive(Clone, Copy, PartialEq, Eq, Debug)]
+pub struct Carried {
+    pub refusal: i64,
+    pub reply: Reply,
+    pub registered: Registered,
+}
+
 /// A reader's record: the held bytes stand at the start.
 #[repr(C)]
 #[derive(Clone, PartialEq, Eq, Debug)]
@@ -52,7 +73,7 @@ pub struct Reader {
 
 mod raw {
     use super::test::Fed;
-    use super::{Answer, Event, Reader, Registered, Step};
+    use super::{Answer, Carried, Event, Reader, Registered, Reply, Step};
 
     #[repr(C)]
     pub struct Verdict {
@@ -105,6 +126,25 @@ mod raw {
             reply: *mut u8,
             n_reply: usize,
         ) -> Answer;
+        pub fn dxl_carry_out(
+            table: *mut u8,
+            n_table: usize,
+            registered: Registered,
+            kind: u8,
+            id: u8,
+            body: *const u8,
+            n_body: usize,
+        ) -> Carried;
+        pub fn dxl_carry_out_packet(
+            table: *mut u8,
+            n_table: usize,
+            registered: Registered,
+            packet: *const u8,
+            n_packet: usize,
+            body: *mut u8,
+            n_body: usize,
+        ) -> Carried;
+        pub fn dxl_status(reply: Reply, out: *mut u8, n_out: usize) -> i64;
 
         pub fn dxl_test_crc16_small(start: u16, bytes: *const u8, n: usize) -> u16;
         pub fn dxl_test_crc16_fold(start: u16, bytes: *const u8, n: usize) -> u16;
@@ -192,6 +232,28 @@ pub fn exchange(table: &mut [u8], registered: Registered, packet: &[u8], body: &
             reply.len(),
         )
     }
+}
+
+pub fn carry_out(table: &mut [u8], registered: Registered, kind: u8, id: u8, body: &[u8]) -> Carried {
+    unsafe { raw::dxl_carry_out(table.as_mut_ptr(), table.len(), registered, kind, id, body.as_ptr(), body.len()) }
+}
+
+pub fn carry_out_packet(table: &mut [u8], registered: Registered, packet: &[u8], body: &mut [u8]) -> Carried {
+    unsafe {
+        raw::dxl_carry_out_packet(
+            table.as_mut_ptr(),
+            table.len(),
+            registered,
+            packet.as_ptr(),
+            packet.len(),
+            body.as_mut_ptr(),
+            body.len(),
+        )
+    }
+}
+
+pub fn status(reply: Reply, out: &mut [u8]) -> i64 {
+    unsafe { raw::dxl_status(reply, out.as_mut_ptr(), out.len()) }
 }
 
 /// Exports for tests alone.

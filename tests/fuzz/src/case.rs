@@ -64,6 +64,16 @@ pub enum Operation {
         min: i32,
         max: i32,
     },
+    /// Any reply, as no device may have made it, sent into a buffer of so many bytes.
+    Status {
+        room: usize,
+        slot: usize,
+        speaks: u8,
+        id: u8,
+        error: u8,
+        count: u8,
+        bytes: [u8; 8],
+    },
     /// One byte of the table, as nobody should write it.
     Poke {
         address: usize,

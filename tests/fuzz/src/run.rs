@@ -1,7 +1,7 @@
 //! Runs a case: every call goes to an export and to the reference, and all that is answered and left must be the same.
 
 use crate::{Case, Operation};
-use compare::{compare_checksum, compare_encode, compare_flipped, compare_next_event, compare_unstuff, BAD_CHECKSUM, PACKET};
+use compare::{compare_checksum, compare_encode, compare_flipped, compare_next_event, compare_status, compare_unstuff, BAD_CHECKSUM, PACKET};
 use compare::{hex, Calls, Comparison, DevicePair, Difference, Encoded, Guarded, ReaderPair, Stepped, Told};
 use reference::{fresh, Event, Registered, Rng, MOST_HELD};
 use std::collections::BTreeMap;
@@ -88,6 +88,14 @@ impl<'a> World<'a> {
             }
             Operation::Unstuff { room, body } => drop(self.unstuff(body, *room)?),
             Operation::Plain { from, segment } => self.plain(segment, *from)?,
+            &Operation::Status { room, slot, speaks, id, error, count, bytes } => {
+                let filler = self.rng.bytes(room);
+                let mut ours = Guarded::new(&mut self.rng, &filler);
+                let mut expected = ours.clone();
+                let reply = exports::Reply { speaks, id, error, count, bytes, slot };
+                let answer = compare_status(self.calls, reply, &mut ours, &mut expected)?;
+                self.tally.call("dxl_status", answer.min(0));
+            }
             Operation::Record { count, past, held } => self.record(*count, *past, held),
             Operation::Scribble { byte } => self.reader.scribble(*byte),
             Operation::Feed { chunk } => drop(self.feed(chunk)?),
@@ -200,6 +208,7 @@ impl<'a> World<'a> {
     fn hear(&mut self, kind: u8, id: u8, body: &[u8]) -> Result<(), Difference> {
         let told = self.device.try_hear(kind, id, body)?;
         self.tally.call("dxl_device", told.count.min(0));
+        self.tally.call("dxl_carry_out", first_refusal(told));
         self.answered(told)
     }
 
@@ -207,6 +216,7 @@ impl<'a> World<'a> {
         let filler = self.rng.bytes(room);
         let told = self.device.try_hear_packet(packet, &Guarded::new(&mut self.rng, &filler))?;
         self.tally.call("dxl_exchange", told.count.min(0));
+        self.tally.call("dxl_carry_out_packet", first_refusal(told));
         self.answered(told)
     }
 
@@ -229,4 +239,9 @@ impl<'a> World<'a> {
         let comparison = Comparison { export: "dxl_feed", given: &given };
         comparison.same("a status read back", event, Some(Event::Packet { id: status[4], bytes: status.clone() }))
     }
+}
+
+/// Of the first of two calls, which does not look at the reply buffer.
+fn first_refusal(told: Told) -> i64 {
+    if told.count == -24 { 0 } else { told.count.min(0) }
 }

@@ -54,6 +54,9 @@ fn line(operation: &Operation) -> String {
         Operation::Registered { address, count, bytes, min, max } => {
             format!("registered address={address} count={count} bytes={} min={min} max={max}", hex(bytes))
         }
+        Operation::Status { room, slot, speaks, id, error, count, bytes } => {
+            format!("status room={room} slot={slot} speaks={speaks} id={id} error=0x{error:02x} count={count} bytes={}", hex(bytes))
+        }
         Operation::Poke { address, byte } => format!("poke address={address} byte=0x{byte:02x}"),
         Operation::Fresh => "fresh".to_string(),
         Operation::Measure { position, error } => format!("measure position={position} error=0x{error:02x}"),
@@ -114,6 +117,7 @@ fn operation(line: &str) -> Result<Operation, String> {
         "finish" => Operation::Finish,
         "board" => Operation::Board { reply: fields.room("reply")?, table: fields.bytes("table")? },
         "registered" => registered(&mut fields)?,
+        "status" => status(&mut fields)?,
         "poke" => Operation::Poke { address: fields.number("address")?, byte: fields.number("byte")? },
         "fresh" => Operation::Fresh,
         "measure" => Operation::Measure { position: fields.position("position")?, error: fields.number("error")? },
@@ -136,10 +140,15 @@ fn record(fields: &mut Fields) -> Result<Operation, String> {
 }
 
 fn registered(fields: &mut Fields) -> Result<Operation, String> {
-    let (address, count, bytes) = (fields.number("address")?, fields.number("count")?, fields.bytes("bytes")?);
-    let bytes = bytes.try_into().map_err(|bytes: Vec<u8>| format!("`bytes` has {} bytes, and not 8", bytes.len()))?;
+    let (address, count, bytes) = (fields.number("address")?, fields.number("count")?, fields.eight("bytes")?);
     let (min, max) = (fields.position("min")?, fields.position("max")?);
     Ok(Operation::Registered { address, count, bytes, min, max })
+}
+
+fn status(fields: &mut Fields) -> Result<Operation, String> {
+    let (room, slot, speaks) = (fields.room("room")?, fields.number("slot")?, fields.number("speaks")?);
+    let (id, error, count) = (fields.number("id")?, fields.number("error")?, fields.number("count")?);
+    Ok(Operation::Status { room, slot, speaks, id, error, count, bytes: fields.eight("bytes")? })
 }
 
 /// The fields of a line, taken one by one.
@@ -183,6 +192,10 @@ impl<'a> Fields<'a> {
     fn position(&mut self, key: &str) -> Result<i32, String> {
         let value = self.value(key)?;
         value.parse().map_err(|_| format!("`{key}` is no number of four bytes: `{}`", short(value)))
+    }
+
+    fn eight(&mut self, key: &str) -> Result<[u8; 8], String> {
+        self.bytes(key)?.try_into().map_err(|bytes: Vec<u8>| format!("`{key}` has {} bytes, and not 8", bytes.len()))
     }
 
     fn bytes(&mut self, key: &str) -> Result<Vec<u8>, String> {

@@ -32,6 +32,7 @@ fn every_operation_by_hand() {
         finish\n\
         board reply=32 table=0604\n\
         registered address=104 count=4 bytes=c800000000000000 min=-1 max=4095\n\
+        status room=32 slot=7 speaks=255 id=252 error=0x87 count=8 bytes=fffffd0000000000\n\
         poke address=64 byte=0x01\n\
         fresh\n\
         measure position=-166 error=0x80\n\
@@ -56,6 +57,15 @@ fn every_operation_by_hand() {
         Operation::Finish,
         Operation::Board { reply: 32, table: vec![6, 4] },
         Operation::Registered { address: 104, count: 4, bytes: [200, 0, 0, 0, 0, 0, 0, 0], min: -1, max: 4095 },
+        Operation::Status {
+            room: 32,
+            slot: 7,
+            speaks: 255,
+            id: 252,
+            error: 0x87,
+            count: 8,
+            bytes: [0xFF, 0xFF, 0xFD, 0, 0, 0, 0, 0],
+        },
         Operation::Poke { address: 64, byte: 1 },
         Operation::Fresh,
         Operation::Measure { position: -166, error: 0x80 },

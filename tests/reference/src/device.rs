@@ -108,6 +108,76 @@ pub fn packet_call(
     Ok(answer)
 }
 
+/// A reply that waits for its turn. Silence: all 0.
+#[derive(Clone, Copy, PartialEq, Eq, Debug, Default)]
+pub struct Waiting {
+    pub speaks: u8,
+    pub id: u8,
+    pub error: u8,
+    pub count: u8,
+    pub bytes: [u8; 8],
+    pub turn: usize,
+}
+
+/// The first of two calls: carries out, and says what is to be said later; or the number of its refusal.
+pub fn carry_out_call(table: &mut [u8], registered: Registered, heard: Heard) -> Result<(Waiting, Registered), u8> {
+    let table: &mut Table = table.try_into().map_err(|_| 21)?;
+    let id = table::own_id(table);
+    match () {
+        () if id > 252 => return Err(22),
+        () if registered.count > 8 => return Err(23),
+        () => {}
+    }
+    let (level, mut registered) = (table::return_level(table), registered);
+    let mut waiting = Waiting::default();
+    if let Some(reply) = hear(table, &mut registered, heard) {
+        if level >= reply.level {
+            let alert = u8::from(table::hardware_error(table) != 0) << 7;
+            let (error, data) = reply.outcome.map_or_else(|error| (error, vec![]), |data| (0, data));
+            waiting.bytes[..data.len()].copy_from_slice(&data);
+            let (count, turn) = (data.len() as u8, usize::from(reply.slot));
+            waiting = Waiting { speaks: 1, id, error: error | alert, count, turn, ..waiting };
+        }
+    }
+    Ok((waiting, registered))
+}
+
+/// The same for a packet as received, whose unstuffed body goes into a buffer of any length.
+pub fn carry_out_packet_call(
+    table: &mut [u8],
+    registered: Registered,
+    packet: &[u8],
+    buffer: &mut [u8],
+) -> Result<(Waiting, Registered), u8> {
+    let stuffed = packet.get(7..packet.len().max(2) - 2).unwrap_or(&[]);
+    if !well_stuffed(stuffed) {
+        return Err(14);
+    }
+    let body = unstuff(stuffed);
+    let room = buffer.get_mut(..body.len()).ok_or(13)?;
+    let heard = if well_formed(packet) { Heard::Packet { id: packet[4], body: &body } } else { Heard::Nothing };
+    let carried = carry_out_call(table, registered, heard)?;
+    room.copy_from_slice(&body);
+    Ok(carried)
+}
+
+/// The second: makes the packet of any such record. How many bytes that are, or the number of the refusal.
+pub fn status_call(waiting: Waiting, out: &mut [u8]) -> Result<usize, u8> {
+    if waiting.id > 252 {
+        return Err(11);
+    }
+    let data = waiting.bytes.get(..usize::from(waiting.count)).ok_or(12)?;
+    if out.len() < FEWEST_REPLY_BYTES {
+        return Err(24);
+    }
+    if waiting.speaks == 0 {
+        return Ok(0);
+    }
+    let status = packet_of(waiting.id, &[&[0x55, waiting.error], data].concat());
+    out[..status.len()].copy_from_slice(&status);
+    Ok(status.len())
+}
+
 fn hear(table: &mut Table, registered: &mut Registered, heard: Heard) -> Option<Reply> {
     let own = table::own_id(table);
     match heard {

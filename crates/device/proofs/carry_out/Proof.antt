@@ -1,45 +1,68 @@
-use mathlib.Core.Path.{refl, ap, _∙_}
-use mathlib.Core.Logic.{⊎-elim}
-use Rattle.lists.proofs.Bools.{both-ways}
-use Rattle.status.specs.declared.Reply.{Reply}
-use Rattle.device.specs.Device.{Carried}
-use Rattle.device.specs.Results.{carriedOf}
-use Rattle.device.proofs.Replies.{to-device, to-another}
-use borrow.Author.Tests.{not-true, not-false, eqb-false}
+use mathlib.Core.Path.{_≡_, ap, _∙_}
+use mathlib.Core.List.{[], _∷_}
+use mathlib.Core.Option.{none}
+use types.Run.{miss}
+use Rattle.device.specs.Device.{carryOut}
+use Rattle.device.specs.Answers.{repliedAnswer, stateRefusal}
+use Rattle.device.specs.declared.CarriedOut.{CarriedOut}
+use Rattle.device.proofs.Calls.{state-accepted, fault-told, no-fault}
 use borrow.Author.Needs.{needs}
 use Rattle.device.proofs.carry_out.Statement.{statement}
 use Rattle.device.proofs.carry_out.Tie as tie
 
-slice-read-own : tie.Need-slice-read-own
-slice-read-own c = search needs
+state-refusal-requires : tie.Need-state-refusal-requires
+state-refusal-requires c κs = search needs
+
+enum-told : tie.Need-enum-told
+enum-told c = search needs
 
 silence-requires : tie.Need-silence-requires
 silence-requires c κs = search needs
 
-returns : tie.Need-returns
-returns c =
-    let k = c .before in
-    let a = k .before .before .before .before .before .args in
-    let e = to-another (a .table .now) (a .registered) (a .heard) (a .id) (a .body .now)
-    (eqb-false _ _ (not-true _ (k .before .if1 .taken))) (k .if2 .taken) in
-    (ap (λ (x : Reply). record { reply = x; registered = a .registered }) (c .silence .ensures) ∙ ap carriedOf e, ap (λ (x : Carried). x .table) e)
-
-execute-requires : tie.Need-execute-requires
-execute-requires c κs = search needs
-
 same-length : tie.Need-same-length
 same-length c = search needs
 
+returns : tie.Need-returns
+returns c =
+    let m = c .before in
+    let i = m .before in
+    let a = i .before .before .before .before .args in
+    let q = fault-told (stateRefusal (a .table .now) (a .registered)) (i .state-refusal .result) (i .state-refusal .ensures)
+    (λ n slot e. miss (1 ∷ 2 ∷ 3 ∷ 4 ∷ 5 ∷ 6 ∷ []) 0 tt (rw e at (m .match .keys2))) in
+    (i .state-refusal .ensures, (c .silence .ensures ∙ q .silences _, (q .keeps _ _, q .leaves _ _)))
+
+-- nothing is refused, once the match is passed
+passes : (t : tie.After-enum-told) → let a = t .before .before .before .before .before .before .args in
+    stateRefusal (a .table .now) (a .registered) ≡ none
+passes t =
+    let a = t .before .before .before .before .before .before .args in
+    let i = t .before .before .state-refusal in
+    no-fault (stateRefusal (a .table .now) (a .registered)) (i .result) (i .ensures) _ _ (t .enum-told .given .1)
+
+dispatch-requires : tie.Need-dispatch-requires
+dispatch-requires c κs = state-accepted _ _ (passes (c .before)) .sized
+
+same-length-2 : tie.Need-same-length-2
+same-length-2 c = search needs
+
 returns-2 : tie.Need-returns-2
 returns-2 c =
-    let r = c .before .before in
-    let k = r .before .before in
-    let a = k .before .before .before .before .args in
-    let e = to-device (a .table .now) (a .registered) (a .heard) (a .id) (a .body .now) _ refl
-    (λ n. ⊎-elim (λ w. w .1 .left) (λ w. both-ways _ (not-false _ (w .left)) n) (k .if1 .came)) in
-    (r .execute .ensures .0 ∙ ap carriedOf e, r .execute .ensures .1 ∙ ap (λ (x : Carried). x .table) e)
+    let d = c .before .before in
+    let e = passes (d .before .before) in
+    let r = d .dispatch .ensures in (
+      rw e (ap (λ (x : CarriedOut). repliedAnswer (x .refused)) (r .0)),
+      (rw e (ap (λ (x : CarriedOut). x .reply) (r .0)), (rw e (ap (λ (x : CarriedOut). x .registered) (r .0)), rw e (r .1))),
+    )
 
 pub carry-out-spec : {M : Type 1} → statement M
 carry-out-spec =
     tie.close
-    (tie.spec slice-read-own silence-requires returns execute-requires same-length returns-2)
+    (tie.spec
+    state-refusal-requires
+    enum-told
+    silence-requires
+    same-length
+    returns
+    dispatch-requires
+    same-length-2
+    returns-2)

@@ -1,6 +1,7 @@
 use mathlib.Core.Path.{ap, _∙_}
 use mathlib.Core.List.{List}
 use Prim.Native.Nat.{ℕ}
+use native.Mathlib.Omega.{arith}
 use lib.ListN.{getD}
 use Rattle.instructions.specs.declared.Done.{Done}
 use Rattle.reactions.specs.declared.Reacted.{Reacted}
@@ -10,6 +11,8 @@ use Rattle.reactions.specs.Results.{reactedOf}
 use Rattle.device.specs.Device.{replyBy}
 use Rattle.device.specs.Results.{replyTo}
 use Rattle.reactions.proofs.Reactions.{reaction-of-size, reacted-done}
+use Rattle.device.specs.declared.Replied.the-variants.{Sent}
+use Rattle.device.proofs.Bounds.{reaction-small}
 use Rattle.device.proofs.Replies.{reply-of}
 use borrow.Author.Needs.{needs}
 use Rattle.device.proofs.execute.Statement.{statement}
@@ -25,7 +28,14 @@ reaction-requires : tie.Need-reaction-requires
 reaction-requires c κs = search needs
 
 reply-to-requires : tie.Need-reply-to-requires
-reply-to-requires c κs = search needs
+reply-to-requires c κs =
+    let r = c .before .before .before .before .before in
+    let s = r .before .before .before .before .before .before in
+    let a = s .args in
+    let q = reaction (a .heard) (a .all) (a .table .now) (a .registered) (a .body .now) in
+    let e = r .reaction .ensures .0 ∙ ap reactedOf (reaction-of-size (a .table .now) (a .registered) q (s .pre)) in
+    let n = ap (λ (x : Reacted). x .done .count) e ∙ ap (λ (x : Done). x .count) (reacted-done q) in
+    (search needs, omega (arith, n, reaction-small (a .table .now) (a .registered) (s .pre) (a .heard) (a .all) (a .body .now) .few))
 
 same-length : tie.Need-same-length
 same-length c = search needs
@@ -41,12 +51,12 @@ returns c =
     let left = r .reaction .ensures .1 ∙ ap (λ (x : Reaction). x .effect .table) e in
     let own = getD (a .table .now) 7 0 in
     let level = getD (a .table .now) 68 0 in (
-      ap (λ (x : Reply). record { reply = x; registered = r .reaction .result .done .registered })
+      ap (λ (x : Reply). record { refused = Sent 0 0; reply = x; registered = r .reaction .result .done .registered })
           (c .reply-to .ensures
           ∙ ap (λ (t : List ℕ). replyTo t own level (r .reaction .result)) left
           ∙ ap (replyTo (q .effect .table) own level) reacted
           ∙ reply-of (a .table .now) q)
-          ∙ ap (λ (x : Done). record { reply = replyBy (q .replying) (a .table .now) (q .effect); registered = x .registered }) (ap (λ (x : Reacted). x .done) reacted ∙ reacted-done q),
+          ∙ ap (λ (x : Done). record { refused = Sent 0 0; reply = replyBy (q .replying) (a .table .now) (q .effect); registered = x .registered }) (ap (λ (x : Reacted). x .done) reacted ∙ reacted-done q),
       left,
     )
 

@@ -29,15 +29,18 @@ shared-slice-read-error-byte c = search needs
 error-byte-requires : tie.Need-error-byte-requires
 error-byte-requires c κs = search needs
 
+cast-t11 : tie.Need-cast-t11
+cast-t11 c = search needs
+
 returns-3 : tie.Need-returns-3
 returns-3 c =
-    let k = c .before .before .before .before in
+    let k = c .before .before .before .before .before in
     let s = k .before .before in
     let a = s .before .before .before .args in
     rw (not-false (a .reacted .speaks) (s .if1 .left), le-leb (a .reacted .level) (a .level) (k .if2 .left))
-    (ap (λ (x : ℕ). record { speaks = true; id = a .own; error = x; count = a .reacted .done .count; bytes = a .reacted .done .bytes; slot = a .reacted .slot }) (c .error-byte .ensures))
+    (ap (λ (x : ℕ). record { speaks = 1; id = a .own; error = x; count = a .reacted .done .count; bytes = a .reacted .done .bytes; slot = a .reacted .slot }) (c .before .error-byte .ensures))
 
 pub reply-to-spec : {M : Type 1} → statement M
 reply-to-spec =
     tie.close
-    (tie.spec silence-requires returns silence-requires-2 returns-2 shared-slice-read-error-byte error-byte-requires returns-3)
+    (tie.spec silence-requires returns silence-requires-2 returns-2 shared-slice-read-error-byte error-byte-requires cast-t11 returns-3)

@@ -1,6 +1,6 @@
 use mathlib.Core.Path.{ap, _∙_}
 use native.Mathlib.Omega.{arith}
-use borrow.Author.Tests.{not-true, not-false}
+use borrow.Author.Tests.{eq-eqb, ne-eqb}
 use Rattle.status.specs.Sending.{writtenAnswer}
 use Rattle.status.proofs.Sending.{refuses-id, refuses-count, refuses-room, accepts, fits, goes-out}
 use borrow.Author.Needs.{needs}
@@ -29,7 +29,7 @@ returns-4 : tie.Need-returns-4
 returns-4 c =
     let a = c .before .before .before .before .before .before .before .before .args in
     let e = accepts (a .reply) (a .out .now) (omega arith) (omega arith) (omega arith) in
-    let s = not-true (a .reply .speaks) (c .if4 .taken) in
+    let s = eq-eqb (a .reply .speaks) 0 (c .if4 .taken) in
     (rw (e, s), rw (e, s))
 
 write-status-requires : tie.Need-write-status-requires
@@ -48,7 +48,7 @@ returns-5 c =
     let a = k .before .before .before .before .before .before .before .before .args in
     let e = accepts (a .reply) (a .out .now) (omega arith) (omega arith) (omega arith) in
     let f = fits (a .reply) (a .out .now) (omega arith) (omega arith) (omega arith) in
-    let s = not-false (a .reply .speaks) (k .if4 .left) in
+    let s = ne-eqb (a .reply .speaks) 0 (k .if4 .left) in
     let g = goes-out (a .reply) (a .out .now) (omega arith) (omega arith) (omega arith) (w .write-status .result) (w .write-status .ensures .0) in
     (rw (e, s) (ap writtenAnswer (c .as-written .ensures) ∙ g), rw (e, s) (rw f at (w .write-status .ensures .1)))
 

@@ -30,6 +30,9 @@ array-read-t27 c = search needs
 array-read-t30 : tie.Need-array-read-t30
 array-read-t30 c = search needs
 
+cast-n : tie.Need-cast-n
+cast-n c = search needs
+
 add-n : tie.Need-add-n
 add-n c = search needs
 
@@ -67,6 +70,7 @@ write-status-spec =
     array-read-t24
     array-read-t27
     array-read-t30
+    cast-n
     add-n
     array-share-prefix-params
     slice-aggregate-encode

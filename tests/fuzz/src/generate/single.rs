@@ -43,6 +43,21 @@ pub fn unstuff(rng: &mut Rng) -> Operation {
     Operation::Unstuff { room, body: form }
 }
 
+/// Any reply: mark, ID and count are good or not, and its bytes are often such that have to be stuffed.
+pub fn status(rng: &mut Rng) -> Operation {
+    let mut marked = |rng: &mut Rng| if rng.one_in(3) { rng.byte() } else { rng.pick(&[0xFF, 0xFF, 0xFD]) };
+    let bytes = std::array::from_fn(|_| marked(rng));
+    Operation::Status {
+        room: rng.pick(&[0, 11, 22, 30, 31, 32, 32, 32, 32, 33, 40]),
+        slot: rng.word() as usize >> rng.between(0, 63),
+        speaks: rng.pick(&[0, 1, 1, 1, 2, 255]),
+        id: rng.pick(&[0, 1, 1, 252, 252, 253, 254, 255]),
+        error: rng.pick(&[0, 1, 0x87, 0xFF, 0xFF, 0xFD]),
+        count: rng.pick(&[0, 1, 2, 3, 4, 7, 8, 8, 9, 255]),
+        bytes,
+    }
+}
+
 /// Any body, often one whose stuffed form is about as long as a packet can carry.
 fn some_body(rng: &mut Rng) -> Vec<u8> {
     if rng.one_in(12) {

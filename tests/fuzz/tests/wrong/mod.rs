@@ -1,7 +1,7 @@
 //! Exports that are wrong in one thing each.
 
 use compare::{Calls, PROVED};
-use exports::{Answer, Event, Reader, Registered, Step};
+use exports::{Answer, Carried, Event, Reader, Registered, Reply, Step};
 use std::hint::black_box;
 
 pub struct Wrong {
@@ -43,6 +43,10 @@ pub fn all() -> Vec<Wrong> {
         wrong("dxl_device", "the answer", Calls { device: keeps_registered, ..PROVED }),
         wrong("dxl_exchange", "the body buffer", Calls { exchange: body_before_the_tests, ..PROVED }),
         wrong("dxl_exchange", "the answer", Calls { exchange: hears_a_wrong_checksum, ..PROVED }),
+        wrong("dxl_carry_out", "the answer", Calls { carry_out: settles_no_alert, ..PROVED }),
+        wrong("dxl_carry_out_packet", "the answer", Calls { carry_out_packet: loses_the_slot, ..PROVED }),
+        wrong("dxl_status", "the answer", Calls { status: silence_first, ..PROVED }),
+        wrong("dxl_status", "the answer", Calls { status: sends_past_the_count, ..PROVED }),
         wrong("dxl_device", "the bytes around the table", Calls { device: before_the_table, ..PROVED }),
         wrong("dxl_device", "the answer", Calls { device: bulk_slot_of_the_id, ..PROVED }),
         wrong("dxl_device", "the table", Calls { device: cut_entry_left_out, ..PROVED }),
@@ -326,4 +330,28 @@ fn cut_entry_left_out(table: &mut [u8], registered: Registered, kind: u8, id: u8
         return exports::device(table, registered, kind, id, &body[..whole], reply);
     }
     exports::device(table, registered, kind, id, body, reply)
+}
+
+/// The alert bit is left to the second call.
+fn settles_no_alert(table: &mut [u8], registered: Registered, kind: u8, id: u8, body: &[u8]) -> Carried {
+    let mut carried = exports::carry_out(table, registered, kind, id, body);
+    carried.reply.error &= 0x7F;
+    carried
+}
+
+fn loses_the_slot(table: &mut [u8], registered: Registered, packet: &[u8], body: &mut [u8]) -> Carried {
+    let mut carried = exports::carry_out_packet(table, registered, packet, body);
+    carried.reply.slot = 0;
+    carried
+}
+
+/// Silence is looked at before the refusals.
+fn silence_first(reply: Reply, out: &mut [u8]) -> i64 {
+    if reply.speaks == 0 { 0 } else { exports::status(reply, out) }
+}
+
+/// All eight bytes are sent, whatever the count says.
+fn sends_past_the_count(reply: Reply, out: &mut [u8]) -> i64 {
+    let count = if reply.count <= 8 { 8 } else { reply.count };
+    exports::status(Reply { count, ..reply }, out)
 }

@@ -1,0 +1,44 @@
+use mathlib.Core.Path.{sym, _∙_}
+use Rattle.exchange.proofs.Stays.{stays-accepted}
+use Rattle.exchange.proofs.GoalWithinLimits.{goal-within-limits}
+use Rattle.device.proofs.Split.{split}
+use Rattle.capi.proofs.Carried.{by-parts}
+use borrow.Author.Needs.{needs}
+use Rattle.capi.proofs.dxl_carry_out.Statement.{statement}
+use Rattle.capi.proofs.dxl_carry_out.Tie as tie
+
+heard-by-requires : tie.Need-heard-by-requires
+heard-by-requires c κs = search needs
+
+id-of-kind-requires : tie.Need-id-of-kind-requires
+id-of-kind-requires c κs = search needs
+
+carry-out-requires : tie.Need-carry-out-requires
+carry-out-requires c κs = search needs
+
+carried-requires : tie.Need-carried-requires
+carried-requires c κs = search needs
+
+same-length : tie.Need-same-length
+same-length c = search needs
+
+returns : tie.Need-returns
+returns c =
+    let h = c .before .before .before in
+    let e = h .carry-out .ensures in
+    let i = h .before .before in
+    rw (sym (i .before .heard-by .ensures), sym (i .id-of-kind .ensures)) (
+      c .carried .ensures ∙ by-parts _ _ _ _ _ _ (e .0) (e .1 .0) (e .1 .1 .0),
+      (e .1 .1 .1, (split, stays-accepted, goal-within-limits)),
+    )
+
+pub dxl-carry-out-spec : {M : Type 1} → statement M
+dxl-carry-out-spec =
+    tie.close
+    (tie.spec
+    heard-by-requires
+    id-of-kind-requires
+    carry-out-requires
+    carried-requires
+    same-length
+    returns)

@@ -1,0 +1,29 @@
+use mathlib.Core.Path.{ap, _∙_}
+use mir.Facts.{toZ-ofZ}
+use mir.Syntax.{w64}
+use Rattle.status.proofs.Sent.{reply-written}
+use Rattle.device.proofs.Split.{split}
+use Rattle.exchange.proofs.Split.{split as exchange-split}
+use Rattle.numbers.specs.Exported.{exported}
+use borrow.Author.Needs.{needs}
+use Rattle.capi.proofs.dxl_status.Statement.{statement}
+use Rattle.capi.proofs.dxl_status.Tie as tie
+
+send-requires : tie.Need-send-requires
+send-requires c κs = search needs
+
+written-requires : tie.Need-written-requires
+written-requires c κs = search needs
+
+same-length : tie.Need-same-length
+same-length c = search needs
+
+returns : tie.Need-returns
+returns c =
+    let e = c .before .before .before .send in (
+      toZ-ofZ {w = w64} (record { sfits = c .written .ok }) ∙ c .written .ensures ∙ ap exported (e .ensures .0),
+      (e .ensures .1, (split, exchange-split, reply-written)),
+    )
+
+pub dxl-status-spec : {M : Type 1} → statement M
+dxl-status-spec = tie.close (tie.spec send-requires written-requires same-length returns)

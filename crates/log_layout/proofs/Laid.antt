@@ -6,7 +6,7 @@ use native.Mathlib.Omega.{arith}
 use lib.ListN.{length, take, drop, getD, length-drop, take-append-drop}
 use lib.Seq.{drop-drop, getD-drop, drop-cons}
 use Rattle.lists.specs.Numbers.{Bytes, numberAt, bytesOf}
-use Rattle.lists.proofs.Numbers.{same-number}
+use Rattle.lists.proofs.Numbers.{number-drop, bytes-number}
 use Rattle.log_layout.specs.Log.{laid, Entry, numbersOf}
 use Rattle.log_layout.specs.Layout.{u32At, numbers, entries}
 
@@ -53,18 +53,6 @@ drop-laid (x ∷ xs) rest k e =
 
 -- ---- bytes read as numbers are laid out again
 
--- the bytes of the number that n bytes make
-pub bytes-number : (n : ℕ) (s : List ℕ) (a : ℕ) → Bytes s → a + n ≤ length s → bytesOf n (numberAt s a n) ≡ take n (drop a s)
-unfolding bytesOf numberAt
-bytes-number zero s a b h = refl
-bytes-number (suc n) s a b h =
-    let x = getD s a 0 in
-    let m = numberAt s (suc a) n in
-    let low = b a in
-    let e : (x + 256 * m) % 256 ≡ x = omega arith in
-    let f : (x + 256 * m) / 256 ≡ m = omega arith in
-    rw (drop-cons s a 0 (omega arith), e, f) (ap (λ (l : List ℕ). x ∷ l) (bytes-number n s (suc a) b (omega arith)))
-
 pub bytes-tail : (k : ℕ) (s : List ℕ) → Bytes s → Bytes (drop k s)
 bytes-tail k s b i = rw (getD-drop k s i 0) (b (k + i))
 
@@ -81,20 +69,13 @@ numbers-back (suc k) s b h =
     (ap (λ (l : List ℕ). bytesOf 4 (u32At s 0) ++ l) (numbers-back k (drop 4 s) (bytes-tail 4 s b) (omega (arith, length-drop 4 s)))
     ∙ u32-back s b (omega arith))
 
--- a number, counted from a place on
-pub u32-drop : (a b : ℕ) (s : List ℕ) → u32At (drop a s) b ≡ u32At s (a + b)
-u32-drop a b s = same-number 4 (drop a s) s b (a + b) (λ k h. getD-drop a s (b + k) 0 ∙ ap (λ (i : ℕ). getD s i 0) (sum k))
-  where
-    sum : (k : ℕ) → a + (b + k) ≡ a + b + k
-    sum k = omega arith
-
 pub entries-back : (k : ℕ) (s : List ℕ) → Bytes s → 8 * k ≤ length s → laid (numbersOf (entries k s)) (drop (8 * k) s) ≡ s
 unfolding entries laid
 entries-back zero s b h = refl
 entries-back (suc k) s b h =
     let n : 8 * suc k ≡ 8 + 8 * k = omega arith in
     let second : bytesOf 4 (u32At s 4) ++ drop 8 s ≡ drop 4 s =
-    ap₂ (λ (x : ℕ) (l : List ℕ). bytesOf 4 x ++ l) (sym (u32-drop 4 0 s)) (sym (drop-drop 4 4 s))
+    ap₂ (λ (x : ℕ) (l : List ℕ). bytesOf 4 x ++ l) (sym (number-drop 4 4 0 s)) (sym (drop-drop 4 4 s))
     ∙ u32-back (drop 4 s) (bytes-tail 4 s b) (omega (arith, length-drop 4 s)) in
     rw (n, ← drop-drop (8 * k) 8 s)
     (ap (λ (l : List ℕ). bytesOf 4 (u32At s 0) ++ (bytesOf 4 (u32At s 4) ++ l))

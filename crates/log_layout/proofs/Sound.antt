@@ -10,12 +10,13 @@ use lib.ListN.{length, take, drop, length-append, length-take, length-drop, take
 use lib.Seq.{drop-drop, take-append-seam, drop-append-seam, length-take-le}
 use borrow.Author.Tests.{leb-true, eqb-true, le-leb, eq-eqb}
 use Rattle.lists.specs.Numbers.{Bytes, bytesOf, numberAt}
+use Rattle.lists.proofs.Numbers.{number-drop}
 use Rattle.lists.proofs.Bools.{and-left, and-right}
 use Rattle.reading.specs.Promise.{joined}
 use Rattle.log_layout.specs.Last.{Last, at, nowhere, orIn, lastIn, lastFrom, lastOf, idAt, indexNumber, indexSize, indexFrom, index}
 use Rattle.log_layout.specs.Log.{laid, Entry, numbersOf, header, directoryPlace, indexPlace, segmentsPlace, directory, logOf, longestFile}
 use Rattle.log_layout.specs.Layout.{u32At, numbers, entries, countIn, directoryIn, indexIn, segmentsBy, segmentsIn, chained, noneAbove, headerRight, laidOut}
-use Rattle.log_layout.proofs.Laid.{Fit, u32-laid, numbers-laid, entries-laid, length-laid, length-numbersOf, drop-laid, bytes-tail, numbers-back, u32-drop, entries-back}
+use Rattle.log_layout.proofs.Laid.{Fit, u32-laid, numbers-laid, entries-laid, length-laid, length-numbersOf, drop-laid, bytes-tail, numbers-back, entries-back}
 
 -- ---- index numbers
 
@@ -266,7 +267,7 @@ module _ (file : List ℕ) (b : Bytes file) (h : LaidOut file) (i : indexIn file
   header-back : header count ≡ numbers 4 file
   unfolding numbers
   header-back =
-      rw (drop-drop 4 4 file, drop-drop 4 8 file, u32-drop 4 0 file, u32-drop 8 0 file, u32-drop 12 0 file, h .directory-place, h .index-size, h .index-place)
+      rw (drop-drop 4 4 file, drop-drop 4 8 file, number-drop 4 4 0 file, number-drop 4 8 0 file, number-drop 4 12 0 file, h .directory-place, h .index-size, h .index-place)
 
   pub log-back : file ≡ logOf segments
   unfolding logOf

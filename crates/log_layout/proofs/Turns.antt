@@ -9,12 +9,12 @@ use lib.ListN.{length, take, drop, length-drop, drop-of-length-le}
 use lib.Seq.{drop-drop, take-all}
 use borrow.Author.Tests.{lt-leb, le-leb, eq-eqb, ne-eqb}
 use Rattle.lists.specs.Numbers.{numberAt}
+use Rattle.lists.proofs.Numbers.{number-drop}
 use Rattle.log_layout.specs.Log.{Entry}
 use Rattle.log_layout.specs.Layout.{u32At, numbers, entries, chained, noneAbove}
-use Rattle.log_layout.proofs.Laid.{u32-drop}
 
 u32-here : (s : List ℕ) (p : ℕ) → u32At (drop p s) 0 ≡ u32At s p
-u32-here s p = u32-drop p 0 s ∙ ap (u32At s) (sum p)
+u32-here s p = number-drop 4 p 0 s ∙ ap (u32At s) (sum p)
   where
     sum : (p : ℕ) → p + 0 ≡ p
     sum p = omega arith
@@ -36,7 +36,7 @@ module _ (s : List ℕ) (p : ℕ) where
 
   pub entries-turn : (k : ℕ) → entries (suc k) (drop p s) ≡ (u32At s p, u32At s (p + 4)) ∷ entries k (drop (p + 8) s)
   unfolding entries
-  entries-turn k = rw (u32-here s p, u32-drop p 4 s, drop-drop 8 p s)
+  entries-turn k = rw (u32-here s p, number-drop 4 p 4 s, drop-drop 8 p s)
 
   module _ (k j : ℕ) (e : k ≡ suc j) where
     -- an entry that starts elsewhere, and one that starts where it has to

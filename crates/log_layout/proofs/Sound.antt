@@ -225,8 +225,8 @@ chain-is file (f ∷ es) start e =
     let r = chain-is file es (start + f .1) c in (
       rw l (ap₂ {C = List Entry} (λ (a : ℕ) (xs : List Entry). (a, f .1) ∷ xs) k (r .0)),
       rw k
-      (sym (take-append-drop (f .1) (drop start file))
-      ∙ ap (λ (x : List ℕ). take (f .1) (drop start file) ++ x) (drop-drop (f .1) start file ∙ r .1)),
+          (sym (take-append-drop (f .1) (drop start file))
+          ∙ ap (λ (x : List ℕ). take (f .1) (drop start file) ++ x) (drop-drop (f .1) start file ∙ r .1)),
     )
 
 segments-count : (file : List ℕ) (es : List Entry) → length (segmentsBy file es) ≡ length es

@@ -30,7 +30,7 @@ u32-tail s p =
 
 module _ (s : List ℕ) (p : ℕ) where
   -- the first of the numbers that are left, and the first of the entries
-  numbers-turn : (k : ℕ) → numbers (suc k) (drop p s) ≡ u32At s p ∷ numbers k (drop (p + 4) s)
+  pub numbers-turn : (k : ℕ) → numbers (suc k) (drop p s) ≡ u32At s p ∷ numbers k (drop (p + 4) s)
   unfolding numbers
   numbers-turn k = rw (u32-here s p, drop-drop 4 p s)
 

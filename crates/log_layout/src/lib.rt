@@ -9,7 +9,9 @@ ghost use Rattle.log_layout.specs.Layout.{u32At, numbers, entries, chain
 
 // Where the directory begins, how many numbers the index has, and the bytes of the longest file.
 pub const DIRECTORY: usize = 16;
+
 pub const INDEX_COUNT: usize = 254;
+
 pub const LONGEST_FILE: usize = 4294967295;
 
 fn byte_at(s: &[u8], i: usize) -> u8
@@ -45,7 +47,12 @@ pub fn number_at(file: &[u8], place: usize) -> u32
     if file.len() - place < 4 {
         return cut_number(&file[place..]);
     }
-    four(file[place], file[place + 1], file[place + 2], file[place + 3])
+    four(
+        file[place],
+        file[place + 1],
+        file[place + 2],
+        file[place + 3],
+    )
 }
 
 // A segment by its start and length, as far as the file has its bytes. [I3]

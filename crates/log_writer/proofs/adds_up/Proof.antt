@@ -45,7 +45,7 @@ loop-again c = let l = c .before .before .before .loop in
     let ns = c .before .before .before .before .args .lengths .now in (
       search needs,
       l .inv .1 ∙ ap (λ (m : ℕ). eqb m (l .left)) (sum-turn ns (l .i) (search needs))
-      ∙ less-both (getD ns (l .i) 0) (sum (drop (l .i + 1) ns)) (l .left) (search needs),
+          ∙ less-both (getD ns (l .i) 0) (sum (drop (l .i + 1) ns)) (l .left) (search needs),
     )
 
 returns-2 : tie.Need-returns-2 Inv-loop μ-loop

@@ -67,10 +67,10 @@ loop-again c = let l = c .before .before .before .before .before .loop in
       search needs,
       omega (arith, sum-turn (a .lengths .now) (l .i) (search needs), l .inv .1),
       l .inv .2 ∙ marked-turn (a .lengths .now) (l .i) (a .bytes .now) _ (l .start) (l .i) (search needs)
-      ∙ ap₂ (λ (j : ℕ) (xs : List ℕ). markedAll j xs (cut (drop (l .i + 1) (a .lengths .now)) (drop (l .start + n) (a .bytes .now)))) (sym k)
-      (sym
-      (c .mark .ensures
-      ∙ ap₂ (λ (j m : ℕ). marked j (l .index) (reading protocol2 (take m (drop (l .start) (a .bytes .now))))) k e)),
+          ∙ ap₂ (λ (j : ℕ) (xs : List ℕ). markedAll j xs (cut (drop (l .i + 1) (a .lengths .now)) (drop (l .start + n) (a .bytes .now)))) (sym k)
+          (sym
+          (c .mark .ensures
+          ∙ ap₂ (λ (j m : ℕ). marked j (l .index) (reading protocol2 (take m (drop (l .start) (a .bytes .now))))) k e)),
     )
 
 returns : tie.Need-returns Inv-loop μ-loop

@@ -12,7 +12,10 @@ use Rattle.device.specs.Answers.{sent, DeviceAnswer, refused as Device·refused
 use Rattle.instructions.specs.declared.RegisteredWrite.{RegisteredWrite}
 use Rattle.numbers.specs.declared.StepNumbers.{StepNumbers}
 use Rattle.numbers.specs.declared.EventNumbers.{EventNumbers}
+use Rattle.log_layout.specs.Last.{at, nowhere}
+use Rattle.log.specs.Question.{Answer as Log·Answer, found, refused as Log·refused}
 use Rattle.numbers.specs.declared.DeviceNumbers.{DeviceNumbers}
+use Rattle.numbers.specs.declared.FoundNumbers.{FoundNumbers}
 
 -- a count that no 64-bit signed number holds is answered as the largest one (no buffer of a real machine is that long) [G5 N11]
 abbrev pub exported : Answer → ℤ
@@ -47,3 +50,9 @@ nextNumbers Nothing = record { offset = 0; count = 0; next = 0; kind = 0; id = 0
 abbrev pub deviceNumbers : DeviceAnswer → RegisteredWrite → DeviceNumbers
 deviceNumbers (sent n slot) w = record { count = exported (count n); slot = slot; registered = w }
 deviceNumbers (Device·refused number) w = record { count = negℤ (pos number); slot = 0; registered = w }
+
+-- the answer to a question about a log: 1 with segment and offset, 0 for none, or minus the refusal number [G5 I18 N11]
+abbrev pub foundNumbers : Log·Answer → FoundNumbers
+foundNumbers (found (at k p)) = record { found = pos 1; segment = k; offset = p }
+foundNumbers (found nowhere) = record { found = pos 0; segment = 0; offset = 0 }
+foundNumbers (Log·refused number) = record { found = negℤ (pos number); segment = 0; offset = 0 }

@@ -8,6 +8,9 @@ use exchange::Exchanged;
 use framer::Step;
 use framer::StepEvent;
 use instructions::RegisteredWrite;
+use log::Checked;
+use log::Found;
+use log_writer::Written;
 use plain_reader::Next;
 use stuffing::Unstuffed;
 use table_rules::Change;
@@ -17,8 +20,11 @@ ghost use Rattle.encoder.specs.Encoding.{encodedAnswer};
 ghost use Rattle.table_rules.specs.Outcomes.{changeRefusal};
 ghost use Rattle.device.specs.Answers.{repliedAnswer};
 ghost use Rattle.exchange.specs.Exchange.{exchangedAnswer};
+ghost use Rattle.log_writer.specs.Writing.{writtenAnswer};
+ghost use Rattle.log.specs.Soundness.{checkedRefusal};
+ghost use Rattle.log.specs.Question.{foundAnswer};
 ghost use Rattle.lists.specs.Answer.{count as Answer·count};
-ghost use Rattle.numbers.specs.Exported.{exported, exportedRefusal, stepNumbers, nextNumbers, deviceNumbers};
+ghost use Rattle.numbers.specs.Exported.{exported, exportedRefusal, stepNumbers, nextNumbers, deviceNumbers, foundNumbers};
 
 // What a feeding or gap call returns. kind 0: no event, from a gap call: nothing is left; 1: a packet of `count` bytes; 2: a bad
 // checksum; 25: the reader's count is above 1,030. `id` is that of the packet or of the bad checksum.
@@ -48,6 +54,15 @@ pub struct DeviceNumbers {
     pub count: i64,
     pub slot: usize,
     pub registered: RegisteredWrite,
+}
+
+// What the question to a log returns: 1 for a packet, 0 for none, or minus the number of a refusal; the packet's segment and its
+// offset there, 0 beside any other answer.
+#[repr(C)]
+pub struct FoundNumbers {
+    pub found: i64,
+    pub segment: usize,
+    pub offset: usize,
 }
 
 fn count(n: usize) -> i64
@@ -221,6 +236,53 @@ pub fn answered(answer: Answered) -> DeviceNumbers
             count: -13,
             slot: 0,
             registered,
+        },
+    }
+}
+
+pub fn written(answer: Written) -> i64
+    ensures { λ r. ⌜ r ≡ exported (writtenAnswer answer) ⌝ }
+{
+    match answer {
+        Written::Count(n) => count(n),
+        Written::BadLayout => -31,
+        Written::NoRoom => -13,
+    }
+}
+
+pub fn checked(answer: Checked) -> i64
+    ensures { λ r. ⌜ r ≡ exportedRefusal (checkedRefusal answer) ⌝ }
+{
+    match answer {
+        Checked::Accepted => 0,
+        Checked::BadLayout => -31,
+        Checked::WrongIndex => -34,
+    }
+}
+
+pub fn found(answer: Found) -> FoundNumbers
+    ensures { λ r. ⌜ r ≡ foundNumbers (foundAnswer answer) ⌝ }
+{
+    match answer {
+        Found::At(segment, offset) => FoundNumbers {
+            found: 1,
+            segment,
+            offset,
+        },
+        Found::Nowhere => FoundNumbers {
+            found: 0,
+            segment: 0,
+            offset: 0,
+        },
+        Found::BadLayout => FoundNumbers {
+            found: -31,
+            segment: 0,
+            offset: 0,
+        },
+        Found::BadId => FoundNumbers {
+            found: -32,
+            segment: 0,
+            offset: 0,
         },
     }
 }

@@ -49,7 +49,7 @@ class Folder(unittest.TestCase):
 
 
 class Write(Folder):
-    # [I1-I5 I21]
+    # [I1-I5 L8 X25]
     def test_one_capture(self):
         self.assertEqual(run("log", "write", self.out, self.file("ping", PING)), (DONE, "", ""))
         log = self.out.read_bytes()
@@ -81,6 +81,7 @@ class Write(Folder):
         os.umask(mask)
         self.assertEqual(self.out.stat().st_mode & 0o777, 0o666 & ~mask)
 
+    # [L9]
     def test_complete_or_not_there(self):
         """Whatever goes wrong, OUT is as it was, and no other file stays."""
         ping = self.file("ping", PING)
@@ -118,6 +119,7 @@ class Write(Folder):
             self.assertEqual((status, out, err), (FAILED, "", f"dxl: {self.out}: 31, the log would have more than 4294967295 bytes\n"))
         self.assertEqual(self.names(), ["half", "whole"])
 
+    # [L9]
     def test_ended(self):
         """A program that is ended while it writes leaves nothing behind."""
         capture = self.file("capture")
@@ -133,7 +135,7 @@ class Write(Folder):
 
 
 class Ask(Folder):
-    # [I16 I18 I21]
+    # [I16 I18 L8]
     def test_answers(self):
         self.assertEqual(run("log", "write", self.out, self.file("ping", PING))[0], DONE)
         log = self.out.read_bytes()

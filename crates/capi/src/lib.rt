@@ -189,7 +189,7 @@ pub extern "C" fn dxl_next_event(segment: &[u8], from: usize) -> EventNumbers
 }
 
 // The writer of a log: its byte count, or minus a refusal number. That what is written is sound is promised too.
-// [G5 I1-I5 I11-I15 N10-N12 N14]
+// [G5 I1-I5 I11-I15 N10-N12 N14 N15]
 #[no_mangle]
 pub extern "C" fn dxl_log_write(bytes: &[u8], lengths: &[u32], out: &mut [u8]) -> i64
     ensures { λ r. ⌜ r ≡ exported (writeAnswer (now (bytes .entry)) (now (lengths .entry)) (now (out .entry))) ⌝ }
@@ -200,7 +200,7 @@ pub extern "C" fn dxl_log_write(bytes: &[u8], lengths: &[u32], out: &mut [u8]) -
 }
 
 // Whether a file is a sound log: 0, or minus a refusal number. That it accepts the sound logs and no others is promised too.
-// [G5 I9 I10 I16 I17]
+// [G5 I9 I10 I16 I17 N15 N17]
 #[no_mangle]
 pub extern "C" fn dxl_log_check(file: &[u8]) -> i64
     ensures { λ r. ⌜ r ≡ exportedRefusal (checkRefusal (now (file .entry))) ⌝ }
@@ -210,7 +210,8 @@ pub extern "C" fn dxl_log_check(file: &[u8]) -> i64
 }
 
 // The last packet for an ID: its segment and its offset there. On a sound log that is what a reading of every segment gives, and on
-// any log it depends on header, directory, one index number and one segment: both are promised. [G5 I6-I8 I10 I18-I20]
+// any log it depends on header, directory, one index number and one segment: both are promised.
+// [G5 I6-I8 I10 I18-I20 N15 N16]
 #[no_mangle]
 pub extern "C" fn dxl_log_last(file: &[u8], id: u8) -> FoundNumbers
     ensures { λ r. ⌜ r ≡ foundNumbers (question (now (file .entry)) id) ⌝ }

@@ -11,7 +11,7 @@ use Rattle.lists.specs.Answer.{firstFailing}
 use Rattle.lists.specs.Numbers.{Bytes}
 use Rattle.lists.proofs.Numbers.{same-number}
 use Rattle.packet_front.specs.Front.{goodId}
-use Rattle.log_layout.specs.Last.{Last, at, nowhere, orIn, lastIn, lastFrom, lastOf, indexNumber, indexSize, index, idAt, placeOf}
+use Rattle.log_index.specs.Last.{Last, at, nowhere, orIn, lastIn, lastFrom, lastOf, indexNumber, indexSize, index, idAt, placeOf}
 use Rattle.log_layout.specs.Log.{Entry, indexPlace, Sound, logOf, directoryPlace}
 use Rattle.log_layout.specs.Layout.{u32At, numbers, entries, countIn, indexIn, directoryIn, segmentBy, segmentsBy, segmentsIn, laidOut, noneAbove}
 use Rattle.log_layout.proofs.Sound.{LaidOut, is-laid-out, laid-out-log, index-log, segments-log, log-back}

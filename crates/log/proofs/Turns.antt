@@ -21,7 +21,7 @@ use Rattle.log_index.proofs.Marks.{markedAll}
 use Rattle.log_index.specs.declared.Offset.{Offset}
 use Rattle.log_index.specs.declared.Offset.the-variants.{At, Nothing}
 use Rattle.log_index.specs.Marks.{offsetOf}
-use Rattle.log_layout.specs.Last.{at, nowhere, orIn}
+use Rattle.log_index.specs.Last.{at, nowhere, orIn}
 use Rattle.log.specs.Question.{Answer, found}
 use Rattle.log.specs.Soundness.{sameNumbers}
 

@@ -7,7 +7,7 @@ use Prim.Native.Nat.{ℕ, zero, suc, _+_, _*_}
 use lib.ListN.{getD, take}
 use Rattle.lists.specs.Answer.{firstFailing}
 use Rattle.packet_front.specs.Front.{goodId}
-use Rattle.log_layout.specs.Last.{Last, at, nowhere, orIn, lastIn, lastOf, placeOf}
+use Rattle.log_index.specs.Last.{Last, at, nowhere, orIn, lastIn, lastOf, placeOf}
 use Rattle.log_layout.specs.Log.{Entry, indexPlace, Sound}
 use Rattle.log_layout.specs.Layout.{u32At, countIn, indexIn, segmentBy, segmentsIn, laidOut}
 use Rattle.log.specs.declared.Found.{Found}
@@ -22,7 +22,7 @@ named (suc k) id segments = orIn nowhere k (lastIn id (getD segments k []))
 unfoldable pub lastAnswer : List ℕ → ℕ → Last
 lastAnswer file id = named (getD (indexIn file) (placeOf id) 0) id (segmentsIn file)
 
--- the layout, and then the ID, which has to be one that packets may have [I18]
+-- the layout, and then the ID, which has to be one that packets may have [I18 N15 N16]
 unfoldable pub lastRefusal : List ℕ → ℕ → Option ℕ
 lastRefusal file id = firstFailing ((laidOut file, 31) ∷ (goodId id, 32) ∷ [])
 

@@ -7,7 +7,7 @@ use Prim.Native.Nat.{ℕ}
 use lib.Dec.{eqb}
 use Rattle.lists.specs.Answer.{firstFailing}
 use Rattle.lists.specs.Numbers.{Bytes}
-use Rattle.log_layout.specs.Last.{index}
+use Rattle.log_index.specs.Last.{index}
 use Rattle.log_layout.specs.Log.{Sound}
 use Rattle.log_layout.specs.Layout.{indexIn, segmentsIn, laidOut}
 use Rattle.log.specs.declared.Checked.{Checked}
@@ -19,7 +19,7 @@ sameNumbers [] (y ∷ ys) = false
 sameNumbers (x ∷ xs) [] = false
 sameNumbers (x ∷ xs) (y ∷ ys) = eqb x y && sameNumbers xs ys
 
--- the layout, and then the index, which has to be that of the segments [I10 I16]
+-- the layout, and then the index, which has to be that of the segments [I10 I16 N15 N17]
 unfoldable pub checkRefusal : List ℕ → Option ℕ
 checkRefusal file = firstFailing ((laidOut file, 31) ∷ (sameNumbers (indexIn file) (index (segmentsIn file)), 34) ∷ [])
 

@@ -3,7 +3,7 @@ use log_index::Offset;
 use log_layout::DIRECTORY;
 use log_layout::INDEX_COUNT;
 ghost use mathlib.Core.Path.{_≡_};
-ghost use Rattle.log_layout.specs.Last.{nowhere, orIn, lastIn, index};
+ghost use Rattle.log_index.specs.Last.{nowhere, orIn, lastIn, index};
 ghost use Rattle.log_layout.specs.Layout.{indexIn, segmentBy, segmentsIn};
 ghost use Rattle.log.specs.Soundness.{sameNumbers, checkRefusal, checkedRefusal};
 ghost use Rattle.log.specs.Question.{found, question, foundAnswer, entryOf};
@@ -22,7 +22,7 @@ pub enum Found {
     BadId,
 }
 
-// The index of the segments as the directory has them, in one pass over their bytes. [I5]
+// The index of the segments as the directory has them, in one pass over their bytes.
 fn index_of(file: &[u8]) -> [usize; 254]
     ensures { λ r. ⌜ r ≡ index (segmentsIn (now (file .entry))) ⌝ }
 {
@@ -39,7 +39,7 @@ fn index_of(file: &[u8]) -> [usize; 254]
     index
 }
 
-// Whether the file has these index numbers. [I16]
+// Whether the file has these index numbers.
 fn index_right(file: &[u8], index: [usize; 254]) -> bool
     ensures { λ r. ⌜ r ≡ sameNumbers (indexIn (now (file .entry))) index ⌝ }
 {
@@ -68,7 +68,7 @@ pub fn check(file: &[u8]) -> Checked
     }
 }
 
-// The last packet for an ID in one segment, by its number. [I6 I19]
+// The last packet for an ID in one segment, by its number.
 fn last_named(file: &[u8], number: u32, id: u8) -> Found
     ensures { λ r. ⌜ foundAnswer r ≡ found (orIn nowhere number (lastIn id (segmentBy (now (file .entry)) (entryOf (now (file .entry)) number)))) ⌝ }
 {

@@ -17,7 +17,7 @@ use Rattle.plain_reader.specs.Next.{nextEvent}
 use Rattle.plain_reader.specs.Plain.{Within}
 use Rattle.plain_reader.proofs.Plain.{within}
 use Rattle.plain_reader.proofs.Left.{left, Left, left-is}
-use Rattle.log_layout.specs.Last.{later, lastPacket, placeOf}
+use Rattle.log_index.specs.Last.{later, lastPacket, placeOf}
 use Rattle.log_index.specs.declared.Offset.{Offset}
 use Rattle.log_index.specs.declared.Offset.the-variants.{At, Nothing as Offset·Nothing}
 use Rattle.log_index.specs.Marks.{marked, offsetOf}

@@ -5,7 +5,7 @@ use Prim.Native.Nat.{ℕ}
 use lib.ListN.{set}
 use Rattle.reading.specs.Reading.{Found, packet, badChecksum}
 use Rattle.packet_front.specs.Front.{idOf}
-use Rattle.log_layout.specs.Last.{placeOf}
+use Rattle.log_index.specs.Last.{placeOf}
 use Rattle.log_index.specs.declared.Offset.{Offset}
 use Rattle.log_index.specs.declared.Offset.the-variants.{At, Nothing}
 

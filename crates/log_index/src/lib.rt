@@ -3,7 +3,7 @@ use plain_reader::Next;
 ghost use mathlib.Core.Path.{_≡_};
 ghost use Rattle.reading.specs.Reading.{reading};
 ghost use Rattle.packet.specs.Verdict.{protocol2};
-ghost use Rattle.log_layout.specs.Last.{placeOf, lastIn};
+ghost use Rattle.log_index.specs.Last.{placeOf, lastIn};
 ghost use Rattle.log_index.specs.Marks.{marked, offsetOf};
 
 // Where a packet stands in its segment, if there is one.

@@ -13,23 +13,13 @@ use Rattle.lists.specs.Numbers.{Bytes, bytesOf, numberAt}
 use Rattle.lists.proofs.Numbers.{number-drop}
 use Rattle.lists.proofs.Bools.{and-left, and-right}
 use Rattle.reading.specs.Promise.{joined}
-use Rattle.log_layout.specs.Last.{Last, at, nowhere, orIn, lastIn, lastFrom, lastOf, idAt, indexNumber, indexSize, indexFrom, index}
+use Rattle.log_index.proofs.Index.{number-most, index-length}
+use Rattle.log_index.specs.Last.{Last, at, nowhere, orIn, lastIn, lastFrom, lastOf, idAt, indexNumber, indexSize, indexFrom, index}
 use Rattle.log_layout.specs.Log.{laid, Entry, numbersOf, header, directoryPlace, indexPlace, segmentsPlace, directory, logOf, longestFile}
 use Rattle.log_layout.specs.Layout.{u32At, numbers, entries, countIn, directoryIn, indexIn, segmentsBy, segmentsIn, chained, noneAbove, headerRight, laidOut}
 use Rattle.log_layout.proofs.Laid.{Fit, u32-laid, numbers-laid, entries-laid, length-laid, length-numbersOf, drop-laid, bytes-tail, numbers-back, entries-back}
 
 -- ---- index numbers
-
--- no index number is above the count of segments
-pub number-most : (id k : ℕ) (ss : List (List ℕ)) → indexNumber (lastFrom id k ss) ≤ k + length ss
-unfolding lastFrom
-number-most id k [] = omega arith
-number-most id k (s ∷ ss) = by-case (lastFrom id (suc k) ss) (lastIn id s) (number-most id (suc k) ss)
-  where
-    by-case : (l : Last) (f : Option ℕ) → indexNumber l ≤ suc k + length ss → indexNumber (orIn l k f) ≤ k + suc (length ss)
-    by-case (at j p) f h = omega arith
-    by-case nowhere (some p) h = omega arith
-    by-case nowhere none h = omega arith
 
 index-most : (n i : ℕ) (ss : List (List ℕ)) → noneAbove (length ss) (indexFrom n i ss) ≡ true
 unfolding noneAbove indexFrom
@@ -38,11 +28,6 @@ index-most (suc n) i ss = rw (le-leb _ _ (most i), index-most n (suc i) ss)
   where
     most : (i : ℕ) → indexNumber (lastOf (idAt i) ss) ≤ length ss
     most i = let e : 0 + length ss ≡ length ss = omega arith in rw e at (number-most (idAt i) 0 ss)
-
-pub index-length : (n i : ℕ) (ss : List (List ℕ)) → length (indexFrom n i ss) ≡ n
-unfolding indexFrom
-index-length zero i ss = refl
-index-length (suc n) i ss = ap suc (index-length n (suc i) ss)
 
 fit-most : (n : ℕ) (xs : List ℕ) → n < 2 ^ 32 → noneAbove n xs ≡ true → Fit xs
 unfolding noneAbove

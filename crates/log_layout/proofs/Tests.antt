@@ -6,7 +6,7 @@ use Prim.Native.Nat.{ℕ, _≤_, _<_}
 use lib.Dec.{eqb}
 use lib.ListN.{length}
 use borrow.Author.Tests.{lt-leb, le-leb, eq-eqb, ne-eqb}
-use Rattle.log_layout.specs.Last.{indexSize}
+use Rattle.log_index.specs.Last.{indexSize}
 use Rattle.log_layout.specs.Log.{directoryPlace, indexPlace, segmentsPlace, longestFile}
 use Rattle.log_layout.specs.Layout.{u32At, countIn, directoryIn, indexIn, chained, noneAbove, headerRight, laidOut}
 

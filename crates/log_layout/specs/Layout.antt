@@ -5,7 +5,7 @@ use Prim.Native.Nat.{ℕ, zero, suc, _+_, _*_}
 use lib.Dec.{leb, eqb}
 use lib.ListN.{length, take, drop}
 use Rattle.lists.specs.Numbers.{numberAt}
-use Rattle.log_layout.specs.Last.{indexSize}
+use Rattle.log_index.specs.Last.{indexSize}
 use Rattle.log_layout.specs.Log.{Entry, directoryPlace, indexPlace, segmentsPlace, longestFile}
 
 -- the number of 32 bits at a place [I1]

@@ -5,7 +5,7 @@ use Prim.Native.Nat.{ℕ, _+_, _*_, _≤_}
 use lib.ListN.{length}
 use Rattle.lists.specs.Numbers.{bytesOf}
 use Rattle.reading.specs.Promise.{joined}
-use Rattle.log_layout.specs.Last.{indexSize, index}
+use Rattle.log_index.specs.Last.{indexSize, index}
 
 -- numbers of 32 bits, low byte first, and then the rest [I1]
 unfoldable pub laid : List ℕ → List ℕ → List ℕ

@@ -3,7 +3,7 @@ ghost use mathlib.Core.Path.{_≡_};
 ghost use mathlib.Core.List.{[], _∷_};
 ghost use lib.ListN.{length, take, drop, getD};
 ghost use Rattle.lists.specs.Numbers.{numberAt};
-ghost use Rattle.log_layout.specs.Last.{indexSize};
+ghost use Rattle.log_index.specs.Last.{indexSize};
 ghost use Rattle.log_layout.specs.Log.{directoryPlace, indexPlace, segmentsPlace};
 ghost use Rattle.log_layout.specs.Layout.{u32At, numbers, entries, chained, noneAbove, headerRight, laidOut};
 
@@ -69,7 +69,7 @@ pub fn segment(file: &[u8], start: usize, count: usize) -> &[u8]
 }
 
 // Whether the segments stand behind each other from the end of the index on, and the last ends the file. A start is compared before
-// its length is added, so that no sum is larger than two numbers of 32 bits. [I3 I4]
+// its length is added, so that no sum is larger than two numbers of 32 bits.
 fn segments_chained(file: &[u8], count: u32) -> bool
     ensures { λ r. ⌜ r ≡ chained (entries count (drop directoryPlace (now (file .entry)))) (segmentsPlace count) (length (now (file .entry))) ⌝ }
 {
@@ -87,7 +87,7 @@ fn segments_chained(file: &[u8], count: u32) -> bool
     start == file.len()
 }
 
-// Whether no index number is above the count of segments. [I5]
+// Whether no index number is above the count of segments.
 fn index_within(file: &[u8], count: u32) -> bool
     ensures { λ r. ⌜ r ≡ noneAbove count (numbers indexSize (drop (indexPlace count) (now (file .entry)))) ⌝ }
 {
@@ -103,7 +103,7 @@ fn index_within(file: &[u8], count: u32) -> bool
     true
 }
 
-// The header, and the file's length as far as the header tells it. [I2 I9]
+// The header, and the file's length as far as the header tells it.
 fn header_right(file: &[u8]) -> bool
     ensures { λ r. ⌜ r ≡ headerRight (now (file .entry)) ⌝ }
 {

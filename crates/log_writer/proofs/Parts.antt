@@ -15,10 +15,11 @@ use Rattle.lists.specs.Write.{overwritten, placed}
 use Rattle.lists.proofs.Filling.{Filling, fill-start, fill-part, fill-done}
 use Rattle.lists.proofs.Write.{overwritten-take}
 use Rattle.reading.specs.Promise.{joined}
-use Rattle.log_layout.specs.Last.{index, indexSize}
+use Rattle.log_index.specs.Last.{index, indexSize}
 use Rattle.log_layout.specs.Log.{Entry, laid, numbersOf, header, indexPlace, segmentsPlace, directory, logOf, longestFile, Sound}
 use Rattle.log_layout.proofs.Laid.{length-laid, length-numbersOf}
-use Rattle.log_layout.proofs.Sound.{index-length, directory-length, log-length}
+use Rattle.log_index.proofs.Index.{index-length}
+use Rattle.log_layout.proofs.Sound.{directory-length, log-length}
 use Rattle.log_writer.specs.Writing.{sum, cut, directoryBy, written, writeRefusal, writeAnswer, writeOut, WritesSound}
 
 -- ---- the segments by their lengths

@@ -9,7 +9,7 @@ ghost use lib.Dec.{eqb};
 ghost use lib.ListN.{length};
 ghost use Rattle.lists.specs.Numbers.{bytesOf};
 ghost use Rattle.lists.specs.Write.{overwritten, placed};
-ghost use Rattle.log_layout.specs.Last.{index};
+ghost use Rattle.log_index.specs.Last.{index};
 ghost use Rattle.log_layout.specs.Log.{laid, header, numbersOf, indexPlace, segmentsPlace};
 ghost use Rattle.log_writer.specs.Writing.{sum, cut, directoryBy, written, writeAnswer, writeOut, writtenAnswer};
 
@@ -21,7 +21,7 @@ pub enum Written {
     NoRoom,
 }
 
-// Whether the lengths add up to `count`. They are taken from it one by one, so that no sum wraps. [I11 I12]
+// Whether the lengths add up to `count`. They are taken from it one by one, so that no sum wraps.
 fn adds_up(lengths: &[u32], count: usize) -> bool
     ensures { λ r. ⌜ r ≡ eqb (sum (now (lengths .entry))) count ⌝ }
 {
@@ -38,7 +38,7 @@ fn adds_up(lengths: &[u32], count: usize) -> bool
     left == 0
 }
 
-// A number of 32 bits, low byte first. [I1]
+// A number of 32 bits, low byte first.
 fn put_number(out: &mut [u8], at: usize, value: usize)
     requires { ⌜ at + 4 ≤ length (now out) ⌝ }
     ensures { λ _. ⌜ now (out .exit) ≡ placed (now (out .entry)) at (bytesOf 4 value) ⌝ }
@@ -49,7 +49,6 @@ fn put_number(out: &mut [u8], at: usize, value: usize)
     out[at + 3] = (value / 16777216 % 256) as u8;
 }
 
-// [I2]
 fn put_header(out: &mut [u8], segments: usize)
     requires { ⌜ indexPlace segments ≤ length (now out) ⌝ }
     ensures { λ _. ⌜ now (out .exit) ≡ placed (now (out .entry)) 0 (laid (header segments) []) ⌝ }
@@ -60,7 +59,6 @@ fn put_header(out: &mut [u8], segments: usize)
     put_number(out, 12, DIRECTORY + 8 * segments);
 }
 
-// [I3 I4]
 fn put_directory(out: &mut [u8], lengths: &[u32])
     requires { ⌜ segmentsPlace (length (now lengths)) + sum (now lengths) ≤ length (now out) ⌝ }
     ensures { λ _. ⌜ now (out .exit) ≡ placed (now (out .entry)) 16
@@ -77,7 +75,6 @@ fn put_directory(out: &mut [u8], lengths: &[u32])
     }
 }
 
-// [I5]
 fn put_index(out: &mut [u8], at: usize, index: [usize; 254])
     requires { ⌜ at + 1016 ≤ length (now out) ⌝ }
     ensures { λ _. ⌜ now (out .exit) ≡ placed (now (out .entry)) at (laid index []) ⌝ }
@@ -89,7 +86,7 @@ fn put_index(out: &mut [u8], at: usize, index: [usize; 254])
     }
 }
 
-// The index of the segments, in one pass over their bytes. [I5]
+// The index of the segments, in one pass over their bytes.
 fn index_of(bytes: &[u8], lengths: &[u32]) -> [usize; 254]
     requires { ⌜ sum (now lengths) ≤ length (now bytes) ⌝ }
     ensures { λ r. ⌜ r ≡ index (cut (now (lengths .entry)) (now (bytes .entry))) ⌝ }
@@ -120,7 +117,7 @@ fn put_log(out: &mut [u8], bytes: &[u8], lengths: &[u32])
 // The most segments whose directory a file has room for.
 const MOST_SEGMENTS: usize = 536870782;
 
-// Writes the log of the segments whose bytes are joined in `bytes` and whose lengths are `lengths`. [I11-I14]
+// Writes the log of the segments whose bytes are joined in `bytes` and whose lengths are `lengths`. [I11-I14 N15]
 pub fn write(bytes: &[u8], lengths: &[u32], out: &mut [u8]) -> Written
     ensures { λ r. ⌜ writtenAnswer r ≡ writeAnswer (now (bytes .entry)) (now (lengths .entry)) (now (out .entry)) ⌝ }
     ensures { λ _. ⌜ now (out .exit) ≡ writeOut (now (bytes .entry)) (now (lengths .entry)) (now (out .entry)) ⌝ }

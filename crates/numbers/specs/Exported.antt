@@ -12,7 +12,7 @@ use Rattle.device.specs.Answers.{sent, DeviceAnswer, refused as Device·refused
 use Rattle.instructions.specs.declared.RegisteredWrite.{RegisteredWrite}
 use Rattle.numbers.specs.declared.StepNumbers.{StepNumbers}
 use Rattle.numbers.specs.declared.EventNumbers.{EventNumbers}
-use Rattle.log_layout.specs.Last.{at, nowhere}
+use Rattle.log_index.specs.Last.{at, nowhere}
 use Rattle.log.specs.Question.{Answer as Log·Answer, found, refused as Log·refused}
 use Rattle.numbers.specs.declared.DeviceNumbers.{DeviceNumbers}
 use Rattle.numbers.specs.declared.FoundNumbers.{FoundNumbers}

@@ -52,7 +52,7 @@ fn as_parts(segments: &[Vec<u8>]) -> Vec<&[u8]> {
     segments.iter().map(|segment| &segment[..]).collect()
 }
 
-/// [I1-I5]
+/// [I1-I5 X25 X26]
 #[test]
 fn one_ping_and_none() {
     let log = written(&[&PING]);
@@ -97,7 +97,7 @@ fn writing() {
     assert!(counts.iter().all(|&count| count > 200), "{counts:?}");
 }
 
-/// Where both refusals apply, 31 comes first. A directory that no file has room for is refused with few bytes. [I12 I13 N10]
+/// Where both refusals apply, 31 comes first. A directory that no file has room for is refused with few bytes. [I12 I13 N10 N15-N17]
 #[test]
 fn refusals_in_order() {
     let mut rng = Rng::new(72);

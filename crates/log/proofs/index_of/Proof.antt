@@ -5,7 +5,7 @@ use native.Mathlib.Omega.{arith}
 use lib.ListN.{length, take, drop, replicate}
 use Rattle.reading.specs.Reading.{reading}
 use Rattle.packet.specs.Verdict.{protocol2}
-use Rattle.log_layout.specs.Last.{index}
+use Rattle.log_index.specs.Last.{index}
 use Rattle.log_layout.specs.Layout.{u32At, entries, segmentsBy, segmentsIn}
 use Rattle.log_index.specs.Marks.{marked}
 use Rattle.log_index.proofs.Marks.{markedAll, all-marked}

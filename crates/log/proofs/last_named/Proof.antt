@@ -3,7 +3,7 @@ use mathlib.Core.List.{List}
 use mathlib.Core.Option.{Option}
 use Prim.Native.Nat.{ℕ}
 use lib.ListN.{take, drop}
-use Rattle.log_layout.specs.Last.{lastIn}
+use Rattle.log_index.specs.Last.{lastIn}
 use Rattle.log_layout.specs.Layout.{segmentBy}
 use Rattle.log_index.specs.Marks.{offsetOf}
 use Rattle.log.specs.Question.{entryOf}

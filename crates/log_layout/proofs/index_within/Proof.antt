@@ -3,7 +3,7 @@ use mathlib.Core.Path.{_≡_, refl, sym, _∙_}
 use Prim.Native.Nat.{_+_, _*_, _-_}
 use native.Mathlib.Omega.{arith}
 use lib.ListN.{length, drop}
-use Rattle.log_layout.specs.Last.{indexSize}
+use Rattle.log_index.specs.Last.{indexSize}
 use Rattle.log_layout.specs.Log.{indexPlace}
 use Rattle.log_layout.specs.Layout.{u32At, numbers, noneAbove}
 use Rattle.log_layout.proofs.Turns.{above-here, within-here}

@@ -6,7 +6,7 @@ use lib.ListN.{length, take, drop, getD, replicate}
 use Rattle.reading.specs.Reading.{reading}
 use Rattle.packet.specs.Verdict.{protocol2}
 use Rattle.log_index.specs.Marks.{marked}
-use Rattle.log_layout.specs.Last.{index}
+use Rattle.log_index.specs.Last.{index}
 use Rattle.log_index.proofs.Marks.{markedAll, all-marked}
 use Rattle.log_writer.specs.Writing.{sum, cut}
 use Rattle.log_writer.proofs.Turns.{sum-turn, marked-turn, marked-end}

@@ -331,7 +331,7 @@ fuzz_program: $(LIBS)
 	    sh -c 'cd tests && exec cargo build --release --offline --quiet --bin fuzz'
 
 RUNS ?= 1
-BASELINE := baseline baseline_reader baseline_device
+BASELINE := baseline baseline_reader baseline_log baseline_device
 BENCH_SOURCES := $(patsubst %,tests/bench/%.c,bench lines $(BASELINE))
 BENCH_HEADERS := $(addprefix tests/bench/,lines.h baseline.h test_exports.h) include/mednukals.h
 BENCH_FLAGS := -O3 -fno-lto
@@ -354,14 +354,15 @@ build/c/bench$(OVER): $(BENCH_SOURCES) $(BENCH_HEADERS) $(MADE_LIBS)
 COUNTS_SOURCES := tests/counts/counts.c tests/bench/lines.c
 COUNTED := $(MADE_LIBS)
 COUNTS := build/c/counts$(LEAF:%=_%)
-$(COUNTS): $(COUNTS_SOURCES) tests/bench/baseline.c tests/bench/baseline_reader.c $(BENCH_HEADERS) $(MADE_LIBS)
+$(COUNTS): $(COUNTS_SOURCES) tests/bench/baseline.c tests/bench/baseline_reader.c tests/bench/baseline_log.c $(BENCH_HEADERS) $(MADE_LIBS)
 	@$(call need,$(CC))
 	@mkdir -p $(@D)
 	@$(CC) $(WARNINGS) -O0 -Iinclude -Itests/bench -o $@ $(filter %.c,$^) $(COUNTED) || $(call failed,compiling the counts)
 
 # The same inputs by the baseline, compiled as in the benchmark; what it lacks is called in the archive.
 PLAIN_CALLS := $(foreach name,crc16 encode feed gap reader_feed reader_gap fresh measure device exchange,-Ddxl_$(name)=baseline_$(name)) \
-    -Ddxl_test_crc16_small=baseline_crc16_small -Ddxl_test_crc16_fold=baseline_crc16 -Ddxl_next_event=baseline_next_event
+    -Ddxl_test_crc16_small=baseline_crc16_small -Ddxl_test_crc16_fold=baseline_crc16 -Ddxl_next_event=baseline_next_event \
+    -Ddxl_log_write=baseline_log_write
 PLAIN_OBJECTS := $(BASELINE:%=build/c/%.o)
 $(PLAIN_OBJECTS): build/c/%.o: tests/bench/%.c $(BENCH_HEADERS)
 	@$(call need,$(CC))

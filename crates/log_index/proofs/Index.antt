@@ -14,7 +14,8 @@ number-most id k [] = omega arith
 number-most id k (s ∷ ss) = by-case (lastFrom id (suc k) ss) (lastIn id s) (number-most id (suc k) ss)
   where
     by-case : (l : Last) (f : Option ℕ) → indexNumber l ≤ suc k + length ss → indexNumber (orIn l k f) ≤ k + suc (length ss)
-    by-case (at j p) f h = omega arith
+    by-case (at j p) (some q) h = omega arith
+    by-case (at j p) none h = omega arith
     by-case nowhere (some p) h = omega arith
     by-case nowhere none h = omega arith
 

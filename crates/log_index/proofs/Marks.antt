@@ -77,7 +77,8 @@ module _ (number i : ℕ) (h : i < indexSize) where
 
   later-pick : (l f : Option ℕ) (a b : ℕ) → pick (later l f) a b ≡ pick l a (pick f a b)
   later-pick none f a b = refl
-  later-pick (some p) f a b = refl
+  later-pick (some p) none a b = refl
+  later-pick (some p) (some q) a b = refl
 
   marked-at : (xs : List ℕ) (fs : List Found) → length xs ≡ indexSize → GoodIds fs
       → getD (marked number xs fs) i 0 ≡ pick (lastPacket (idAt i) fs) number (getD xs i 0)
@@ -108,7 +109,8 @@ all-length k xs (s ∷ ss) =
     all-length (suc k) (marked (suc k) xs (reading protocol2 s)) ss ∙ marked-length (suc k) xs (reading protocol2 s)
 
 or-pick : (l : Last) (k : ℕ) (f : Option ℕ) (d : ℕ) → numberOr (orIn l k f) d ≡ numberOr l (pick f (suc k) d)
-or-pick (at j p) k f d = refl
+or-pick (at j p) k (some q) d = refl
+or-pick (at j p) k none d = refl
 or-pick nowhere k (some p) d = omega arith
 or-pick nowhere k none d = refl
 

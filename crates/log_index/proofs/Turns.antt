@@ -37,7 +37,8 @@ or-none (some p) = refl
 
 or-later : (l f : Option ℕ) (last : Offset) → orElse (later l f) last ≡ orElse l (orElse f last)
 or-later none f last = refl
-or-later (some p) f last = refl
+or-later (some p) none last = refl
+or-later (some p) (some q) last = refl
 
 pub last-start : (id : ℕ) (s : List ℕ) → offsetOf (lastPacket id (reading protocol2 s)) ≡ orElse (lastPacket id (left s 0)) Offset·Nothing
 unfolding reading

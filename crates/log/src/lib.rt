@@ -2,6 +2,7 @@
 use log_index::Offset;
 use log_layout::DIRECTORY;
 use log_layout::INDEX_COUNT;
+use log_layout::LOG_ENTRY;
 ghost use mathlib.Core.Path.{_≡_};
 ghost use Rattle.log_index.specs.Last.{nowhere, orIn, lastIn, index};
 ghost use Rattle.log_layout.specs.Layout.{indexIn, segmentBy, segmentsIn};
@@ -30,7 +31,7 @@ fn index_of(file: &[u8]) -> [usize; 254]
     let mut index = [0usize; 254];
     let mut i = 0;
     while i < count {
-        let place = DIRECTORY + 8 * i;
+        let place = DIRECTORY + LOG_ENTRY * i;
         let start = log_layout::number_at(file, place) as usize;
         let n = log_layout::number_at(file, place + 4) as usize;
         i += 1;
@@ -43,7 +44,7 @@ fn index_of(file: &[u8]) -> [usize; 254]
 fn index_right(file: &[u8], index: [usize; 254]) -> bool
     ensures { λ r. ⌜ r ≡ sameNumbers (indexIn (now (file .entry))) index ⌝ }
 {
-    let place = DIRECTORY + 8 * (log_layout::number_at(file, 0) as usize);
+    let place = DIRECTORY + LOG_ENTRY * (log_layout::number_at(file, 0) as usize);
     let mut i = 0;
     while i < INDEX_COUNT {
         if log_layout::number_at(file, place + 4 * i) as usize != index[i] {
@@ -72,7 +73,7 @@ pub fn check(file: &[u8]) -> Checked
 fn last_named(file: &[u8], number: u32, id: u8) -> Found
     ensures { λ r. ⌜ foundAnswer r ≡ found (orIn nowhere number (lastIn id (segmentBy (now (file .entry)) (entryOf (now (file .entry)) number)))) ⌝ }
 {
-    let place = DIRECTORY + 8 * (number as usize);
+    let place = DIRECTORY + LOG_ENTRY * (number as usize);
     let start = log_layout::number_at(file, place) as usize;
     let n = log_layout::number_at(file, place + 4) as usize;
     match log_index::last_in(log_layout::segment(file, start, n), id) {
@@ -91,7 +92,7 @@ pub fn last(file: &[u8], id: u8) -> Found
     if !packet_front::good_id(id) {
         return Found::BadId;
     }
-    let index = DIRECTORY + 8 * (log_layout::number_at(file, 0) as usize);
+    let index = DIRECTORY + LOG_ENTRY * (log_layout::number_at(file, 0) as usize);
     let number = log_layout::number_at(file, index + 4 * log_index::place_of(id));
     if number == 0 {
         return Found::Nowhere;

@@ -7,10 +7,15 @@ ghost use Rattle.log_index.specs.Last.{indexSize};
 ghost use Rattle.log_layout.specs.Log.{directoryPlace, indexPlace, segmentsPlace};
 ghost use Rattle.log_layout.specs.Layout.{u32At, numbers, entries, chained, noneAbove, headerRight, laidOut};
 
-// Where the directory begins, how many numbers the index has, and the bytes of the longest file.
+// Where the directory begins, its bytes for each segment, how many numbers the index has, the bytes of header and index together, and
+// those of the longest file.
 pub const DIRECTORY: usize = 16;
 
+pub const LOG_ENTRY: usize = 8;
+
 pub const INDEX_COUNT: usize = 254;
+
+pub const LOG_FRONT: usize = 1032;
 
 pub const LONGEST_FILE: usize = 4294967295;
 
@@ -75,13 +80,13 @@ fn segments_chained(file: &[u8], count: u32) -> bool
 {
     let mut left = count;
     let mut place = DIRECTORY;
-    let mut start = 1032 + 8 * (count as usize);
+    let mut start = LOG_FRONT + LOG_ENTRY * (count as usize);
     while 0 < left {
         if number_at(file, place) as usize != start {
             return false;
         }
         start += number_at(file, place + 4) as usize;
-        place += 8;
+        place += LOG_ENTRY;
         left -= 1;
     }
     start == file.len()
@@ -92,7 +97,7 @@ fn index_within(file: &[u8], count: u32) -> bool
     ensures { λ r. ⌜ r ≡ noneAbove count (numbers indexSize (drop (indexPlace count) (now (file .entry)))) ⌝ }
 {
     let mut left = INDEX_COUNT;
-    let mut place = DIRECTORY + 8 * (count as usize);
+    let mut place = DIRECTORY + LOG_ENTRY * (count as usize);
     while 0 < left {
         if count < number_at(file, place) {
             return false;
@@ -107,7 +112,7 @@ fn index_within(file: &[u8], count: u32) -> bool
 fn header_right(file: &[u8]) -> bool
     ensures { λ r. ⌜ r ≡ headerRight (now (file .entry)) ⌝ }
 {
-    let index = DIRECTORY + 8 * (number_at(file, 0) as usize);
+    let index = DIRECTORY + LOG_ENTRY * (number_at(file, 0) as usize);
     if LONGEST_FILE < file.len() {
         return false;
     }

@@ -1,6 +1,8 @@
 // Writing a log: header, directory, index, and the segments as they are.
 use log_layout::DIRECTORY;
 use log_layout::INDEX_COUNT;
+use log_layout::LOG_ENTRY;
+use log_layout::LOG_FRONT;
 use log_layout::LONGEST_FILE;
 ghost use mathlib.Core.Path.{_≡_};
 ghost use mathlib.Core.List.{[]};
@@ -56,7 +58,7 @@ fn put_header(out: &mut [u8], segments: usize)
     put_number(out, 0, segments);
     put_number(out, 4, DIRECTORY);
     put_number(out, 8, INDEX_COUNT);
-    put_number(out, 12, DIRECTORY + 8 * segments);
+    put_number(out, 12, DIRECTORY + LOG_ENTRY * segments);
 }
 
 fn put_directory(out: &mut [u8], lengths: &[u32])
@@ -64,12 +66,12 @@ fn put_directory(out: &mut [u8], lengths: &[u32])
     ensures { λ _. ⌜ now (out .exit) ≡ placed (now (out .entry)) 16
         (laid (numbersOf (directoryBy (segmentsPlace (length (now (lengths .entry)))) (now (lengths .entry)))) []) ⌝ }
 {
-    let mut start = 1032 + 8 * lengths.len();
+    let mut start = LOG_FRONT + LOG_ENTRY * lengths.len();
     let mut i = 0;
     while i < lengths.len() {
         let n = lengths[i] as usize;
-        put_number(out, DIRECTORY + 8 * i, start);
-        put_number(out, DIRECTORY + 8 * i + 4, n);
+        put_number(out, DIRECTORY + LOG_ENTRY * i, start);
+        put_number(out, DIRECTORY + LOG_ENTRY * i + 4, n);
         start += n;
         i += 1;
     }
@@ -107,7 +109,7 @@ fn put_log(out: &mut [u8], bytes: &[u8], lengths: &[u32])
     requires { ⌜ (sum (now lengths) ≡ length (now bytes)) × (segmentsPlace (length (now lengths)) + length (now bytes) ≤ length (now out)) ⌝ }
     ensures { λ _. ⌜ now (out .exit) ≡ overwritten (now (out .entry)) (written (now (bytes .entry)) (now (lengths .entry))) ⌝ }
 {
-    let place = DIRECTORY + 8 * lengths.len();
+    let place = DIRECTORY + LOG_ENTRY * lengths.len();
     put_header(out, lengths.len());
     put_directory(out, lengths);
     put_index(out, place, index_of(bytes, lengths));
@@ -128,7 +130,7 @@ pub fn write(bytes: &[u8], lengths: &[u32], out: &mut [u8]) -> Written
     if MOST_SEGMENTS < lengths.len() {
         return Written::BadLayout;
     }
-    let first = 1032 + 8 * lengths.len();
+    let first = LOG_FRONT + LOG_ENTRY * lengths.len();
     if LONGEST_FILE - first < bytes.len() {
         return Written::BadLayout;
     }

@@ -139,10 +139,8 @@ static int write_log(const char *out, struct captures *captures)
         return FAILED;
     int64_t count =
         dxl_log_write(captures->bytes, captures->total, captures->lengths, captures->count, log.bytes, log.count);
-    if (count != (int64_t)size) { /* the sizes above were tested as the library tests them */
-        say_failure(out, reason(count));
-        abort();
-    }
+    if (count < 0) /* not expected: the sizes were tested as the library tests them */
+        return give_up(&log, reason(count)) ? DONE : FAILED;
     return finish_output(&log) ? DONE : FAILED;
 }
 

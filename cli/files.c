@@ -78,11 +78,16 @@ static void listen_to(int number, void (*handler)(int))
     sigaction(number, &action, NULL);
 }
 
+/* What the caller ignores stays ignored, as with nohup. A file that may not become so long is told by the call that asks for room. */
 static void listen_to_ends(void)
 {
     static const int ends[] = {SIGBUS, SIGINT, SIGTERM, SIGHUP};
-    for (size_t i = 0; i < sizeof ends / sizeof *ends; i++)
-        listen_to(ends[i], end_program);
+    for (size_t i = 0; i < sizeof ends / sizeof *ends; i++) {
+        struct sigaction before;
+        if (sigaction(ends[i], NULL, &before) != 0 || before.sa_handler != SIG_IGN)
+            listen_to(ends[i], end_program);
+    }
+    listen_to(SIGXFSZ, SIG_IGN);
 }
 
 void begin_work(const char *what)
@@ -190,10 +195,9 @@ static char *with_ending(const char *name, const char *ending)
     return longer;
 }
 
-static int give_up(struct output *output, const char *why)
+int give_up(struct output *output, const char *why)
 {
-    if (output->temporary != NULL)
-        unlink(output->temporary);
+    unlink(output->temporary);
     unfinished = NULL;
     return say_failure(output->name, why);
 }

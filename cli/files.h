@@ -37,6 +37,7 @@ int begin_output(const char *name, size_t count, struct output *output);    /* g
 int begin_scratch(const char *beside, size_t count, struct output *output); /* in the same folder, and without a name */
 int append_file(const char *name, uint8_t *out, size_t count); /* all its bytes, which have to be as many as before */
 int finish_output(struct output *output);
+int give_up(struct output *output, const char *why); /* nothing of it stays; says why, and returns 0 */
 
 /* Whether the name is that of a file that is mapped. */
 int same_file(const char *name, const struct mapped *mapped);

@@ -21,6 +21,7 @@ PATIENCE = 120  # seconds for one command
 PING = bytes.fromhex("FF FF FD 00 01 03 00 01 19 4E")
 TO_ALL = bytes.fromhex("FF FF FD 00 FE 03 00 01 31 42")
 DONE, NO, USAGE, FAILED = 0, 1, 2, 3
+LONG = 200_000_000  # bytes of a capture that takes some seconds
 
 
 def run(*words, **more):
@@ -100,7 +101,6 @@ class Write(Folder):
 
         def small_files():
             resource.setrlimit(resource.RLIMIT_FSIZE, (100_000, 100_000))
-            signal.signal(signal.SIGXFSZ, signal.SIG_IGN)
 
         status, out, err = run("log", "write", self.out, big, preexec_fn=small_files)
         self.assertEqual((status, out, err), (FAILED, "", f"dxl: {self.out}: File too large\n"))
@@ -124,7 +124,7 @@ class Write(Folder):
         """A program that is ended while it writes leaves nothing behind."""
         capture = self.file("capture")
         with capture.open("wb") as file:
-            file.truncate(600_000_000)
+            file.truncate(LONG)
         program = subprocess.Popen([PROGRAM, "log", "write", str(self.out), str(capture)], stderr=subprocess.DEVNULL)
         waited = time.monotonic()
         while len(self.names()) < 2 and program.poll() is None and time.monotonic() < waited + PATIENCE:
@@ -191,25 +191,46 @@ class Words(Folder):
 
 
 class Progress(Folder):
-    def test_a_line_on_a_terminal(self):
-        """Work that takes long is told on a terminal; this capture holds it up, since each offset announces a long packet."""
-        slow = self.file("slow", bytes.fromhex("FF FF FD 00 01 00 04") * 400_000)
-        ours, theirs = pty.openpty()
-        program = subprocess.Popen([PROGRAM, "log", "write", str(self.out), str(slow)], stderr=theirs)
-        os.close(theirs)
-        said = b""
-        while True:
+    """Work that takes long is told. The program counts the signals of its timer, so that some more of them make seconds pass."""
+
+    def long_work(self, stderr):
+        capture = self.file("capture")
+        with capture.open("wb") as file:
+            file.truncate(LONG)
+        return subprocess.Popen([PROGRAM, "log", "write", str(self.out), str(capture)], stderr=stderr)
+
+    def said(self, program, heard, wanted):
+        """What comes from the file, up to the words wanted."""
+        text = b""
+        os.set_blocking(heard, False)
+        ends = time.monotonic() + PATIENCE
+        while wanted not in text and program.poll() is None and time.monotonic() < ends:
+            if len(self.names()) > 1:  # it has begun, and listens
+                program.send_signal(signal.SIGALRM)
+            time.sleep(0.01)
             try:
-                part = os.read(ours, 1000)
-            except OSError:
-                break
-            if not part:
-                break
-            said += part
+                text += os.read(heard, 1000)
+            except BlockingIOError:
+                pass
+        program.send_signal(signal.SIGTERM)
+        program.wait(PATIENCE)
+        return text
+
+    def test_on_a_terminal(self):
+        ours, theirs = pty.openpty()
+        program = self.long_work(theirs)
+        os.close(theirs)
+        text = self.said(program, ours, b"3 s")
         os.close(ours)
-        self.assertEqual(program.wait(PATIENCE), DONE)
-        if said:  # a machine that is done within two seconds has nothing to say
-            self.assertRegex(said, rb"^\rdxl: writing the log, 2 s")
+        self.assertTrue(text.startswith(b"\rdxl: writing the log, 2 s\rdxl: writing the log, 3 s"), text)
+
+    def test_elsewhere(self):
+        ours, theirs = os.pipe()
+        program = self.long_work(theirs)
+        os.close(theirs)
+        text = self.said(program, ours, b"20 s\n")
+        os.close(ours)
+        self.assertEqual(text, b"dxl: writing the log, 10 s\ndxl: writing the log, 20 s\n")
 
 
 if __name__ == "__main__":

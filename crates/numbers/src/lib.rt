@@ -187,20 +187,25 @@ pub fn next(answer: Next) -> EventNumbers
     }
 }
 
-// The registered write is moved field by field, as it was written a moment before: one load of what several stores have not yet
-// brought to memory would wait for them.
+// The same, moved field by field, as it was written a moment before: one load of what several stores have not yet brought to memory
+// would wait for them.
+fn moved(registered: RegisteredWrite) -> RegisteredWrite
+    ensures { λ r. ⌜ r ≡ registered ⌝ }
+{
+    let bytes = registered.bytes;
+    RegisteredWrite {
+        address: registered.address,
+        count: registered.count,
+        bytes,
+        min: registered.min,
+        max: registered.max,
+    }
+}
+
 pub fn response(answer: Response) -> DeviceNumbers
     ensures { λ r. ⌜ r ≡ deviceNumbers (repliedAnswer (answer .replied)) (answer .registered) ⌝ }
 {
-    let w = answer.registered;
-    let bytes = w.bytes;
-    let registered = RegisteredWrite {
-        address: w.address,
-        count: w.count,
-        bytes,
-        min: w.min,
-        max: w.max,
-    };
+    let registered = moved(answer.registered);
     let replied = answer.replied;
     match replied {
         Replied::Sent(n, slot) => DeviceNumbers {

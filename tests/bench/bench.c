@@ -547,7 +547,7 @@ static int measure_logs(void)
     double amount = (double)n_line * 1e-6;
     return measure("log, written", log_write_ours, log_write_baseline, n_line, amount, "MB/s")
            && measure("log, tested", log_check_ours, log_check_baseline, n_line, amount, "MB/s")
-           && measure("log, last packet", log_last_ours, log_last_baseline, n_line, 1e-6, "Mcalls/s");
+           && measure("log, last packet", log_last_ours, log_last_baseline, n_line, 1e-3, "kcalls/s");
 }
 
 static int measure_device(const char *what, size_t n)

@@ -5,7 +5,7 @@ SHELL := /bin/sh
 .DELETE_ON_ERROR:
 # rt works in one target/ folder, so two of its runs must never overlap.
 .NOTPARALLEL:
-.PHONY: help run checksum segment demo lib install test fuzz replay bench counts memory mutants promises fmt clean kit format promises_test constants_test vectors_test c_test header_test demo_test programs_test install_test docs_test make_test counts_test rust_test leaf_test
+.PHONY: help run checksum segment demo lib dxl install test fuzz replay bench counts memory mutants promises fmt clean kit format promises_test constants_test vectors_test c_test header_test demo_test programs_test cli_test install_test docs_test make_test counts_test rust_test leaf_test
 .PHONY: fuzz_program replay_file
 
 comma := ,
@@ -51,7 +51,8 @@ use it
   make lib                 prove the exports and build the archives that C links, under build/lib
       LEAF=small           over the small checksum function, for boards with little flash
       LEAF=fold            over the one without a table, the fastest
-  make install             put header, archive and a pkg-config file below /usr/local
+  make dxl                 build the tool dxl, for line logs on a bench computer: build/c/dxl
+  make install             put header, archive, dxl and a pkg-config file below /usr/local
       PREFIX=DIR           below that folder
       DESTDIR=DIR          staged below that one, for a package
 
@@ -63,11 +64,12 @@ prove and test it
   make constants_test      the names for numbers in the header beside the definitions and the code
   make vectors_test        the input of the program vectors beside the published packets
   make make_test           these commands themselves
-  make c_test              the archive from C: published packets, the loop that the header shows, a board with a UART
+  make c_test              the archive from C: published packets, the loop that the header shows, a board with a UART, a log's pages
   make header_test         the header beside the archive, and as C99 and C++11
   make install_test        make install, and the version
   make docs_test           links, commands and code in the documents
   make programs_test       the programs line and checksum where something is wrong
+  make cli_test            the tool dxl
   make demo_test           the example board and its master
   make counts_test         the instructions that each export takes beside tests/instructions.txt
   make rust_test           every export beside the second implementation
@@ -140,8 +142,19 @@ $(foreach leaf,$(LEAVES),$(eval $(call leaf_rule,$(leaf))))
 install: export MEDNUKALS_PREFIX := $(if $(value PREFIX),$(value PREFIX),/usr/local)
 install: export MEDNUKALS_DESTDIR := $(value DESTDIR)
 unexport PREFIX DESTDIR
-install: build/lib/libmednukals.a
-	@sh tools/install.sh include/mednukals.h $< "$$MEDNUKALS_PREFIX" "$$MEDNUKALS_DESTDIR"
+install: build/lib/libmednukals.a build/c/dxl
+	@sh tools/install.sh include/mednukals.h $^ "$$MEDNUKALS_PREFIX" "$$MEDNUKALS_DESTDIR"
+
+dxl: build/c/dxl
+	@echo 'the tool: $<'
+
+# The tool needs POSIX; files may have more than two gigabytes.
+POSIX := -D_XOPEN_SOURCE=700 -D_FILE_OFFSET_BITS=64
+CLI_SOURCES := cli/dxl.c cli/files.c
+build/c/dxl: $(CLI_SOURCES) cli/files.h include/mednukals.h build/lib/libmednukals.a
+	@$(call need,$(CC))
+	@mkdir -p $(@D)
+	@$(CC) $(WARNINGS) $(POSIX) -O2 -Iinclude -o $@ $(CLI_SOURCES) build/lib/libmednukals.a || $(call failed,compiling the tool dxl)
 
 define archive_rule
 $(call archive,$(1)): $(SOURCES)
@@ -169,13 +182,14 @@ kit:
 format:
 	@$(call step,format,layout of the Rattle files (make fmt puts it right)) rt fmt --check
 
-c_test: build/c/published build/c/exchange build/c/parts build/c/segment build/c/uart_test
+c_test: build/c/published build/c/exchange build/c/parts build/c/segment build/c/uart_test build/c/log_pages
 	@$(call need,python3)
 	@$(call step,published,published packets through the archive) build/c/published tests/vectors/packets.txt
 	@$(call step,exchange,the loop that the header shows) build/c/exchange
 	@$(call step,parts,example that sends a packet in parts) build/c/parts
 	@$(call step,segment_test,example that prints the events of a capture) python3 tests/segment_test.py build/c/segment
 	@$(call step,uart_test,example board on a simulated UART) build/c/uart_test
+	@$(call step,log_pages,questions to a log whose other segments are unreadable) build/c/log_pages
 
 build/c/published build/c/exchange: build/c/%: tests/c/%.c include/mednukals.h build/lib/libmednukals.a
 	@$(call need,$(CC))
@@ -192,6 +206,11 @@ build/c/segment: examples/segment.c include/mednukals.h build/lib/libmednukals.a
 	@$(call need,$(CC))
 	@mkdir -p $(@D)
 	@$(CC) $(WARNINGS) -O2 -Iinclude -o $@ $< build/lib/libmednukals.a || $(call failed,compiling the example that prints events)
+
+build/c/log_pages: tests/c/log_pages.c include/mednukals.h build/lib/libmednukals.a
+	@$(call need,$(CC))
+	@mkdir -p $(@D)
+	@$(CC) $(WARNINGS) $(POSIX) -D_DEFAULT_SOURCE -O2 -Iinclude -o $@ $< build/lib/libmednukals.a || $(call failed,compiling the C test of logs)
 
 BOARD_SOURCES := examples/board.c examples/pty_line.c
 build/c/board: $(BOARD_SOURCES) examples/pty_line.h include/mednukals.h build/lib/libmednukals.a
@@ -224,6 +243,10 @@ programs_test: $(PROGRAMS:%=build/bin/%)
 	@$(call step,programs_test,programs line and checksum where something is wrong) \
 	    python3 tests/programs_test.py build/bin/line build/bin/checksum
 
+cli_test: build/c/dxl
+	@$(call need,python3)
+	@$(call step,cli_test,the tool dxl) python3 tests/cli_test.py $<
+
 header_test: $(LIBS) build/c/header_c99 build/c/header_cxx11 build/c/empty
 	@$(call need,python3)
 	@$(call step,header,header as C99 and as C++11) sh -c 'build/c/header_c99 && build/c/header_cxx11 && build/c/empty'
@@ -248,9 +271,9 @@ docs_test: build/lib/libmednukals.a
 	@$(call need,python3)
 	@$(call step,docs_test,documents: links$(comma) commands and code) python3 tests/docs_test.py $(CC) $<
 
-install_test: build/lib/libmednukals.a
+install_test: build/lib/libmednukals.a build/c/dxl
 	@$(call need,python3)
-	@$(call step,install_test,make install$(comma) a program with what is there$(comma) the version) python3 tests/install_test.py $(CC) $<
+	@$(call step,install_test,make install$(comma) a program with what is there$(comma) the version) python3 tests/install_test.py $(CC) $^
 
 promises_test:
 	@$(call need,python3)
@@ -308,7 +331,7 @@ fuzz_program: $(LIBS)
 	    sh -c 'cd tests && exec cargo build --release --offline --quiet --bin fuzz'
 
 RUNS ?= 1
-BASELINE := baseline baseline_reader baseline_device
+BASELINE := baseline baseline_reader baseline_log baseline_device
 BENCH_SOURCES := $(patsubst %,tests/bench/%.c,bench lines $(BASELINE))
 BENCH_HEADERS := $(addprefix tests/bench/,lines.h baseline.h test_exports.h) include/mednukals.h
 BENCH_FLAGS := -O3 -fno-lto
@@ -331,14 +354,15 @@ build/c/bench$(OVER): $(BENCH_SOURCES) $(BENCH_HEADERS) $(MADE_LIBS)
 COUNTS_SOURCES := tests/counts/counts.c tests/bench/lines.c
 COUNTED := $(MADE_LIBS)
 COUNTS := build/c/counts$(LEAF:%=_%)
-$(COUNTS): $(COUNTS_SOURCES) tests/bench/baseline.c tests/bench/baseline_reader.c $(BENCH_HEADERS) $(MADE_LIBS)
+$(COUNTS): $(COUNTS_SOURCES) tests/bench/baseline.c tests/bench/baseline_reader.c tests/bench/baseline_log.c $(BENCH_HEADERS) $(MADE_LIBS)
 	@$(call need,$(CC))
 	@mkdir -p $(@D)
 	@$(CC) $(WARNINGS) -O0 -Iinclude -Itests/bench -o $@ $(filter %.c,$^) $(COUNTED) || $(call failed,compiling the counts)
 
 # The same inputs by the baseline, compiled as in the benchmark; what it lacks is called in the archive.
 PLAIN_CALLS := $(foreach name,crc16 encode feed gap reader_feed reader_gap fresh measure device exchange carry_out carry_out_packet status,-Ddxl_$(name)=baseline_$(name)) \
-    -Ddxl_test_crc16_small=baseline_crc16_small -Ddxl_next_event=baseline_next_event
+    -Ddxl_test_crc16_small=baseline_crc16_small -Ddxl_next_event=baseline_next_event \
+    -Ddxl_log_write=baseline_log_write
 PLAIN_OBJECTS := $(BASELINE:%=build/c/%.o)
 $(PLAIN_OBJECTS): build/c/%.o: tests/bench/%.c $(BENCH_HEADERS)
 	@$(call need,$(CC))

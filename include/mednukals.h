@@ -87,7 +87,10 @@ enum {
     DXL_BAD_TABLE_ID = 22,   /* the control table's ID, byte 7, is above 252 */
     DXL_BAD_REGISTERED = 23, /* the registered write's count is above 8 */
     DXL_SHORT_REPLY = 24,    /* the reply buffer has fewer than 32 bytes */
-    DXL_BAD_READER = 25      /* the reader's count is above 1,030 */
+    DXL_BAD_READER = 25,     /* the reader's count is above 1,030 */
+    DXL_BAD_LOG = 31,        /* a file that is not laid out as a log, or segments of which no log can be made */
+    DXL_BAD_LOG_ID = 32,     /* an ID of 253 or 255, asked of a log */
+    DXL_WRONG_INDEX = 34     /* a log whose index is not that of its segments */
 };
 
 enum {
@@ -96,7 +99,9 @@ enum {
     DXL_MAX_HELD = 1030,   /* the most bytes that a reader holds between two calls */
     DXL_TABLE_BYTES = 136, /* the control table */
     DXL_MAX_STATUS = 21,   /* the longest status packet of dxl_device and dxl_exchange */
-    DXL_MIN_REPLY = 32     /* the shortest reply buffer that they accept */
+    DXL_MIN_REPLY = 32,    /* the shortest reply buffer that they accept */
+    DXL_LOG_FRONT = 1032,  /* a log's bytes before its segments, without the directory */
+    DXL_LOG_ENTRY = 8      /* the directory's bytes for each segment */
 };
 
 /* The ID that addresses all devices. */
@@ -382,6 +387,74 @@ struct dxl_event {
  * It refuses nothing and writes no memory. examples/segment.c prints the events of a file so.
  */
 struct dxl_event dxl_next_event(const uint8_t *segment, size_t n, size_t from);
+
+/*
+ * A line log: many captured segments in one file, with an index that says for each ID which segment was the last to have a packet
+ * for it. All its numbers have 32 bits, low byte first.
+ *
+ *     bytes             numbers
+ *     0 to 15           the count n of segments; 16; 254; 16 + 8 n
+ *     16 on             for each segment its start in the file and its length
+ *     16 + 8 n on       for each ID 0 to 252 and then for 254: 0, or 1 plus the number of the last segment, counted from 0,
+ *                       that has a packet with that ID
+ *     1,032 + 8 n on    the bytes of the segments, right behind each other up to the end of the file
+ *
+ * A packet is what dxl_next_event finds; a bad checksum is none. A segment may be empty, and so may the log. A sound log is exactly
+ * this, and has at most 4,294,967,295 bytes.
+ *
+ * The program dxl of `make install` does what these three calls do, on files.
+ */
+
+/*
+ * Writes the log of segments whose bytes lie behind each other.
+ *
+ * bytes, n              the bytes of all segments
+ * lengths, n_segments   the length of each, in their order; the number of lengths, and not of bytes
+ * out, n_out            the buffer for the log: DXL_LOG_FRONT + DXL_LOG_ENTRY * n_segments + n bytes are enough
+ *
+ * Returns the byte count of the log, or
+ *   -31  the lengths do not add up to n, or the log would have more than 4,294,967,295 bytes
+ *   -13  out has fewer bytes than the log
+ *
+ * What is written is sound. The bytes of out after it stay as they were; if the call is refused, all of out does. The bytes are
+ * read once and copied once.
+ */
+int64_t dxl_log_write(const uint8_t *bytes, size_t n, const uint32_t *lengths, size_t n_segments, uint8_t *out, size_t n_out);
+
+/*
+ * Tests whether a file is a sound log.
+ *
+ * Returns 0 for a sound one, and for no other, or
+ *   -31  it is not laid out as a log: too long, a number of the header or the directory that is not as stated, bytes missing or
+ *        left over, or an index number above the count of segments
+ *   -34  it is laid out as one, and an index number is not that of its segments
+ *
+ * It goes once over the segments, and writes no memory.
+ */
+int64_t dxl_log_check(const uint8_t *log, size_t n);
+
+/* The answer of dxl_log_last. */
+struct dxl_found {
+    int64_t found;  /* 1 for a packet, 0 for none, or minus the number of a refusal */
+    size_t segment; /* its number, from 0; 0 unless found is 1 */
+    size_t offset;  /* where in that segment the packet begins; 0 unless found is 1 */
+};
+
+/*
+ * Finds the last packet with an ID in a log: in the last segment that has one, the last one there.
+ *
+ * id   0 to 252, or 254: packets to all devices count for 254 only
+ *
+ * Returns it, or with found
+ *   0    no packet: the index says so, or the segment that it names has none
+ *   -31  the file is not laid out as a log, see dxl_log_check
+ *   -32  id is 253 or 255
+ *
+ * On a sound log the answer is that of a reading of every segment. On any log it depends on header, directory, the index number of
+ * this ID and the one segment that this names; no other segment is read. The test of the layout reads the directory and all 254
+ * index numbers. It writes no memory.
+ */
+struct dxl_found dxl_log_last(const uint8_t *log, size_t n, uint8_t id);
 
 /*
  * Fills a control table as it comes from the factory: every register has its fresh value, undefined bytes are 0.

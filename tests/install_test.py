@@ -1,5 +1,5 @@
 """Installs the library and links a program with what is there, and holds the version to CHANGELOG.md: usage install_test.py CC
-ARCHIVE, in the repository's root
+ARCHIVE DXL, in the repository's root
 """
 import os
 import re
@@ -13,10 +13,11 @@ from pathlib import Path
 
 import suite
 
-CC, ARCHIVE = sys.argv[1:] if len(sys.argv) == 3 else ("", "")
+CC, ARCHIVE, DXL = sys.argv[1:] if len(sys.argv) == 4 else ("", "", "")
 HEADER = Path("include/mednukals.h")
 PATIENCE = 60  # seconds for one command
-FILES = {"include/mednukals.h": HEADER, "lib/libmednukals.a": Path(ARCHIVE), "lib/pkgconfig/mednukals.pc": None}
+FILES = {"bin/dxl": Path(DXL), "include/mednukals.h": HEADER, "lib/libmednukals.a": Path(ARCHIVE),
+         "lib/pkgconfig/mednukals.pc": None}
 
 
 def run(*words, **environment):
@@ -29,7 +30,7 @@ def run(*words, **environment):
 
 
 def install(*words):
-    return run("make", "--no-print-directory", "-o", ARCHIVE, "install", *words)
+    return run("make", "--no-print-directory", "-o", ARCHIVE, "-o", DXL, "install", *words)
 
 
 def version():
@@ -69,7 +70,7 @@ class Install(unittest.TestCase):
         there = {str(path.relative_to(prefix)) for path in prefix.rglob("*") if path.is_file()}
         self.assertEqual(there, set(FILES))
         for name, source in FILES.items():
-            self.assertEqual((prefix / name).stat().st_mode & 0o777, 0o644)
+            self.assertEqual((prefix / name).stat().st_mode & 0o777, 0o755 if name.startswith("bin/") else 0o644)
             if source is not None:
                 self.assertEqual((prefix / name).read_bytes(), source.read_bytes())
         self.assertEqual(fields(prefix / "lib/pkgconfig/mednukals.pc")["Version"], version())

@@ -22,6 +22,11 @@ struct dxl_step baseline_gap(uint8_t held[1030], size_t *count, uint8_t packet[1
 struct dxl_step baseline_reader_feed(struct dxl_reader *reader, const uint8_t *chunk, size_t n, uint8_t packet[1031]);
 struct dxl_step baseline_reader_gap(struct dxl_reader *reader, uint8_t packet[1031]);
 struct dxl_event baseline_next_event(const uint8_t *segment, size_t n, size_t from);
+
+/* The question reads every segment; the test takes the layout for right. */
+int64_t baseline_log_write(const uint8_t *bytes, size_t n, const uint32_t *lengths, size_t n_segments, uint8_t *out, size_t n_out);
+int64_t baseline_log_check(const uint8_t *log, size_t n);
+struct dxl_found baseline_log_last(const uint8_t *log, size_t n, uint8_t id);
 struct fed_value baseline_feed_value(const uint8_t held[1030], size_t count, const uint8_t *chunk, size_t n);
 
 int64_t baseline_fresh(uint8_t *table, size_t n);

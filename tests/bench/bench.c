@@ -262,6 +262,69 @@ static uint16_t plain_baseline(uint16_t last, size_t n)
     return find_events(baseline_next_event, last);
 }
 
+/* The line as segments of so many bytes, and their log. */
+enum { MOST_SEGMENTS = 64 };
+static uint32_t lengths[MOST_SEGMENTS];
+static size_t n_segments, n_log;
+static uint8_t log_bytes[DXL_LOG_FRONT + DXL_LOG_ENTRY * MOST_SEGMENTS + sizeof line];
+
+typedef int64_t log_writer(const uint8_t *bytes, size_t n, const uint32_t *lengths, size_t n_segments, uint8_t *out, size_t n_out);
+typedef int64_t log_checker(const uint8_t *log, size_t n);
+typedef struct dxl_found log_finder(const uint8_t *log, size_t n, uint8_t id);
+
+static uint16_t write_log(log_writer *write, uint16_t last)
+{
+    int64_t count = write(line, n_line, lengths, n_segments, log_bytes, sizeof log_bytes);
+    return mixed(last, (size_t)count, log_bytes[16 + 8 * n_segments + 4], 0, 0, log_bytes[n_log - 1]);
+}
+
+static uint16_t log_write_ours(uint16_t last, size_t n)
+{
+    (void)n;
+    return write_log(dxl_log_write, last);
+}
+
+static uint16_t log_write_baseline(uint16_t last, size_t n)
+{
+    (void)n;
+    return write_log(baseline_log_write, last);
+}
+
+static uint16_t check_log(log_checker *check, uint16_t last)
+{
+    return mixed(last, (size_t)check(log_bytes, n_log), 0, 0, 0, 0);
+}
+
+static uint16_t log_check_ours(uint16_t last, size_t n)
+{
+    (void)n;
+    return check_log(dxl_log_check, last);
+}
+
+static uint16_t log_check_baseline(uint16_t last, size_t n)
+{
+    (void)n;
+    return check_log(baseline_log_check, last);
+}
+
+static uint16_t ask_log(log_finder *find, uint16_t last)
+{
+    struct dxl_found found = find(log_bytes, n_log, 1);
+    return mixed(last, found.segment, found.offset, (uint8_t)found.found, 0, 0);
+}
+
+static uint16_t log_last_ours(uint16_t last, size_t n)
+{
+    (void)n;
+    return ask_log(dxl_log_last, last);
+}
+
+static uint16_t log_last_baseline(uint16_t last, size_t n)
+{
+    (void)n;
+    return ask_log(baseline_log_last, last);
+}
+
 /* What the device hears: a body that has a goal position at an offset, or none. */
 static uint8_t table[DXL_TABLE_BYTES];
 static uint8_t body[1 + 4 + 200 * 5];
@@ -472,6 +535,21 @@ static int measure_plain(const struct line_kind *kind)
     return measure(what, plain_ours, plain_baseline, n_line, (double)n_line * 1e-6, "MB/s");
 }
 
+/* The line as 16 segments. The baseline's question reads all of them, ours the one that the index names. */
+static int measure_logs(void)
+{
+    n_line = lines[PACKETS_OF_14].fill(line, sizeof line);
+    n_segments = 16;
+    for (size_t i = 0; i < n_segments; i++)
+        lengths[i] = (uint32_t)(n_line / n_segments);
+    n_line = n_line / n_segments * n_segments;
+    n_log = DXL_LOG_FRONT + DXL_LOG_ENTRY * n_segments + n_line;
+    double amount = (double)n_line * 1e-6;
+    return measure("log, written", log_write_ours, log_write_baseline, n_line, amount, "MB/s")
+           && measure("log, tested", log_check_ours, log_check_baseline, n_line, amount, "MB/s")
+           && measure("log, last packet", log_last_ours, log_last_baseline, n_line, 1e-3, "kcalls/s");
+}
+
 static int measure_device(const char *what, size_t n)
 {
     return measure(what, device_ours, device_baseline, n, 1e-6, "Mcalls/s");
@@ -571,7 +649,7 @@ int main(int n_words, char **words)
                && measure_flips(14) && measure_flips(1031) && measure_flips(LARGEST)
                && measure_bytes("encode", encode_ours, encode_baseline, 14)
                && measure_bytes("encode", encode_ours, encode_baseline, DXL_MAX_PACKET) && measure_reader()
-               && measure_instructions();
+               && measure_logs() && measure_instructions();
     if (good)
         measure_clearing();
     return good ? 0 : 1;

@@ -304,6 +304,50 @@ static void count_segments(void)
     count(NAME(dxl_next_event), "no bytes", next_events, 0);
 }
 
+/* The line as four segments of equal length, and their log. */
+enum { SEGMENTS = 4 };
+static uint32_t lengths[SEGMENTS];
+static uint8_t log_bytes[DXL_LOG_FRONT + DXL_LOG_ENTRY * SEGMENTS + sizeof lent.line];
+
+static int64_t log_write(void)
+{
+    return dxl_log_write(lent.line, given.n, lengths, SEGMENTS, log_bytes, given.room);
+}
+
+static int64_t log_check(void)
+{
+    return dxl_log_check(log_bytes, given.room);
+}
+
+static int64_t log_last(void)
+{
+    struct dxl_found found = dxl_log_last(log_bytes, given.room, given.id);
+    return found.found < 0 ? found.found : found.found + (int64_t)(found.segment + found.offset);
+}
+
+static void count_logs(void)
+{
+    static const size_t kinds[] = {PACKETS_OF_14, RANDOM_BYTES};
+    for (size_t i = 0; i < sizeof kinds / sizeof *kinds; i++) {
+        given.n = lines[kinds[i]].fill(lent.line, sizeof lent.line) / SEGMENTS * SEGMENTS;
+        given.room = DXL_LOG_FRONT + DXL_LOG_ENTRY * SEGMENTS + given.n;
+        for (size_t k = 0; k < SEGMENTS; k++)
+            lengths[k] = (uint32_t)(given.n / SEGMENTS);
+        count(NAME(dxl_log_write), lines[kinds[i]].name, log_write, (int64_t)given.room);
+        count(NAME(dxl_log_check), lines[kinds[i]].name, log_check, 0);
+        for (given.id = 1; given.id < 3; given.id++) {
+            struct dxl_found found = baseline_log_last(log_bytes, given.room, given.id);
+            char input[64];
+            snprintf(input, sizeof input, "%s, ID %d", lines[kinds[i]].name, given.id);
+            count(NAME(dxl_log_last), input, log_last, found.found + (int64_t)(found.segment + found.offset));
+        }
+    }
+    given.room--;
+    count(NAME(dxl_log_write), "refused", log_write, -DXL_NO_ROOM);
+    count(NAME(dxl_log_check), "refused", log_check, -DXL_BAD_LOG);
+    count(NAME(dxl_log_last), "refused", log_last, -DXL_BAD_LOG);
+}
+
 static int64_t fresh(void)
 {
     return dxl_fresh(lent.table, given.n);
@@ -498,6 +542,7 @@ int main(void)
     count_lines();
     count_gaps();
     count_segments();
+    count_logs();
     count_table();
     for (size_t i = 0; i < sizeof heard / sizeof heard[0]; i++)
         count_heard(&heard[i]);

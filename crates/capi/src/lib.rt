@@ -4,6 +4,7 @@ use instructions::RegisteredWrite;
 use numbers::CarriedNumbers;
 use numbers::DeviceNumbers;
 use numbers::EventNumbers;
+use numbers::FoundNumbers;
 use numbers::StepNumbers;
 use reactions::Heard;
 use reader::Reader;
@@ -25,6 +26,9 @@ ghost use Rattle.packet.specs.Burst.{BurstDetected};
 ghost use Rattle.reader.specs.Records.{stepOn, leftBy, lent, packetOn, records, ReaderPromises};
 ghost use Rattle.plain_reader.specs.Next.{nextEvent};
 ghost use Rattle.plain_reader.specs.Plain.{PlainPromises};
+ghost use Rattle.log_writer.specs.Writing.{writeAnswer, writeOut, WritesSound};
+ghost use Rattle.log.specs.Soundness.{checkRefusal, SoundExactly};
+ghost use Rattle.log.specs.Question.{question, LogPromises};
 ghost use Rattle.status.specs.Sending.{statusAnswer, statusOut};
 ghost use Rattle.status.specs.Sent.{ReplyWritten};
 ghost use Rattle.device.specs.Answers.{carriedAnswer, carriedReply, carriedRegistered, carriedTable, callAnswer, callRegistered, callTable, callOut};
@@ -36,7 +40,7 @@ ghost use Rattle.exchange.specs.Stays.{StaysAccepted};
 ghost use Rattle.exchange.specs.GoalWithinLimits.{GoalWithinLimits};
 ghost use Rattle.exchange.specs.Promises.{ExchangePromises};
 ghost use Rattle.cases.specs.Cases.{CasesHold};
-ghost use Rattle.numbers.specs.Exported.{exported, exportedRefusal, stepNumbers, nextNumbers, deviceNumbers, carriedNumbers};
+ghost use Rattle.numbers.specs.Exported.{exported, exportedRefusal, stepNumbers, nextNumbers, deviceNumbers, carriedNumbers, foundNumbers};
 ghost use Rattle.capi.specs.Heard.{heardBy, idOfKind};
 
 // The checksum of the bytes, going on from an earlier one; 0 starts a packet's. The laws of the sum are promised too.
@@ -188,6 +192,38 @@ pub extern "C" fn dxl_next_event(segment: &[u8], from: usize) -> EventNumbers
     ensures { λ _. ⌜ BurstDetected ⌝ }
 {
     numbers::next(plain_reader::next_event(segment, from))
+}
+
+// The writer of a log: its byte count, or minus a refusal number. That what is written is sound is promised too.
+// [G5 I1-I5 I11-I15 N10-N12 N14 N15]
+#[no_mangle]
+pub extern "C" fn dxl_log_write(bytes: &[u8], lengths: &[u32], out: &mut [u8]) -> i64
+    ensures { λ r. ⌜ r ≡ exported (writeAnswer (now (bytes .entry)) (now (lengths .entry)) (now (out .entry))) ⌝ }
+    ensures { λ _. ⌜ now (out .exit) ≡ writeOut (now (bytes .entry)) (now (lengths .entry)) (now (out .entry)) ⌝ }
+    ensures { λ _. ⌜ WritesSound ⌝ }
+{
+    numbers::log_written(log_writer::write(bytes, lengths, out))
+}
+
+// Whether a file is a sound log: 0, or minus a refusal number. That it accepts the sound logs and no others is promised too.
+// [G5 I9 I10 I16 I17 N15 N17]
+#[no_mangle]
+pub extern "C" fn dxl_log_check(file: &[u8]) -> i64
+    ensures { λ r. ⌜ r ≡ exportedRefusal (checkRefusal (now (file .entry))) ⌝ }
+    ensures { λ _. ⌜ SoundExactly ⌝ }
+{
+    numbers::checked(log::check(file))
+}
+
+// The last packet for an ID: its segment and its offset there. On a sound log that is what a reading of every segment gives, and on
+// any log it depends on header, directory, one index number and one segment: both are promised.
+// [G5 I6-I8 I10 I18-I20 N15 N16]
+#[no_mangle]
+pub extern "C" fn dxl_log_last(file: &[u8], id: u8) -> FoundNumbers
+    ensures { λ r. ⌜ r ≡ foundNumbers (question (now (file .entry)) id) ⌝ }
+    ensures { λ _. ⌜ LogPromises ⌝ }
+{
+    numbers::found(log::last(file, id))
 }
 
 fn heard_by(kind: u8) -> Heard

@@ -13,6 +13,8 @@ use lib.Seq.{take-length}
 use borrow.Author.Tests.{eqb-true}
 use Rattle.lists.proofs.Bools.{and-left, and-right, both-ways}
 use Rattle.reading.specs.Rules.{Verdict, isPacket, isBadChecksum, isWaiting, isNothing}
+use Rattle.reading.specs.Reading.{readFuel, readFrom, reading}
+use Rattle.reading.specs.Promise.{joined}
 use Rattle.reading.specs.Across.{reachesAcross}
 use Rattle.reading.proofs.Across.{across-decided}
 use Rattle.crc.specs.Crc.{reduceIf, shift, shifts, crcByte, crcFrom}
@@ -24,6 +26,8 @@ use Rattle.packet_front.specs.Begun.{frontAgrees, lengthAgrees}
 use Rattle.packet.specs.Verdict.{verdict, protocol2}
 use Rattle.packet.proofs.Laws.{laws}
 use Rattle.encoder.specs.Writing.{withChecksum, packetOf}
+use Rattle.log_index.specs.Last.{lastPacket, lastFrom, indexFrom}
+use Rattle.log_layout.specs.Log.{laid, directory, logOf}
 use Rattle.registers.specs.Registers.{registers, permitsBy}
 use Rattle.lists.specs.Numbers.{numberAt, bytesOf}
 use Rattle.items.specs.Items.{same as sameNumber, valueAt, put}
@@ -41,7 +45,7 @@ use Rattle.exchange.specs.Exchange.{idHeard}
 use Rattle.exchange.specs.Demand1.{packetError}
 use Rattle.instructions.specs.declared.RegisteredWrite.{RegisteredWrite}
 use Rattle.cases.specs.Exchanges.{Lent, answerTo, leftAfter}
-use Rattle.cases.specs.Cases.{Case, packet, stuffing, exchange, refusal, apart, across, Claim, table, CasesHold}
+use Rattle.cases.specs.Cases.{Case, packet, stuffing, exchange, refusal, log, apart, across, Claim, table, CasesHold}
 
 -- ---- equality as a test
 
@@ -137,6 +141,7 @@ right (packet id body bytes) = same (packetOf id body) bytes && isPacketOf (verd
 right (stuffing body stuffed) = same (stuff body) stuffed && (wellStuffed stuffed && same (unstuff stuffed) body)
 right (exchange bytes before answer after) = sameAnswer (answerTo bytes before) answer && sameLent (leftAfter bytes before) after
 right (refusal bytes before number) = eqb (packetError (before .table) (before .registered) bytes) number
+right (log segments numbers n) = same (logOf segments) (laid numbers (joined segments)) && eqb (length (logOf segments)) n
 right (apart noise beyond) = not (reachesAcross protocol2 noise beyond)
 right (across noise beyond) = reachesAcross protocol2 noise beyond
 
@@ -160,6 +165,12 @@ claimed (exchange bytes before answer after) e =
     let b = sameLent (leftAfter bytes before) after in
     (same-answer (answerTo bytes before) answer (and-left a b e), same-lent (leftAfter bytes before) after (and-right a b e))
 claimed (refusal bytes before number) e = eqb-true (packetError (before .table) (before .registered) bytes) number e
+claimed (log segments numbers n) e =
+    let a = same (logOf segments) (laid numbers (joined segments)) in
+    let b = eqb (length (logOf segments)) n in (
+      same-lists (logOf segments) (laid numbers (joined segments)) (and-left a b e),
+      eqb-true (length (logOf segments)) n (and-right a b e),
+    )
 claimed (apart noise beyond) e = across-decided protocol2 laws noise beyond .0 (fails (reachesAcross protocol2 noise beyond) e)
 claimed (across noise beyond) e =
     λ n. both-ways (reachesAcross protocol2 noise beyond) e (across-decided protocol2 laws noise beyond .1 n)
@@ -176,5 +187,5 @@ each (d ∷ cs) e c m =
 
 -- the test is computed here
 pub cases-hold : CasesHold
-unfolding reachesAcross reduceIf shift shifts crcByte crcFrom stuffAfter wellAfter unstuffAfter lengthOf bodyOf checksumRight withChecksum packetOf frontAgrees lengthAgrees verdict registers permitsBy numberAt valueAt bytesOf put freshened everyByte everyTouched goalInside limitsKept writeRule readRule read write sameLimits regWrite action occurs searchFrom heardInstruction executed stateRefusal roomRefusal callRefusal removalRefusal idHeard
+unfolding reachesAcross readFuel readFrom reading lastPacket lastFrom indexFrom laid directory logOf reduceIf shift shifts crcByte crcFrom stuffAfter wellAfter unstuffAfter lengthOf bodyOf checksumRight withChecksum packetOf frontAgrees lengthAgrees verdict registers permitsBy numberAt valueAt bytesOf put freshened everyByte everyTouched goalInside limitsKept writeRule readRule read write sameLimits regWrite action occurs searchFrom heardInstruction executed stateRefusal roomRefusal callRefusal removalRefusal idHeard
 cases-hold = each table refl

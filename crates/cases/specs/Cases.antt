@@ -3,13 +3,14 @@ use mathlib.Core.Path.{_≡_}
 use mathlib.Core.Bool.{true}
 use mathlib.Core.List.{List, [], _∷_, _++_, List·Memᴰ}
 use Prim.Native.Nat.{ℕ}
-use lib.ListN.{length, take, drop}
+use lib.ListN.{length, take, drop, replicate}
 use Rattle.reading.specs.Rules.{isPacket}
-use Rattle.reading.specs.Promise.{NoneAcross}
+use Rattle.reading.specs.Promise.{joined, NoneAcross}
 use Rattle.stuffing.specs.Stuffing.{stuff, wellStuffed, unstuff}
 use Rattle.packet.specs.Packet.{WellFormed}
 use Rattle.packet.specs.Verdict.{verdict, protocol2}
 use Rattle.encoder.specs.Writing.{packetOf}
+use Rattle.log_layout.specs.Log.{laid, logOf}
 use Rattle.registers.specs.Registers.{maxPosition, minPosition, goalPosition}
 use Rattle.items.specs.Items.{put}
 use Rattle.control_table.specs.Fresh.{freshTable}
@@ -28,6 +29,8 @@ pub data Case : Type 0 where
   exchange : List ℕ → Lent → DeviceAnswer → Lent → Case
   -- a packet as received, and what is lent: the error number by which demand 1 calls it refused, answered or not
   refusal : List ℕ → Lent → ℕ → Case
+  -- segments, the numbers before them in their log, and its count of bytes
+  log : List (List ℕ) → List ℕ → ℕ → Case
   -- noise, and the bytes beyond it: no packet reaches across the noise's end, as demand 3 supposes
   apart : List ℕ → List ℕ → Case
   -- one does
@@ -39,6 +42,7 @@ Claim (packet id body bytes) = (packetOf id body ≡ bytes) × (verdict bytes �
 Claim (stuffing body stuffed) = (stuff body ≡ stuffed) × (wellStuffed stuffed ≡ true) × (unstuff stuffed ≡ body)
 Claim (exchange bytes before answer after) = (answerTo bytes before ≡ answer) × (leftAfter bytes before ≡ after)
 Claim (refusal bytes before number) = packetError (before .table) (before .registered) bytes ≡ number
+Claim (log segments numbers n) = (logOf segments ≡ laid numbers (joined segments)) × (length (logOf segments) ≡ n)
 Claim (apart noise beyond) = NoneAcross protocol2 noise beyond
 Claim (across noise beyond) = ¬ NoneAcross protocol2 noise beyond
 
@@ -136,6 +140,9 @@ table =
     ∷ refusal pingWithParameter (lending registeredTable goalTooLarge 2) 0x05
     -- no room for the body
     ∷ exchange pingTo1 (lending freshTable dropped 0) (refused 13) (lending freshTable dropped 0)
+    -- a log of one Ping, in which ID 1 alone has a packet, and a log of nothing
+    ∷ log (pingTo1 ∷ []) (1 ∷ 16 ∷ 254 ∷ 24 ∷ 1040 ∷ 10 ∷ 0 ∷ 1 ∷ replicate 252 0) 1050
+    ∷ log [] (0 ∷ 16 ∷ 254 ∷ 16 ∷ replicate 254 0) 1032
     -- noise that is a packet itself and ends right before one; a packet that ends with the first byte beyond the noise, and one
     -- that begins with the last byte of the noise
     ∷ apart pingTo1 pingStatus

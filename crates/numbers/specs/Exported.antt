@@ -12,9 +12,12 @@ use Rattle.device.specs.Answers.{sent, DeviceAnswer, refused as Device·refused
 use Rattle.instructions.specs.declared.RegisteredWrite.{RegisteredWrite}
 use Rattle.numbers.specs.declared.StepNumbers.{StepNumbers}
 use Rattle.numbers.specs.declared.EventNumbers.{EventNumbers}
+use Rattle.log_index.specs.Last.{at, nowhere}
+use Rattle.log.specs.Question.{Answer as Log·Answer, found, refused as Log·refused}
 use Rattle.numbers.specs.declared.DeviceNumbers.{DeviceNumbers}
 use Rattle.numbers.specs.declared.CarriedNumbers.{CarriedNumbers}
 use Rattle.status.specs.declared.Reply.{Reply}
+use Rattle.numbers.specs.declared.FoundNumbers.{FoundNumbers}
 
 -- a count that no 64-bit signed number holds is answered as the largest one (no buffer of a real machine is that long) [G5 N11]
 abbrev pub exported : Answer → ℤ
@@ -58,3 +61,9 @@ refusalNumber (Device·refused number) = negℤ (pos number)
 -- with the reply that waits and the registered write [D50 G5]
 abbrev pub carriedNumbers : DeviceAnswer → Reply → RegisteredWrite → CarriedNumbers
 carriedNumbers answer reply w = record { refusal = refusalNumber answer; reply = reply; registered = w }
+
+-- the answer to a question about a log: 1 with segment and offset, 0 for none, or minus the refusal number [G5 I18 N11]
+abbrev pub foundNumbers : Log·Answer → FoundNumbers
+foundNumbers (found (at k p)) = record { found = pos 1; segment = k; offset = p }
+foundNumbers (found nowhere) = record { found = pos 0; segment = 0; offset = 0 }
+foundNumbers (Log·refused number) = record { found = negℤ (pos number); segment = 0; offset = 0 }

@@ -10,6 +10,9 @@ use exchange::Exchanged;
 use framer::Step;
 use framer::StepEvent;
 use instructions::RegisteredWrite;
+use log::Checked;
+use log::Found;
+use log_writer::LogWritten;
 use plain_reader::Next;
 use status::Reply;
 use status::Written;
@@ -22,8 +25,11 @@ ghost use Rattle.table_rules.specs.Outcomes.{changeRefusal};
 ghost use Rattle.status.specs.Sending.{writtenAnswer};
 ghost use Rattle.device.specs.Answers.{repliedAnswer};
 ghost use Rattle.exchange.specs.Exchange.{exchangedAnswer};
+ghost use Rattle.log_writer.specs.Writing.{logWrittenAnswer};
+ghost use Rattle.log.specs.Soundness.{checkedRefusal};
+ghost use Rattle.log.specs.Question.{foundAnswer};
 ghost use Rattle.lists.specs.Answer.{count as Answer·count};
-ghost use Rattle.numbers.specs.Exported.{exported, exportedRefusal, stepNumbers, nextNumbers, deviceNumbers, refusalNumber, carriedNumbers};
+ghost use Rattle.numbers.specs.Exported.{exported, exportedRefusal, stepNumbers, nextNumbers, deviceNumbers, refusalNumber, carriedNumbers, foundNumbers};
 
 // What a feeding or gap call returns. kind 0: no event, from a gap call: nothing is left; 1: a packet of `count` bytes; 2: a bad
 // checksum; 25: the reader's count is above 1,030. `id` is that of the packet or of the bad checksum.
@@ -62,6 +68,15 @@ pub struct CarriedNumbers {
     pub refusal: i64,
     pub reply: Reply,
     pub registered: RegisteredWrite,
+}
+
+// What the question to a log returns: 1 for a packet, 0 for none, or minus the number of a refusal; the packet's segment and its
+// offset there, 0 beside any other answer.
+#[repr(C)]
+pub struct FoundNumbers {
+    pub found: i64,
+    pub segment: usize,
+    pub offset: usize,
 }
 
 fn count(n: usize) -> i64
@@ -313,5 +328,52 @@ pub fn written(answer: Written) -> i64
         Written::BadId => -11,
         Written::TooLong => -12,
         Written::NoRoom => -24,
+    }
+}
+
+pub fn log_written(answer: LogWritten) -> i64
+    ensures { λ r. ⌜ r ≡ exported (logWrittenAnswer answer) ⌝ }
+{
+    match answer {
+        LogWritten::Count(n) => count(n),
+        LogWritten::BadLayout => -31,
+        LogWritten::NoRoom => -13,
+    }
+}
+
+pub fn checked(answer: Checked) -> i64
+    ensures { λ r. ⌜ r ≡ exportedRefusal (checkedRefusal answer) ⌝ }
+{
+    match answer {
+        Checked::Accepted => 0,
+        Checked::BadLayout => -31,
+        Checked::WrongIndex => -34,
+    }
+}
+
+pub fn found(answer: Found) -> FoundNumbers
+    ensures { λ r. ⌜ r ≡ foundNumbers (foundAnswer answer) ⌝ }
+{
+    match answer {
+        Found::At(segment, offset) => FoundNumbers {
+            found: 1,
+            segment,
+            offset,
+        },
+        Found::Nowhere => FoundNumbers {
+            found: 0,
+            segment: 0,
+            offset: 0,
+        },
+        Found::BadLayout => FoundNumbers {
+            found: -31,
+            segment: 0,
+            offset: 0,
+        },
+        Found::BadId => FoundNumbers {
+            found: -32,
+            segment: 0,
+            offset: 0,
+        },
     }
 }

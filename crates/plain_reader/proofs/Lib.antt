@@ -1,2 +1,3 @@
 mod Turns
 pub mod Plain
+pub mod Left

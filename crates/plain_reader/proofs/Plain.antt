@@ -23,17 +23,17 @@ use Rattle.plain_reader.specs.Plain.{part, andOn, calls, plain, Within, 
 
 -- ---- the first event of a reading, and what follows it
 
-abbrev onAfter : Found → ℕ
+abbrev pub onAfter : Found → ℕ
 onAfter (p, packet w) = p + length w
 onAfter (p, badChecksum id) = p + 1
 
 -- the event stands in the bytes t, which begin at offset p
-abbrev Stands : ℕ → List ℕ → Found → Type 0
+abbrev pub Stands : ℕ → List ℕ → Found → Type 0
 Stands p t (q, packet w) = (p ≤ q) × (0 < length w) × (q + length w ≤ p + length t) × (take (length w) (drop (q - p) t) ≡ w)
 Stands p t (q, badChecksum id) = (p ≤ q) × (q + 1 ≤ p + length t)
 
 -- and the reading goes on behind it
-Goes : ℕ → List ℕ → List Found → Type 0
+unfoldable pub Goes : ℕ → List ℕ → List Found → Type 0
 Goes p t [] = Unit {0}
 Goes p t (f ∷ fs) = Stands p t f × (p < onAfter f) × (fs ≡ readFrom protocol2 closed (onAfter f) (drop (onAfter f - p) t))
 
@@ -50,7 +50,7 @@ goes-later p b t (f ∷ fs) g =
     let e : onAfter f - p ≡ suc (onAfter f - (p + 1)) = omega (arith, g .1) in
     (stands-later p b t f (g .0), omega (arith, g .1), rw e (g .2))
 
-goes : (p : ℕ) (t : List ℕ) → Goes p t (readFrom protocol2 closed p t)
+pub goes : (p : ℕ) (t : List ℕ) → Goes p t (readFrom protocol2 closed p t)
 unfolding Goes
 goes p [] = rw (nil protocol2 laws closed p) tt
 goes p (b ∷ t) = by-verdict (goes (p + 1) t) (protocol2 .verdict (b ∷ t)) refl
@@ -76,7 +76,7 @@ goes p (b ∷ t) = by-verdict (goes (p + 1) t) (protocol2 .verdict (b ∷ t)) re
 -- ---- the calls one after the other
 
 -- offset q, reached from offset p
-reached : (s : List ℕ) (p q : ℕ) → p ≤ q → drop (q - p) (drop p s) ≡ drop q s
+pub reached : (s : List ℕ) (p q : ℕ) → p ≤ q → drop (q - p) (drop p s) ≡ drop q s
 reached s p q h =
     let k : p + (q - p) ≡ q = omega arith in
     drop-drop (q - p) p s ∙ ap (λ (n : ℕ). drop n s) k

@@ -1,4 +1,4 @@
-use exports::{Answer, Carried, Event, Reader, Registered, Reply, Step};
+use exports::{Answer, Carried, Event, Found, Reader, Registered, Reply, Step};
 
 /// Table, registered write, kind, ID, body and reply buffer.
 pub type DeviceCall = fn(&mut [u8], Registered, u8, u8, &[u8], &mut [u8]) -> Answer;
@@ -24,6 +24,9 @@ pub struct Calls {
     pub reader_feed: fn(&mut Reader, &[u8], &mut [u8; 1031]) -> Step,
     pub reader_gap: fn(&mut Reader, &mut [u8; 1031]) -> Step,
     pub next_event: fn(&[u8], usize) -> Event,
+    pub log_write: fn(&[u8], &[u32], &mut [u8]) -> i64,
+    pub log_check: fn(&[u8]) -> i64,
+    pub log_last: fn(&[u8], u8) -> Found,
     pub fresh: fn(&mut [u8]) -> i64,
     pub measure: fn(&mut [u8], i32, u8) -> i64,
     pub device: DeviceCall,
@@ -43,6 +46,9 @@ pub const PROVED: Calls = Calls {
     reader_feed: exports::reader_feed,
     reader_gap: exports::reader_gap,
     next_event: exports::next_event,
+    log_write: exports::log_write,
+    log_check: exports::log_check,
+    log_last: exports::log_last,
     fresh: exports::fresh,
     measure: exports::measure,
     device: exports::device,

@@ -1,6 +1,6 @@
 //! Random inputs that lead to the corners of the rules.
 
-use reference::{framed, packet_of, stuff, Rng, MOST_HELD};
+use reference::{framed, log_of, packet_of, reading, stuff, Event, Rng, MOST_HELD};
 
 /// A body rich in FF and FD, so that stuffing is met at every turn; sometimes any bytes.
 pub fn body(rng: &mut Rng, length: usize) -> Vec<u8> {
@@ -194,4 +194,45 @@ pub fn stuffed_well_or_not(rng: &mut Rng, raw: &[u8]) -> [Vec<u8>; 4] {
     }
     let cut = stuffed[..rng.between(0, stuffed.len())].to_vec();
     [raw.to_vec(), stuffed, changed, cut]
+}
+
+/// The IDs of the packets in a segment, in their order.
+pub fn packet_ids(segment: &[u8]) -> Vec<u8> {
+    let packet_id = |event| if let Event::Packet { id, .. } = event { Some(id) } else { None };
+    reading(segment).into_iter().filter_map(|found| packet_id(found.event)).collect()
+}
+
+/// A log of these segments, as it was written, or damaged in one thing.
+pub fn damaged_log(rng: &mut Rng, segments: &[&[u8]]) -> Vec<u8> {
+    let mut log = log_of(segments).expect("some segments make no long log");
+    let n = segments.len();
+    match rng.between(0, 9) {
+        0 => log.truncate(rng.between(0, log.len())),
+        1 => log.push(rng.byte()),
+        2 => drop(log.pop()),
+        3 => set_number(&mut log, 4 * rng.between(0, 3), rng.pick(&[0, 1, 15, 17, 253, 255, u32::MAX])),
+        4 if n > 0 => {
+            let at = 16 + 4 * rng.between(0, 2 * n - 1);
+            let number = u32::from_le_bytes([log[at], log[at + 1], log[at + 2], log[at + 3]]);
+            set_number(&mut log, at, rng.pick(&[number.wrapping_add(1), number.wrapping_sub(1), 0, u32::MAX]));
+        }
+        5..=6 => {
+            let most = n + usize::from(rng.one_in(4));
+            let number = rng.between(0, most);
+            // the number of an ID that has packets, or any
+            let ids: Vec<u8> = segments.iter().flat_map(|segment| packet_ids(segment)).collect();
+            let place = if ids.is_empty() || rng.one_in(3) { rng.between(0, 253) } else { usize::from(rng.pick(&ids).min(253)) };
+            set_number(&mut log, 16 + 8 * n + 4 * place, number as u32);
+        }
+        7 => {
+            let at = rng.between(0, log.len() - 1);
+            log[at] ^= 1 << rng.between(0, 7);
+        }
+        _ => {}
+    }
+    log
+}
+
+fn set_number(log: &mut [u8], at: usize, number: u32) {
+    log[at..at + 4].copy_from_slice(&number.to_le_bytes());
 }

@@ -131,7 +131,11 @@ impl ReaderPair {
         let on_record = Comparison { export: if chunk.is_some() { "dxl_reader_feed" } else { "dxl_reader_gap" }, given: &given };
         on_record.same("the answer", record_step, wanted)?;
         self.same_record(&on_record, around)?;
-        on_record.same_bytes("the chunk", black_box(&mut record_lent).as_deref().unwrap_or_default(), chunk.unwrap_or_default())?;
+        on_record.same_bytes(
+            "the chunk",
+            black_box(&mut record_lent).as_deref().unwrap_or_default(),
+            chunk.unwrap_or_default(),
+        )?;
         Ok((step, self.event(step)))
     }
 

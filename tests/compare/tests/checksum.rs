@@ -5,7 +5,8 @@ use exports::{crc16, crc16_flipped, test::crc16_fold, test::crc16_small};
 use reference::{checksum, Rng};
 
 type Leaf = fn(u16, &[u8]) -> u16;
-const LEAVES: [(&str, Leaf); 3] = [("by a table of 256", crc16), ("by sixteen numbers", crc16_small), ("without a table", crc16_fold)];
+const LEAVES: [(&str, Leaf); 3] =
+    [("by a table of 256", crc16), ("by sixteen numbers", crc16_small), ("without a table", crc16_fold)];
 
 /// The two bytes at the end are the checksum of all before them, low byte first, by both implementations.
 fn ends_with_checksum(bytes: &[u8]) -> bool {

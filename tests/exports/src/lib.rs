@@ -33,6 +33,15 @@ pub struct Event {
     pub id: u8,
 }
 
+/// What the question to a log answers: `found` is 1 for a packet, 0 for none, or minus the number of a refusal.
+#[repr(C)]
+#[derive(Clone, Copy, PartialEq, Eq, Debug, Default)]
+pub struct Found {
+    pub found: i64,
+    pub segment: usize,
+    pub offset: usize,
+}
+
 /// What the device answers.
 #[repr(C)]
 #[derive(Clone, Copy, PartialEq, Eq, Debug)]
@@ -73,7 +82,7 @@ pub struct Reader {
 
 mod raw {
     use super::test::Fed;
-    use super::{Answer, Carried, Event, Reader, Registered, Reply, Step};
+    use super::{Answer, Carried, Event, Found, Reader, Registered, Reply, Step};
 
     #[repr(C)]
     pub struct Verdict {
@@ -101,6 +110,17 @@ mod raw {
         pub fn dxl_reader_feed(reader: *mut Reader, chunk: *const u8, n: usize, packet: *mut u8) -> Step;
         pub fn dxl_reader_gap(reader: *mut Reader, packet: *mut u8) -> Step;
         pub fn dxl_next_event(segment: *const u8, n: usize, from: usize) -> Event;
+
+        pub fn dxl_log_write(
+            bytes: *const u8,
+            n: usize,
+            lengths: *const u32,
+            n_segments: usize,
+            out: *mut u8,
+            n_out: usize,
+        ) -> i64;
+        pub fn dxl_log_check(log: *const u8, n: usize) -> i64;
+        pub fn dxl_log_last(log: *const u8, n: usize, id: u8) -> Found;
 
         pub fn dxl_fresh(table: *mut u8, n: usize) -> i64;
         pub fn dxl_measure(table: *mut u8, n: usize, position: i32, hardware_error: u8) -> i64;
@@ -192,6 +212,18 @@ pub fn reader_gap(reader: &mut Reader, packet: &mut [u8; 1031]) -> Step {
 
 pub fn next_event(segment: &[u8], from: usize) -> Event {
     unsafe { raw::dxl_next_event(segment.as_ptr(), segment.len(), from) }
+}
+
+pub fn log_write(bytes: &[u8], lengths: &[u32], out: &mut [u8]) -> i64 {
+    unsafe { raw::dxl_log_write(bytes.as_ptr(), bytes.len(), lengths.as_ptr(), lengths.len(), out.as_mut_ptr(), out.len()) }
+}
+
+pub fn log_check(log: &[u8]) -> i64 {
+    unsafe { raw::dxl_log_check(log.as_ptr(), log.len()) }
+}
+
+pub fn log_last(log: &[u8], id: u8) -> Found {
+    unsafe { raw::dxl_log_last(log.as_ptr(), log.len(), id) }
 }
 
 pub fn fresh(table: &mut [u8]) -> i64 {

@@ -28,6 +28,17 @@ pub enum Operation {
         from: usize,
         segment: Vec<u8>,
     },
+    /// A log of segments, by their lengths, into a buffer with so much room.
+    LogWrite {
+        room: usize,
+        lengths: Vec<u32>,
+        bytes: Vec<u8>,
+    },
+    /// Whether a file is a sound log, and the last packet for an ID in it.
+    Ask {
+        id: u8,
+        log: Vec<u8>,
+    },
     /// Another record for the reader. What is not given of its 1,030 bytes is `past`.
     Record {
         count: usize,
@@ -111,6 +122,8 @@ impl Operation {
             Operation::Encode { params, .. } => params.len(),
             Operation::Unstuff { body, .. } | Operation::Hear { body, .. } => body.len(),
             Operation::Plain { segment, .. } => segment.len(),
+            Operation::LogWrite { lengths, bytes, .. } => 4 * lengths.len() + bytes.len(),
+            Operation::Ask { log, .. } => log.len(),
             Operation::Record { held, .. } => held.len(),
             Operation::Feed { chunk } | Operation::Arrive { chunk } | Operation::Exchange { chunk } => chunk.len(),
             Operation::Board { table, .. } => table.len(),

@@ -1,7 +1,8 @@
 //! Runs a case: every call goes to an export and to the reference, and all that is answered and left must be the same.
 
 use crate::{Case, Operation};
-use compare::{compare_checksum, compare_encode, compare_flipped, compare_next_event, compare_status, compare_unstuff, BAD_CHECKSUM, PACKET};
+use compare::{compare_checksum, compare_encode, compare_flipped, compare_log_check, compare_log_last, compare_log_write};
+use compare::{compare_next_event, compare_status, compare_unstuff, BAD_CHECKSUM, PACKET};
 use compare::{hex, Calls, Comparison, DevicePair, Difference, Encoded, Guarded, ReaderPair, Stepped, Told};
 use reference::{fresh, Event, Registered, Rng, MOST_HELD};
 use std::collections::BTreeMap;
@@ -95,6 +96,16 @@ impl<'a> World<'a> {
                 let reply = exports::Reply { speaks, id, error, count, bytes, slot };
                 let answer = compare_status(self.calls, reply, &mut ours, &mut expected)?;
                 self.tally.call("dxl_status", answer.min(0));
+            }
+            Operation::LogWrite { room, lengths, bytes } => {
+                let answer = compare_log_write(self.calls, &mut self.rng, bytes, lengths, *room)?;
+                self.tally.call("dxl_log_write", answer.min(0));
+            }
+            Operation::Ask { id, log } => {
+                let sound = compare_log_check(self.calls, &mut self.rng, log)?;
+                self.tally.call("dxl_log_check", sound);
+                let answer = compare_log_last(self.calls, &mut self.rng, log, *id)?;
+                self.tally.call("dxl_log_last", answer.found);
             }
             Operation::Record { count, past, held } => self.record(*count, *past, held),
             Operation::Scribble { byte } => self.reader.scribble(*byte),

@@ -43,6 +43,11 @@ fn line(operation: &Operation) -> String {
         }
         Operation::Unstuff { room, body } => format!("unstuff room={room} body={}", hex(body)),
         Operation::Plain { from, segment } => format!("plain from={from} segment={}", hex(segment)),
+        Operation::LogWrite { room, lengths, bytes } => {
+            let lengths: Vec<u8> = lengths.iter().flat_map(|length| length.to_le_bytes()).collect();
+            format!("log room={room} lengths={} bytes={}", hex(&lengths), hex(bytes))
+        }
+        Operation::Ask { id, log } => format!("ask id={id} log={}", hex(log)),
         Operation::Record { count, past, held } => format!("record count={count} past=0x{past:02x} held={}", hex(held)),
         Operation::Scribble { byte } => format!("scribble byte=0x{byte:02x}"),
         Operation::Feed { chunk } => format!("feed chunk={}", hex(chunk)),
@@ -96,9 +101,7 @@ fn operation(line: &str) -> Result<Operation, String> {
     let mut fields = Fields::new(line);
     let operation = match fields.name {
         "checksum" => Operation::Checksum { start: fields.number("start")?, bytes: fields.bytes("bytes")? },
-        "flip" => {
-            Operation::Flip { crc: fields.number("crc")?, after: fields.number("after")?, flips: fields.bytes("flips")? }
-        }
+        "flip" => Operation::Flip { crc: fields.number("crc")?, after: fields.number("after")?, flips: fields.bytes("flips")? },
         "encode" => Operation::Encode {
             id: fields.number("id")?,
             instruction: fields.number("instruction")?,
@@ -108,6 +111,8 @@ fn operation(line: &str) -> Result<Operation, String> {
         },
         "unstuff" => Operation::Unstuff { room: fields.room("room")?, body: fields.bytes("body")? },
         "plain" => Operation::Plain { from: fields.number("from")?, segment: fields.bytes("segment")? },
+        "log" => log(&mut fields)?,
+        "ask" => Operation::Ask { id: fields.number("id")?, log: fields.bytes("log")? },
         "record" => record(&mut fields)?,
         "scribble" => Operation::Scribble { byte: fields.number("byte")? },
         "feed" => Operation::Feed { chunk: fields.bytes("chunk")? },
@@ -129,6 +134,16 @@ fn operation(line: &str) -> Result<Operation, String> {
     };
     fields.end()?;
     Ok(operation)
+}
+
+/// Each length has four bytes, low byte first.
+fn log(fields: &mut Fields) -> Result<Operation, String> {
+    let (room, lengths, bytes) = (fields.room("room")?, fields.bytes("lengths")?, fields.bytes("bytes")?);
+    if lengths.len() % 4 != 0 {
+        return Err(format!("`lengths` has {} bytes, and not four for each", lengths.len()));
+    }
+    let lengths = lengths.chunks(4).map(|four| u32::from_le_bytes([four[0], four[1], four[2], four[3]])).collect();
+    Ok(Operation::LogWrite { room, lengths, bytes })
 }
 
 fn record(fields: &mut Fields) -> Result<Operation, String> {

@@ -3,6 +3,7 @@
 
 mod checksum;
 mod device;
+mod log;
 mod packet;
 mod plain;
 mod reader;
@@ -13,6 +14,7 @@ mod table;
 pub use checksum::{checksum, flipped};
 pub use device::{carry_out_call, carry_out_packet_call, device_call, packet_call, status_call};
 pub use device::{Answer as DeviceAnswer, Heard, Registered, Waiting};
+pub use log::{log_check, log_last, log_of, log_write};
 pub use packet::{encode, framed, packet_of, verdict, well_formed, Verdict, LONGEST_LENGTH, SHORTEST_LENGTH};
 pub use plain::next_event;
 pub use reader::{feed, feed_record, gap, gap_record, reading, Event, Found, Given, Step, LONGEST_PACKET, MOST_HELD};

@@ -164,7 +164,8 @@ pub fn write(table: &Table, address: usize, data: &[u8]) -> Result<Table, u8> {
     }
 
     let (min, max, goal) = (MIN_POSITION.value(&new), MAX_POSITION.value(&new), GOAL_POSITION.value(&new));
-    let (goal_outside, limit_written) = (goal < min || goal > max, written.contains(&MIN_POSITION) || written.contains(&MAX_POSITION));
+    let (goal_outside, limit_written) =
+        (goal < min || goal > max, written.contains(&MIN_POSITION) || written.contains(&MAX_POSITION));
     if limit_written && min > max {
         return Err(6);
     }

@@ -33,7 +33,7 @@ pub fn plain(rng: &mut Rng) -> Operation {
     Operation::Plain { from, segment }
 }
 
-fn line(rng: &mut Rng) -> Vec<u8> {
+pub fn line(rng: &mut Rng) -> Vec<u8> {
     match rng.between(0, 99) {
         0 => return worst_noise(rng.between(1, 250)),
         1..=4 => return around_the_longest(rng),

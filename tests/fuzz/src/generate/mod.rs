@@ -3,6 +3,7 @@
 mod board;
 mod device;
 mod line;
+mod log;
 mod single;
 
 use crate::{Case, Operation};
@@ -29,7 +30,9 @@ fn operations(rng: &mut Rng) -> Vec<Operation> {
         36..=41 => single::several(rng, single::status),
         42..=54 => line::reader(rng),
         55..=59 => device::table(rng),
-        60..=84 => device::life(rng),
+        60..=77 => device::life(rng),
+        78..=80 => single::several(rng, log::write),
+        81..=84 => single::several(rng, log::ask),
         _ => line::exchange(rng),
     }
 }

@@ -1,7 +1,7 @@
 //! Exports that are wrong in one thing each.
 
 use compare::{Calls, PROVED};
-use exports::{Answer, Carried, Event, Reader, Registered, Reply, Step};
+use exports::{Answer, Carried, Event, Found, Reader, Registered, Reply, Step};
 use std::hint::black_box;
 
 pub struct Wrong {
@@ -34,6 +34,15 @@ pub fn all() -> Vec<Wrong> {
         wrong("dxl_next_event", "the answer", Calls { next_event: loses_the_last, ..PROVED }),
         wrong("dxl_next_event", "the answer", Calls { next_event: stops_where_one_waits, ..PROVED }),
         wrong("dxl_next_event", "the lent input", Calls { next_event: writes_its_segment, ..PROVED }),
+        wrong("dxl_log_write", "the answer", Calls { log_write: wraps_the_sum, ..PROVED }),
+        wrong("dxl_log_write", "the output buffer", Calls { log_write: writes_before_the_tests, ..PROVED }),
+        wrong("dxl_log_write", "the output buffer", Calls { log_write: counts_bad_checksums, ..PROVED }),
+        wrong("dxl_log_check", "the answer", Calls { log_check: overlooks_what_follows, ..PROVED }),
+        wrong("dxl_log_check", "the answer", Calls { log_check: trusts_the_index, ..PROVED }),
+        wrong("dxl_log_last", "the answer", Calls { log_last: counts_from_the_start_of_the_file, ..PROVED }),
+        wrong("dxl_log_last", "the answer", Calls { log_last: id_first, ..PROVED }),
+        wrong("dxl_log_last", "the answer", Calls { log_last: the_first_in_it, ..PROVED }),
+        wrong("dxl_log_last", "the answer", Calls { log_last: goes_on_to_other_segments, ..PROVED }),
         wrong("dxl_fresh", "the answer", Calls { fresh: any_length, ..PROVED }),
         wrong("dxl_measure", "the table", Calls { measure: short_position, ..PROVED }),
         wrong("dxl_device", "the reply buffer", Calls { device: other_error, ..PROVED }),
@@ -213,6 +222,111 @@ fn writes_its_segment(segment: &[u8], from: usize) -> Event {
         unsafe { *black_box(segment.as_ptr().cast_mut()) ^= 1 };
     }
     event
+}
+
+/// The lengths are added up in 32 bits.
+fn wraps_the_sum(bytes: &[u8], lengths: &[u32], out: &mut [u8]) -> i64 {
+    let answer = exports::log_write(bytes, lengths, out);
+    let wrapped = lengths.iter().fold(0u32, |sum, &length| sum.wrapping_add(length));
+    if answer == -31 && !lengths.is_empty() && wrapped as usize == bytes.len() {
+        0
+    } else {
+        answer
+    }
+}
+
+fn writes_before_the_tests(bytes: &[u8], lengths: &[u32], out: &mut [u8]) -> i64 {
+    let answer = exports::log_write(bytes, lengths, out);
+    if answer < 0 && out.len() >= 4 {
+        out[..4].copy_from_slice(&(lengths.len() as u32).to_le_bytes());
+    }
+    answer
+}
+
+/// The index has the segments of packets with a wrong checksum too.
+fn counts_bad_checksums(bytes: &[u8], lengths: &[u32], out: &mut [u8]) -> i64 {
+    let answer = exports::log_write(bytes, lengths, out);
+    if answer > 0 && lengths.len() == 1 {
+        let event = exports::next_event(bytes, 0);
+        if event.kind == 2 && event.id < 253 {
+            out[24 + 4 * usize::from(event.id)] = 1;
+        }
+    }
+    answer
+}
+
+fn file_end(log: &[u8]) -> usize {
+    let number = |at: usize| u32::from_le_bytes([log[at], log[at + 1], log[at + 2], log[at + 3]]) as usize;
+    let n = number(0);
+    if n == 0 {
+        1_032
+    } else {
+        number(8 + 8 * n) + number(12 + 8 * n)
+    }
+}
+
+fn overlooks_what_follows(log: &[u8]) -> i64 {
+    let answer = exports::log_check(log);
+    let n = log.get(..4).map_or(0, |count| usize::from(count[0]) + 256 * usize::from(count[1]));
+    if answer == -31 && log.len() > 1_032 + 8 * n && file_end(log) < log.len() {
+        return exports::log_check(&log[..file_end(log)]);
+    }
+    answer
+}
+
+fn trusts_the_index(log: &[u8]) -> i64 {
+    exports::log_check(log).max(if exports::log_last(log, 1).found == -31 { -31 } else { 0 })
+}
+
+fn counts_from_the_start_of_the_file(log: &[u8], id: u8) -> Found {
+    let found = exports::log_last(log, id);
+    if found.found != 1 {
+        return found;
+    }
+    let at = 16 + 8 * found.segment;
+    let start = u32::from_le_bytes([log[at], log[at + 1], log[at + 2], log[at + 3]]) as usize;
+    Found { offset: start + found.offset, ..found }
+}
+
+/// The ID is tested before the layout.
+fn id_first(log: &[u8], id: u8) -> Found {
+    if id == 253 || id == 255 {
+        return Found { found: -32, ..Found::default() };
+    }
+    exports::log_last(log, id)
+}
+
+fn the_first_in_it(log: &[u8], id: u8) -> Found {
+    let found = exports::log_last(log, id);
+    if found.found != 1 {
+        return found;
+    }
+    let at = 16 + 8 * found.segment;
+    let number = |at: usize| u32::from_le_bytes([log[at], log[at + 1], log[at + 2], log[at + 3]]) as usize;
+    let segment = &log[number(at)..number(at) + number(at + 4)];
+    let mut event = exports::next_event(segment, 0);
+    while event.kind != 1 || event.id != id {
+        event = exports::next_event(segment, event.next);
+    }
+    Found { offset: event.offset, ..found }
+}
+
+/// Where the segment that the index names has no such packet, the first segment is asked.
+fn goes_on_to_other_segments(log: &[u8], id: u8) -> Found {
+    let found = exports::log_last(log, id);
+    if found.found != 0 || log[0] == 0 {
+        return found;
+    }
+    let number = |at: usize| u32::from_le_bytes([log[at], log[at + 1], log[at + 2], log[at + 3]]) as usize;
+    let segment = &log[number(16)..number(16) + number(20)];
+    let mut event = exports::next_event(segment, 0);
+    while event.kind != 0 {
+        if event.kind == 1 && event.id == id {
+            return Found { found: 1, segment: 0, offset: event.offset };
+        }
+        event = exports::next_event(segment, event.next);
+    }
+    found
 }
 
 fn any_length(table: &mut [u8]) -> i64 {

@@ -1,0 +1,260 @@
+/*
+ * dxl: line logs on a bench computer. `dxl --help` says what it does; the exports of Mednukals do the work, on files that are
+ * mapped into memory.
+ */
+#include <errno.h>
+#include <stdio.h>
+#include <stdlib.h>
+#include <string.h>
+
+#include "files.h"
+#include "mednukals.h"
+
+static const char HELP[] =
+    "usage: dxl log write OUT CAPTURE...   write a log of captures, each of them one segment\n"
+    "       dxl log check LOG              say whether a log is sound\n"
+    "       dxl log last LOG ID            say where the last packet for an ID stands\n"
+    "       dxl log COMMAND --help         say more of a command\n"
+    "       dxl --version\n"
+    "\n"
+    "It ends with 0 where all is well, 1 where the answer is no (a log that is not sound, no packet for the ID), 2 where it does\n"
+    "not know the words, and 3 where a file cannot be read or written or what is asked is refused; then it says why.\n";
+
+static const char HELP_WRITE[] =
+    "usage: dxl log write OUT CAPTURE...\n"
+    "\n"
+    "Writes a log of the captures to OUT. Each CAPTURE is a file with the bytes of one segment, and they are numbered from 0 in the\n"
+    "order given. An OUT that is there is replaced once the new log is complete; until then it stays, and whatever goes wrong leaves\n"
+    "it as it was. All captures together may have some 4 gigabytes; a second copy of them is kept in the folder of OUT meanwhile.\n";
+
+static const char HELP_CHECK[] =
+    "usage: dxl log check LOG\n"
+    "\n"
+    "Prints 'sound' with the count of segments and bytes, or what is wrong: 31 where the file is not laid out as a log, 34 where its\n"
+    "index is not that of its segments. Every segment is read.\n";
+
+static const char HELP_LAST[] =
+    "usage: dxl log last LOG ID\n"
+    "\n"
+    "Prints the number of the segment, from 0, that has the last packet with that ID, and the offset of this packet in it. ID is 0 to\n"
+    "252, or 254 for packets to all devices. The log is taken at its word: what its index says is not checked, and only the segment\n"
+    "that it names is read. 'dxl log check' tells whether the index is right.\n";
+
+static int help(const char *text)
+{
+    fputs(text, stdout);
+    return DONE;
+}
+
+static int usage(const char *text)
+{
+    fputs(text, stderr);
+    return USAGE;
+}
+
+/* What a refusal means. */
+static const char *reason(int64_t refusal)
+{
+    switch (-refusal) {
+    case DXL_BAD_LOG:
+        return "31, not laid out as a log";
+    case DXL_BAD_LOG_ID:
+        return "32, an ID of 253 or 255 is never valid";
+    case DXL_WRONG_INDEX:
+        return "34, the index is not that of the segments";
+    default:
+        return "refused by a number that is not expected here";
+    }
+}
+
+/* Where the program has printed all that it should. */
+static int printed(int status)
+{
+    if (fflush(stdout) == 0 && !ferror(stdout))
+        return status;
+    say_failure("standard output", strerror(errno));
+    return FAILED;
+}
+
+static uint32_t number_at(const uint8_t *bytes)
+{
+    return bytes[0] | (uint32_t)bytes[1] << 8 | (uint32_t)bytes[2] << 16 | (uint32_t)bytes[3] << 24;
+}
+
+/* ---- dxl log write */
+
+struct captures {
+    size_t count;
+    char **names;
+    struct mapped *files;
+    uint32_t *lengths;
+    const uint8_t *bytes; /* of all of them, behind each other */
+    size_t total;
+};
+
+/* The captures and how long the log will be; a log that would be too long is not begun. */
+static int map_captures(const char *out, struct captures *captures, uint64_t *size)
+{
+    *size = DXL_LOG_FRONT + DXL_LOG_ENTRY * (uint64_t)captures->count;
+    captures->total = 0;
+    for (size_t i = 0; i < captures->count; i++) {
+        struct mapped *file = &captures->files[i];
+        if (!map_file(captures->names[i], file))
+            return 0;
+        if (same_file(out, file))
+            return say_failure(captures->names[i], "a capture and the log to be written are one file");
+        captures->lengths[i] = (uint32_t)file->count;
+        captures->total += file->count;
+        *size += file->count;
+        if (file->count > UINT32_MAX || *size > UINT32_MAX)
+            return say_failure(out, "31, the log would have more than 4294967295 bytes");
+    }
+    return 1;
+}
+
+/* One capture is read where it lies; more of them are copied behind each other. */
+static int join_captures(const char *out, struct captures *captures)
+{
+    captures->bytes = captures->files[0].bytes;
+    if (captures->count == 1 || captures->total == 0)
+        return 1;
+    struct output joined;
+    if (!begin_scratch(out, captures->total, &joined))
+        return 0;
+    size_t at = 0;
+    for (size_t i = 0; i < captures->count; i++) {
+        if (!append_file(captures->names[i], joined.bytes + at, captures->lengths[i]))
+            return 0;
+        at += captures->lengths[i];
+    }
+    captures->bytes = joined.bytes;
+    return 1;
+}
+
+static int write_log(const char *out, struct captures *captures)
+{
+    uint64_t size;
+    struct output log;
+    if (!map_captures(out, captures, &size) || !join_captures(out, captures) || !begin_output(out, (size_t)size, &log))
+        return FAILED;
+    int64_t count =
+        dxl_log_write(captures->bytes, captures->total, captures->lengths, captures->count, log.bytes, log.count);
+    if (count < 0) /* not expected: the sizes were tested as the library tests them */
+        return give_up(&log, reason(count)) ? DONE : FAILED;
+    return finish_output(&log) ? DONE : FAILED;
+}
+
+static int log_write(int n, char **words)
+{
+    if (n < 2)
+        return usage(HELP_WRITE);
+    struct captures captures = {.count = (size_t)n - 1, .names = words + 1};
+    captures.files = calloc(captures.count, sizeof *captures.files);
+    captures.lengths = calloc(captures.count, sizeof *captures.lengths);
+    if (captures.files == NULL || captures.lengths == NULL) {
+        say_failure(words[0], "no memory");
+        return FAILED;
+    }
+    begin_work("writing the log");
+    int status = write_log(words[0], &captures);
+    end_work();
+    return status;
+}
+
+/* ---- dxl log check */
+
+static int log_check(int n, char **words)
+{
+    struct mapped log;
+    if (n != 1)
+        return usage(HELP_CHECK);
+    if (!map_file(words[0], &log))
+        return FAILED;
+    begin_work("reading the segments");
+    int64_t answer = dxl_log_check(log.bytes, log.count);
+    end_work();
+    if (answer != 0) {
+        printf("%s: not sound: %s\n", words[0], reason(answer));
+        return printed(NO);
+    }
+    printf("%s: sound, %u segments in %zu bytes\n", words[0], (unsigned)number_at(log.bytes), log.count);
+    return printed(DONE);
+}
+
+/* ---- dxl log last */
+
+/* An ID in decimal digits, 0 to 255. */
+static int parse_id(const char *word, uint8_t *id)
+{
+    unsigned value = 0;
+    size_t n = strlen(word);
+    if (n < 1 || n > 3 || strspn(word, "0123456789") != n)
+        return 0;
+    for (size_t i = 0; i < n; i++)
+        value = value * 10 + (unsigned)(word[i] - '0');
+    *id = (uint8_t)value;
+    return value <= 255;
+}
+
+static int log_last(int n, char **words)
+{
+    uint8_t id;
+    struct mapped log;
+    if (n != 2 || !parse_id(words[1], &id))
+        return usage(HELP_LAST);
+    if (!map_file(words[0], &log))
+        return FAILED;
+    begin_work("reading the segment that the index names");
+    struct dxl_found answer = dxl_log_last(log.bytes, log.count, id);
+    end_work();
+    if (answer.found < 0) {
+        say_failure(words[0], reason(answer.found));
+        return FAILED;
+    }
+    if (answer.found == 0) {
+        printf("no packet for ID %u\n", (unsigned)id);
+        return printed(NO);
+    }
+    printf("segment %zu offset %zu\n", answer.segment, answer.offset);
+    return printed(DONE);
+}
+
+/* ---- words */
+
+static const struct command {
+    const char *name;
+    const char *help;
+    int (*run)(int n, char **words);
+} COMMANDS[] = {{"write", HELP_WRITE, log_write}, {"check", HELP_CHECK, log_check}, {"last", HELP_LAST, log_last}};
+
+static int asks_for_help(const char *word)
+{
+    return strcmp(word, "--help") == 0 || strcmp(word, "-h") == 0;
+}
+
+static int log_command(int n, char **words)
+{
+    if (n >= 1 && asks_for_help(words[0]))
+        return printed(help(HELP));
+    for (size_t i = 0; n >= 1 && i < sizeof COMMANDS / sizeof *COMMANDS; i++) {
+        if (strcmp(words[0], COMMANDS[i].name) != 0)
+            continue;
+        if (n >= 2 && asks_for_help(words[1]))
+            return printed(help(COMMANDS[i].help));
+        return COMMANDS[i].run(n - 1, words + 1);
+    }
+    return usage(HELP);
+}
+
+int main(int n, char **words)
+{
+    if (n == 2 && asks_for_help(words[1]))
+        return printed(help(HELP));
+    if (n == 2 && strcmp(words[1], "--version") == 0) {
+        printf("dxl %s\n", DXL_VERSION);
+        return printed(DONE);
+    }
+    if (n >= 2 && strcmp(words[1], "log") == 0)
+        return log_command(n - 2, words + 2);
+    return usage(HELP);
+}

@@ -1,0 +1,256 @@
+#include "files.h"
+
+#include <errno.h>
+#include <fcntl.h>
+#include <signal.h>
+#include <stdio.h>
+#include <stdlib.h>
+#include <string.h>
+#include <sys/mman.h>
+#include <sys/stat.h>
+#include <sys/time.h>
+#include <unistd.h>
+
+static const uint8_t none[1];
+
+int say_failure(const char *name, const char *why)
+{
+    end_work();
+    fprintf(stderr, "dxl: %s: %s\n", name, why);
+    return 0;
+}
+
+/* ---- signals: the line while work takes long, and what is left behind where the program is ended */
+
+static const char *volatile work;
+static volatile sig_atomic_t seconds, shown, terminal;
+static const char *volatile unfinished; /* the temporary file */
+
+/* Only what a signal handler may call. */
+static void put(const char *text)
+{
+    size_t n = 0;
+    while (text[n] != 0)
+        n++;
+    if (write(STDERR_FILENO, text, n) < 0)
+        return; /* there is nobody to tell */
+}
+
+static void tick(int number)
+{
+    (void)number;
+    char digits[12];
+    char *at = digits + sizeof digits - 1;
+    int saved = errno;
+    seconds = seconds + 1;
+    *at = 0;
+    for (int n = seconds; n > 0; n /= 10)
+        *--at = (char)('0' + n % 10);
+    if (work != NULL && (terminal ? seconds > 1 : seconds % 10 == 0)) {
+        put(terminal ? "\rdxl: " : "dxl: ");
+        put(work);
+        put(", ");
+        put(at);
+        put(terminal ? " s" : " s\n");
+        shown = 1;
+    }
+    errno = saved;
+}
+
+/* A file that is cut while it is mapped ends the program, and so does whoever asks for it; nothing unfinished stays. */
+static void end_program(int number)
+{
+    if (unfinished != NULL)
+        unlink(unfinished);
+    if (number == SIGBUS)
+        put("dxl: a file was made shorter while it was read\n");
+    signal(number, SIG_DFL);
+    raise(number);
+}
+
+static void listen_to(int number, void (*handler)(int))
+{
+    struct sigaction action;
+    memset(&action, 0, sizeof action);
+    action.sa_handler = handler;
+    action.sa_flags = SA_RESTART;
+    sigemptyset(&action.sa_mask);
+    sigaction(number, &action, NULL);
+}
+
+/* What the caller ignores stays ignored, as with nohup. A file that may not become so long is told by the call that asks for room. */
+static void listen_to_ends(void)
+{
+    static const int ends[] = {SIGBUS, SIGINT, SIGTERM, SIGHUP};
+    for (size_t i = 0; i < sizeof ends / sizeof *ends; i++) {
+        struct sigaction before;
+        if (sigaction(ends[i], NULL, &before) != 0 || before.sa_handler != SIG_IGN)
+            listen_to(ends[i], end_program);
+    }
+    listen_to(SIGXFSZ, SIG_IGN);
+}
+
+void begin_work(const char *what)
+{
+    struct itimerval every_second = {{1, 0}, {1, 0}};
+    seconds = shown = 0;
+    terminal = isatty(STDERR_FILENO);
+    work = what;
+    listen_to(SIGALRM, tick);
+    setitimer(ITIMER_REAL, &every_second, NULL);
+}
+
+void end_work(void)
+{
+    struct itimerval never = {{0, 0}, {0, 0}};
+    setitimer(ITIMER_REAL, &never, NULL);
+    work = NULL;
+    if (shown && terminal)
+        fputc('\n', stderr);
+    shown = 0;
+}
+
+/* ---- reading */
+
+/* An opened regular file, or -1. */
+static int open_regular(const char *name, struct stat *about)
+{
+    int file = open(name, O_RDONLY | O_CLOEXEC);
+    if (file >= 0 && fstat(file, about) == 0) {
+        if (S_ISREG(about->st_mode))
+            return file;
+        close(file);
+        say_failure(name, "not a regular file");
+        return -1;
+    }
+    say_failure(name, strerror(errno));
+    if (file >= 0)
+        close(file);
+    return -1;
+}
+
+int map_file(const char *name, struct mapped *mapped)
+{
+    struct stat about;
+    int file = open_regular(name, &about);
+    if (file < 0)
+        return 0;
+    listen_to_ends();
+    mapped->bytes = none;
+    mapped->count = (size_t)about.st_size;
+    mapped->device = about.st_dev;
+    mapped->inode = about.st_ino;
+    if (mapped->count > 0) {
+        void *bytes = mmap(NULL, mapped->count, PROT_READ, MAP_PRIVATE, file, 0);
+        if (bytes == MAP_FAILED) {
+            say_failure(name, strerror(errno));
+            close(file);
+            return 0;
+        }
+        mapped->bytes = bytes;
+    }
+    close(file);
+    return 1;
+}
+
+int same_file(const char *name, const struct mapped *mapped)
+{
+    struct stat about;
+    return stat(name, &about) == 0 && about.st_dev == mapped->device && about.st_ino == mapped->inode;
+}
+
+int append_file(const char *name, uint8_t *out, size_t count)
+{
+    struct stat about;
+    int file = open_regular(name, &about);
+    if (file < 0)
+        return 0;
+    size_t n = 0;
+    ssize_t got = 1;
+    while (n < count && got > 0) {
+        got = read(file, out + n, count - n);
+        if (got > 0)
+            n += (size_t)got;
+        else if (got < 0 && errno == EINTR)
+            got = 1;
+    }
+    int why = errno;
+    close(file);
+    if (n == count)
+        return 1;
+    return say_failure(name, got < 0 ? strerror(why) : "it has become shorter");
+}
+
+/* ---- writing */
+
+/* The name with something behind it; null where there is no memory. */
+static char *with_ending(const char *name, const char *ending)
+{
+    size_t n = strlen(name);
+    char *longer = malloc(n + strlen(ending) + 1);
+    if (longer != NULL) {
+        memcpy(longer, name, n);
+        strcpy(longer + n, ending);
+    }
+    return longer;
+}
+
+int give_up(struct output *output, const char *why)
+{
+    unlink(output->temporary);
+    unfinished = NULL;
+    return say_failure(output->name, why);
+}
+
+/* Room is taken on the disk first: a mapped file that has none would end the program where it is written. */
+int begin_output(const char *name, size_t count, struct output *output)
+{
+    output->name = name;
+    output->count = count;
+    output->temporary = with_ending(name, ".XXXXXX");
+    if (output->temporary == NULL)
+        return say_failure(name, "no memory");
+    output->file = mkstemp(output->temporary);
+    if (output->file < 0) {
+        int why = errno;
+        free(output->temporary);
+        output->temporary = NULL;
+        return say_failure(name, strerror(why));
+    }
+    unfinished = output->temporary;
+    listen_to_ends();
+    int why = posix_fallocate(output->file, 0, (off_t)count);
+    if (why != 0)
+        return give_up(output, strerror(why));
+    output->bytes = mmap(NULL, count, PROT_READ | PROT_WRITE, MAP_SHARED, output->file, 0);
+    if (output->bytes == MAP_FAILED)
+        return give_up(output, strerror(errno));
+    return 1;
+}
+
+int begin_scratch(const char *beside, size_t count, struct output *output)
+{
+    if (!begin_output(beside, count, output))
+        return 0;
+    unlink(output->temporary);
+    unfinished = NULL;
+    return 1;
+}
+
+/* The mode that a new file gets; mkstemp makes one that only its owner reads. */
+static mode_t usual_mode(void)
+{
+    mode_t mask = umask(0);
+    umask(mask);
+    return 0666 & ~mask;
+}
+
+int finish_output(struct output *output)
+{
+    if (munmap(output->bytes, output->count) != 0 || fchmod(output->file, usual_mode()) != 0 || fsync(output->file) != 0
+        || close(output->file) != 0 || rename(output->temporary, output->name) != 0)
+        return give_up(output, strerror(errno));
+    unfinished = NULL;
+    free(output->temporary);
+    return 1;
+}

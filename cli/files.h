@@ -1,0 +1,53 @@
+/* Files for the tool dxl: mapped into memory, written whole or not at all, and a line that says how long work takes. */
+#ifndef FILES_H
+#define FILES_H
+
+#include <stddef.h>
+#include <stdint.h>
+#include <sys/types.h>
+
+/* How the program ends. */
+enum {
+    DONE = 0,
+    NO = 1,    /* the answer is no: not sound, no packet */
+    USAGE = 2, /* words that it does not know */
+    FAILED = 3 /* a file that cannot be read or written, or a refusal */
+};
+
+/* A file's bytes in memory. `bytes` is never null, also where there are none. */
+struct mapped {
+    const uint8_t *bytes;
+    size_t count;
+    dev_t device; /* these two tell whether two names are one file */
+    ino_t inode;
+};
+
+/* A file that is being written: what was mapped gets its name only once it is complete. */
+struct output {
+    uint8_t *bytes;
+    size_t count;
+    int file;
+    const char *name;
+    char *temporary; /* null where the file has no name of its own */
+};
+
+/* Each of these returns whether it was done; where not, it has said on standard error why. */
+int map_file(const char *name, struct mapped *mapped);
+int begin_output(const char *name, size_t count, struct output *output);    /* gets `name` by finish_output */
+int begin_scratch(const char *beside, size_t count, struct output *output); /* in the same folder, and without a name */
+int append_file(const char *name, uint8_t *out, size_t count); /* all its bytes, which have to be as many as before */
+int finish_output(struct output *output);
+int give_up(struct output *output, const char *why); /* nothing of it stays; says why, and returns 0 */
+
+/* Whether the name is that of a file that is mapped. */
+int same_file(const char *name, const struct mapped *mapped);
+
+/* Says on standard error what takes long, and for how many seconds: from the second one on where that is a terminal, and else every
+ * ten seconds. */
+void begin_work(const char *what);
+void end_work(void);
+
+/* dxl: NAME: why */
+int say_failure(const char *name, const char *why);
+
+#endif

@@ -1,0 +1,64 @@
+-- The question for the last packet of an ID: answered from header, directory, one index number and one segment.
+use mathlib.Core.Path.{_≡_}
+use mathlib.Core.Bool.{true}
+use mathlib.Core.List.{List, [], _∷_}
+use mathlib.Core.Option.{Option, none, some}
+use Prim.Native.Nat.{ℕ, zero, suc, _+_, _*_}
+use lib.ListN.{getD, take}
+use Rattle.lists.specs.Answer.{firstFailing}
+use Rattle.packet_front.specs.Front.{goodId}
+use Rattle.log_index.specs.Last.{Last, at, nowhere, orIn, lastIn, lastOf, placeOf}
+use Rattle.log_layout.specs.Log.{Entry, indexPlace, Sound}
+use Rattle.log_layout.specs.Layout.{u32At, countIn, indexIn, segmentBy, segmentsIn, laidOut}
+use Rattle.log.specs.declared.Found.{Found}
+use Rattle.log.specs.declared.Found.the-variants.{At, Nowhere, BadLayout, BadId}
+
+-- by an index number: in the segment that it names, and in no other [I19]
+abbrev pub named : ℕ → ℕ → List (List ℕ) → Last
+named zero id segments = nowhere
+named (suc k) id segments = orIn nowhere k (lastIn id (getD segments k []))
+
+-- [I18 I19]
+unfoldable pub lastAnswer : List ℕ → ℕ → Last
+lastAnswer file id = named (getD (indexIn file) (placeOf id) 0) id (segmentsIn file)
+
+-- the layout, and then the ID, which has to be one that packets may have [I18 N15 N16]
+unfoldable pub lastRefusal : List ℕ → ℕ → Option ℕ
+lastRefusal file id = firstFailing ((laidOut file, 31) ∷ (goodId id, 32) ∷ [])
+
+-- where the last packet stands, or a refusal by its number
+pub data Answer : Type 0 where
+  found : Last → Answer
+  refused : ℕ → Answer
+
+abbrev pub answered : Option ℕ → Last → Answer
+answered none l = found l
+answered (some number) l = refused number
+
+-- [I18]
+abbrev pub question : List ℕ → ℕ → Answer
+question file id = answered (lastRefusal file id) (lastAnswer file id)
+
+-- the code's answer [I18]
+abbrev pub foundAnswer : Found → Answer
+foundAnswer (At k p) = found (at k p)
+foundAnswer Nowhere = found nowhere
+foundAnswer BadLayout = refused 31
+foundAnswer BadId = refused 32
+
+-- the index number of an ID, and the directory's entry for a segment, by their places in the file [I3 I5]
+abbrev pub indexNumberOf : List ℕ → ℕ → ℕ
+indexNumberOf file id = u32At file (indexPlace (countIn file) + 4 * placeOf id)
+
+abbrev pub entryOf : List ℕ → ℕ → Entry
+entryOf file k = (u32At file (16 + 8 * k), u32At file (16 + 8 * k + 4))
+
+-- What is promised of the question over all files.
+pub record LogPromises : Type 0 where
+  -- on a sound log it is never refused for the layout, and its answer is that of a reading of every segment [I19]
+  pub answers : (file : List ℕ) (s : Sound file) (id : ℕ) → goodId id ≡ true → question file id ≡ found (lastOf id (s .segments))
+  -- two files that are laid out and have the same header and directory, the same index number for the ID, and in the place of the
+  -- segment that it names the same bytes: the answers are the same, whatever else stands in them [I20]
+  pub depends-only : (f g : List ℕ) (id : ℕ) → laidOut f ≡ true → laidOut g ≡ true
+      → take (indexPlace (countIn f)) f ≡ take (indexPlace (countIn f)) g → indexNumberOf f id ≡ indexNumberOf g id
+      → ((k : ℕ) → indexNumberOf f id ≡ suc k → segmentBy f (entryOf f k) ≡ segmentBy g (entryOf f k)) → question f id ≡ question g id

@@ -1,0 +1,80 @@
+// The packets of a segment by their IDs: marks in an index of all IDs, and the last packet for one ID.
+use plain_reader::Next;
+ghost use mathlib.Core.Path.{_≡_};
+ghost use Rattle.reading.specs.Reading.{reading};
+ghost use Rattle.packet.specs.Verdict.{protocol2};
+ghost use Rattle.log_index.specs.Last.{placeOf, lastIn};
+ghost use Rattle.log_index.specs.Marks.{marked, offsetOf};
+
+// Where a packet stands in its segment, if there is one.
+pub enum Offset {
+    At(usize),
+    Nothing,
+}
+
+// The place of an ID in the index. [I5]
+pub fn place_of(id: u8) -> usize
+    ensures { λ r. ⌜ r ≡ placeOf id ⌝ }
+{
+    if id < 253 { id as usize } else { 253 }
+}
+
+// Writes the number of a segment for each ID that has a packet in it. A bad checksum is no packet. [I5 I8]
+pub fn mark(index: &mut [usize; 254], segment: &[u8], number: usize)
+    ensures { λ _. ⌜ now (index .exit) ≡ marked number (now (index .entry)) (reading protocol2 (now (segment .entry))) ⌝ }
+{
+    let mut from = 0;
+    loop {
+        match plain_reader::next_event(segment, from) {
+            Next::Packet {
+                offset: _,
+                count: _,
+                next,
+                id,
+            } => {
+                let place = place_of(id);
+                index[place] = number;
+                from = next;
+            }
+            Next::BadChecksum {
+                offset: _,
+                next,
+                id: _,
+            } => {
+                from = next;
+            }
+            Next::Nothing => return,
+        }
+    }
+}
+
+// The offset of the last packet with this ID in a segment. [I6]
+pub fn last_in(segment: &[u8], wanted: u8) -> Offset
+    ensures { λ r. ⌜ r ≡ offsetOf (lastIn wanted (now (segment .entry))) ⌝ }
+{
+    let mut last = Offset::Nothing;
+    let mut from = 0;
+    loop {
+        match plain_reader::next_event(segment, from) {
+            Next::Packet {
+                offset,
+                count: _,
+                next,
+                id,
+            } => {
+                if id == wanted {
+                    last = Offset::At(offset);
+                }
+                from = next;
+            }
+            Next::BadChecksum {
+                offset: _,
+                next,
+                id: _,
+            } => {
+                from = next;
+            }
+            Next::Nothing => return last,
+        }
+    }
+}

@@ -1,0 +1,4 @@
+pub mod Laid
+pub mod Sound
+pub mod Turns
+pub mod Tests

@@ -1,0 +1,168 @@
+-- The parts of a log put into a buffer one after the other are the log; how long it is; what is written is sound.
+use mathlib.Core.Path.{_≡_, refl, sym, ap, ap₂, subst, _∙_}
+use mathlib.Core.Bool.{Bool, true, false}
+use mathlib.Core.List.{List, [], _∷_, _++_, append-nil, append-assoc}
+use mathlib.Core.Option.{none, some}
+use Prim.Native.Nat.{ℕ, zero, suc, _+_, _*_, _-_, _≤_, _<_}
+use native.Mathlib.Omega.{arith}
+use lib.Dec.{leb, eqb}
+use lib.ListN.{length, take, drop, length-take, length-drop, take-append-drop}
+use lib.Seq.{take-all, length-take-le}
+use borrow.Author.Tests.{leb-true, eqb-true, eq-eqb, le-leb, lt-leb, ne-eqb}
+use Rattle.lists.specs.Answer.{Answer, count, refused, firstFailing, answered, unlessRefused}
+use Rattle.lists.specs.Numbers.{bytesOf}
+use Rattle.lists.specs.Write.{overwritten, placed}
+use Rattle.lists.proofs.Filling.{Filling, fill-start, fill-part, fill-done}
+use Rattle.lists.proofs.Write.{overwritten-take}
+use Rattle.reading.specs.Promise.{joined}
+use Rattle.log_index.specs.Last.{index, indexSize}
+use Rattle.log_layout.specs.Log.{Entry, laid, numbersOf, header, indexPlace, segmentsPlace, directory, logOf, longestFile, Sound}
+use Rattle.log_layout.proofs.Laid.{length-laid, length-numbersOf}
+use Rattle.log_index.proofs.Index.{index-length}
+use Rattle.log_layout.proofs.Sound.{directory-length, log-length}
+use Rattle.log_writer.specs.Writing.{sum, cut, directoryBy, written, writeRefusal, writeAnswer, writeOut, WritesSound}
+
+-- ---- the segments by their lengths
+
+pub cut-count : (ns bytes : List ℕ) → length (cut ns bytes) ≡ length ns
+unfolding cut
+cut-count [] bytes = refl
+cut-count (n ∷ ns) bytes = ap suc (cut-count ns (drop n bytes))
+
+module _ where
+  cut-joined : (ns bytes : List ℕ) → sum ns ≡ length bytes → joined (cut ns bytes) ≡ bytes
+  unfolding sum cut
+  cut-joined [] [] e = refl
+  cut-joined [] (b ∷ bytes) e = absurd (omega arith)
+  cut-joined (n ∷ ns) bytes e =
+      ap (λ (l : List ℕ). take n bytes ++ l) (cut-joined ns (drop n bytes) (omega (arith, length-drop n bytes)))
+      ∙ take-append-drop n bytes
+
+  cut-directory : (start : ℕ) (ns bytes : List ℕ) → sum ns ≡ length bytes → directory start (cut ns bytes) ≡ directoryBy start ns
+  unfolding sum cut directory directoryBy
+  cut-directory start [] bytes e = refl
+  cut-directory start (n ∷ ns) bytes e =
+      let l : length (take n bytes) ≡ n = length-take-le n bytes (omega arith) in
+      rw l
+      (ap {B = List Entry} (λ (d : List Entry). (start, n) ∷ d)
+      (cut-directory (start + n) ns (drop n bytes) (omega (arith, length-drop n bytes))))
+
+module _ (bytes lengths : List ℕ) (e : sum lengths ≡ length bytes) where
+  pub written-length : length (written bytes lengths) ≡ segmentsPlace (length lengths) + length bytes
+  written-length =
+      log-length (cut lengths bytes)
+      ∙ ap₂ (λ (n : ℕ) (s : List ℕ). segmentsPlace n + length s) (cut-count lengths bytes) (cut-joined lengths bytes e)
+
+-- ---- the parts
+
+laid-append : (xs rest : List ℕ) → laid xs rest ≡ laid xs [] ++ rest
+unfolding laid
+laid-append [] rest = refl
+laid-append (x ∷ xs) rest =
+    ap (λ (l : List ℕ). bytesOf 4 x ++ l) (laid-append xs rest) ∙ sym (append-assoc (bytesOf 4 x) (laid xs []) rest)
+
+laid-alone : (xs : List ℕ) → length (laid xs []) ≡ 4 * length xs
+laid-alone xs = length-laid xs [] ∙ omega arith
+
+fill-laid : (new old buffer : List ℕ) (j k : ℕ) (xs rest : List ℕ) → Filling new old buffer j (laid xs rest) → k ≡ j + 4 * length xs
+    → k ≤ length old → Filling new old (placed buffer j (laid xs [])) k rest
+fill-laid new old buffer j k xs rest f e h =
+    let l = laid-alone xs in
+    let z : j + length (laid xs []) ≡ k = omega arith in
+    subst (λ (m : ℕ). Filling new old (placed buffer j (laid xs [])) m rest) z
+    (fill-part new old buffer j (laid xs []) rest
+    (subst (λ (x : List ℕ). Filling new old buffer j x) (laid-append xs rest) f) (omega arith))
+
+module _ (out bytes lengths : List ℕ) (e : sum lengths ≡ length bytes) (h : segmentsPlace (length lengths) + length bytes ≤ length out) where
+  abbrev n : ℕ
+  n = length lengths
+
+  abbrev ss : List (List ℕ)
+  ss = cut lengths bytes
+
+  abbrev entries : List ℕ
+  entries = numbersOf (directoryBy (segmentsPlace n) lengths)
+
+  -- the log by its lengths
+  by-lengths : written bytes lengths ≡ laid (header n) (laid entries (laid (index ss) (bytes ++ [])))
+  unfolding logOf
+  by-lengths =
+      rw (cut-count lengths bytes, cut-directory (segmentsPlace n) lengths bytes e, cut-joined lengths bytes e, append-nil bytes)
+
+  entries-count : length entries ≡ 2 * n
+  entries-count =
+      length-numbersOf (directoryBy (segmentsPlace n) lengths)
+      ∙ ap (λ (m : ℕ). 2 * m)
+      (ap length (sym (cut-directory (segmentsPlace n) lengths bytes e)) ∙ directory-length (segmentsPlace n) ss ∙ cut-count lengths bytes)
+
+  pub parts-put :
+      placed
+      (placed (placed (placed out 0 (laid (header n) [])) 16 (laid entries [])) (indexPlace n) (laid (index ss) []))
+      (segmentsPlace n) bytes
+      ≡ overwritten out (written bytes lengths)
+  parts-put =
+      let log = written bytes lengths in
+      let i = index-length indexSize 0 ss in
+      let d = entries-count in
+      let f₀ = subst (λ (l : List ℕ). Filling log out out 0 l) by-lengths (fill-start log out) in
+      let f₁ = fill-laid log out out 0 16 (header n) _ f₀ refl (omega arith) in
+      let f₂ = fill-laid log out _ 16 (indexPlace n) entries _ f₁ (omega arith) (omega arith) in
+      let f₃ = fill-laid log out _ (indexPlace n) (segmentsPlace n) (index ss) _ f₂ (omega arith) (omega arith) in
+      fill-done log out _ _ (fill-part log out _ (segmentsPlace n) bytes [] f₃ h)
+
+-- ---- the answer
+
+module _ (bytes lengths out : List ℕ) where
+  pub refused-sum : eqb (sum lengths) (length bytes) ≡ false → writeRefusal bytes lengths out ≡ some 31
+  unfolding writeRefusal
+  refused-sum h = rw h
+
+  module _ (e : eqb (sum lengths) (length bytes) ≡ true) where
+    size : length (written bytes lengths) ≡ segmentsPlace (length lengths) + length bytes
+    size = written-length bytes lengths (eqb-true (sum lengths) (length bytes) e)
+
+    pub refused-long : longestFile < segmentsPlace (length lengths) + length bytes → writeRefusal bytes lengths out ≡ some 31
+    unfolding writeRefusal
+    refused-long h = rw (e, lt-leb (length (written bytes lengths)) longestFile (omega (arith, size, h)))
+
+    module _ (l : segmentsPlace (length lengths) + length bytes ≤ longestFile) where
+      pub refused-room : length out < segmentsPlace (length lengths) + length bytes → writeRefusal bytes lengths out ≡ some 13
+      unfolding writeRefusal
+      refused-room h =
+          rw (e, le-leb (length (written bytes lengths)) longestFile (omega (arith, size, l)), lt-leb (length (written bytes lengths)) (length out) (omega (arith, size, h)))
+
+      pub not-refused : segmentsPlace (length lengths) + length bytes ≤ length out → writeRefusal bytes lengths out ≡ none
+      unfolding writeRefusal
+      not-refused h =
+          rw (e, le-leb (length (written bytes lengths)) longestFile (omega (arith, size, l)), le-leb (length (written bytes lengths)) (length out) (omega (arith, size, h)))
+
+  pub refusing : (number : ℕ) → writeRefusal bytes lengths out ≡ some number
+      → (refused number ≡ writeAnswer bytes lengths out) × (out ≡ writeOut bytes lengths out)
+  refusing number r = (rw r refl, rw r refl)
+
+  pub writing : (m : ℕ) (buffer : List ℕ) → writeRefusal bytes lengths out ≡ none → length (written bytes lengths) ≡ m
+      → buffer ≡ overwritten out (written bytes lengths)
+      → (count m ≡ writeAnswer bytes lengths out) × (buffer ≡ writeOut bytes lengths out)
+  writing m buffer r l b = (rw (r, l) refl, rw r b)
+
+  -- what a call that is not refused has passed
+  passed : writeRefusal bytes lengths out ≡ none → length (written bytes lengths) ≤ longestFile
+  unfolding writeRefusal
+  passed r = by-test (eqb (sum lengths) (length bytes)) refl (leb (length (written bytes lengths)) longestFile) refl r
+    where
+      by-test : (s : Bool) → eqb (sum lengths) (length bytes) ≡ s → (t : Bool) → leb (length (written bytes lengths)) longestFile ≡ t
+          → firstFailing ((s, 31) ∷ (t, 31) ∷ (leb (length (written bytes lengths)) (length out), 13) ∷ []) ≡ none
+          → length (written bytes lengths) ≤ longestFile
+      by-test true a true b z = leb-true _ _ b
+      by-test true a false b z = let k : _≡_ {A = ℕ} 0 1 = cc in absurd (omega arith)
+      by-test false a t b z = let k : _≡_ {A = ℕ} 0 1 = cc in absurd (omega arith)
+
+pub writes-sound : WritesSound
+writes-sound bytes lengths out r =
+    let e : take (length (written bytes lengths)) (writeOut bytes lengths out) ≡ written bytes lengths =
+    rw r (overwritten-take out (written bytes lengths)) in
+    record {
+      fits = rw e (passed bytes lengths out r);
+      segments = cut lengths bytes;
+      are = e;
+    }

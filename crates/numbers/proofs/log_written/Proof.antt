@@ -1,0 +1,38 @@
+use mathlib.Core.Path.{_≡_, sym, ap, _∙_}
+use mir.Facts.{toZ-ofZ}
+use mir.Syntax.{w64}
+use Rattle.log_writer.specs.declared.LogWritten.{LogWritten}
+use Rattle.log_writer.specs.Writing.{logWrittenAnswer}
+use Rattle.numbers.specs.Exported.{exported}
+use borrow.Author.Needs.{needs}
+use Rattle.numbers.proofs.log_written.Statement.{statement}
+use Rattle.numbers.proofs.log_written.Tie as tie
+
+by-case : (r s : LogWritten) → r ≡ s → exported (logWrittenAnswer s) ≡ exported (logWrittenAnswer r)
+by-case r s e = ap (λ (x : LogWritten). exported (logWrittenAnswer x)) (sym e)
+
+enum-known-answer : tie.Need-enum-known-answer
+enum-known-answer c = search needs
+
+count-requires : tie.Need-count-requires
+count-requires c κs = search needs
+
+enum-told : tie.Need-enum-told
+enum-told c = search needs
+
+enum-told-2 : tie.Need-enum-told-2
+enum-told-2 c = search needs
+
+returns : tie.Need-returns
+returns c = toZ-ofZ {w = w64} (record { sfits = c .count .ok }) ∙ c .count .ensures ∙ by-case _ _ (c .before .before .answer .given .1)
+
+returns-2 : tie.Need-returns-2
+returns-2 c = by-case _ _ (c .enum-told .given .1)
+
+returns-3 : tie.Need-returns-3
+returns-3 c = by-case _ _ (c .enum-told2 .given .1)
+
+pub log-written-spec : {M : Type 1} → statement M
+log-written-spec =
+    tie.close
+    (tie.spec enum-known-answer count-requires enum-told enum-told-2 returns returns-2 returns-3)

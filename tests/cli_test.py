@@ -1,0 +1,237 @@
+"""Runs the tool dxl: usage cli_test.py PROGRAM, in the repository's root
+
+What its commands print, how they end, and that a log is there complete or not at all. What the exports answer is compared elsewhere.
+"""
+import os
+import pty
+import resource
+import signal
+import struct
+import subprocess
+import sys
+import tempfile
+import time
+import unittest
+from pathlib import Path
+
+import suite
+
+PROGRAM = sys.argv[1] if len(sys.argv) == 2 else ""
+PATIENCE = 120  # seconds for one command
+PING = bytes.fromhex("FF FF FD 00 01 03 00 01 19 4E")
+TO_ALL = bytes.fromhex("FF FF FD 00 FE 03 00 01 31 42")
+DONE, NO, USAGE, FAILED = 0, 1, 2, 3
+LONG = 200_000_000  # bytes of a capture that takes some seconds
+
+
+def run(*words, **more):
+    ended = subprocess.run([PROGRAM, *map(str, words)], capture_output=True, timeout=PATIENCE, text=True, check=False, **more)
+    return ended.returncode, ended.stdout, ended.stderr
+
+
+def numbers(log, at, count):
+    return list(struct.unpack_from(f"<{count}I", log, at))
+
+
+class Folder(unittest.TestCase):
+    def setUp(self):
+        self.folder = tempfile.TemporaryDirectory(dir="build")
+        self.addCleanup(self.folder.cleanup)
+        self.out = self.file("out.log")
+
+    def file(self, name, contents=None):
+        path = Path(self.folder.name, name)
+        if contents is not None:
+            path.write_bytes(contents)
+        return path
+
+    def names(self):
+        return sorted(path.name for path in Path(self.folder.name).iterdir())
+
+
+class Write(Folder):
+    # [I1-I5 L8 X27]
+    def test_one_capture(self):
+        self.assertEqual(run("log", "write", self.out, self.file("ping", PING)), (DONE, "", ""))
+        log = self.out.read_bytes()
+        self.assertEqual((len(log), numbers(log, 0, 6)), (1050, [1, 16, 254, 24, 1040, 10]))
+        self.assertEqual((sum(numbers(log, 24, 254)), numbers(log, 28, 1), log[1040:]), (1, [1], PING))
+        self.assertEqual(self.names(), ["out.log", "ping"])
+
+    def test_several_captures(self):
+        captures = [self.file("a", PING + b"\x07" + PING), self.file("b", b""), self.file("c", TO_ALL), self.file("d", b"\x01\x02\x03")]
+        self.assertEqual(run("log", "write", self.out, *captures), (DONE, "", ""))
+        log = self.out.read_bytes()
+        self.assertEqual(numbers(log, 16, 8), [1064, 21, 1085, 0, 1085, 10, 1095, 3])
+        self.assertEqual(log[1064:], b"".join(path.read_bytes() for path in captures))
+        self.assertEqual(run("log", "check", self.out), (DONE, f"{self.out}: sound, 4 segments in 1098 bytes\n", ""))
+        self.assertEqual(run("log", "last", self.out, 1), (DONE, "segment 0 offset 11\n", ""))
+        self.assertEqual(run("log", "last", self.out, 254), (DONE, "segment 2 offset 0\n", ""))
+        self.assertEqual(self.names(), ["a", "b", "c", "d", "out.log"])
+
+    def test_empty_captures(self):
+        empty = self.file("empty", b"")
+        self.assertEqual(run("log", "write", self.out, empty, empty), (DONE, "", ""))
+        self.assertEqual(len(self.out.read_bytes()), 1048)
+
+    def test_mode_and_a_log_that_is_there(self):
+        self.out.write_bytes(b"an older one")
+        self.assertEqual(run("log", "write", self.out, self.file("ping", PING))[0], DONE)
+        self.assertEqual(len(self.out.read_bytes()), 1050)
+        mask = os.umask(0)
+        os.umask(mask)
+        self.assertEqual(self.out.stat().st_mode & 0o777, 0o666 & ~mask)
+
+    # [L9]
+    def test_complete_or_not_there(self):
+        """Whatever goes wrong, OUT is as it was, and no other file stays."""
+        ping = self.file("ping", PING)
+        self.out.write_bytes(b"an older one")
+        for words in [[self.file("none")], [ping, self.file("none")], [self.folder.name], [ping, self.out], ["/dev/zero"]]:
+            with self.subTest(words):
+                status, out, err = run("log", "write", self.out, *words)
+                self.assertEqual((status, out, err.startswith("dxl: ") and err.count("\n")), (FAILED, "", 1))
+                self.assertEqual((self.out.read_bytes(), self.names()), (b"an older one", ["out.log", "ping"]))
+        status, out, err = run("log", "write", self.file("no/out.log"), ping)
+        self.assertEqual((status, out, "No such file" in err), (FAILED, "", True))
+
+    def test_no_room(self):
+        """A file that may not become so long; the disk that is full is told in the same way."""
+        big = self.file("big", bytes(200_000))
+
+        def small_files():
+            resource.setrlimit(resource.RLIMIT_FSIZE, (100_000, 100_000))
+
+        status, out, err = run("log", "write", self.out, big, preexec_fn=small_files)
+        self.assertEqual((status, out, err), (FAILED, "", f"dxl: {self.out}: File too large\n"))
+        self.assertEqual(self.names(), ["big"])
+
+    def test_too_long(self):
+        """Captures that together pass what 32 bits hold; sparse ones, which take no room on the disk. [I12]"""
+        half = self.file("half")
+        with half.open("wb") as file:
+            file.truncate(1 << 31)
+        whole = self.file("whole")
+        with whole.open("wb") as file:
+            file.truncate(1 << 32)
+        for captures in [[half, half], [whole], [whole, whole]]:
+            status, out, err = run("log", "write", self.out, *captures)
+            self.assertEqual((status, out, err), (FAILED, "", f"dxl: {self.out}: 31, the log would have more than 4294967295 bytes\n"))
+        self.assertEqual(self.names(), ["half", "whole"])
+
+    # [L9]
+    def test_ended(self):
+        """A program that is ended while it writes leaves nothing behind."""
+        capture = self.file("capture")
+        with capture.open("wb") as file:
+            file.truncate(LONG)
+        program = subprocess.Popen([PROGRAM, "log", "write", str(self.out), str(capture)], stderr=subprocess.DEVNULL)
+        waited = time.monotonic()
+        while len(self.names()) < 2 and program.poll() is None and time.monotonic() < waited + PATIENCE:
+            time.sleep(0.001)
+        program.send_signal(signal.SIGTERM)
+        self.assertEqual(program.wait(PATIENCE), -signal.SIGTERM)
+        self.assertEqual(self.names(), ["capture"])
+
+
+class Ask(Folder):
+    # [I16 I18 L8]
+    def test_answers(self):
+        self.assertEqual(run("log", "write", self.out, self.file("ping", PING))[0], DONE)
+        log = self.out.read_bytes()
+        self.assertEqual(run("log", "check", self.out), (DONE, f"{self.out}: sound, 1 segments in 1050 bytes\n", ""))
+        self.assertEqual(run("log", "last", self.out, 2), (NO, "no packet for ID 2\n", ""))
+        self.assertEqual(run("log", "last", self.out, 253), (FAILED, "", f"dxl: {self.out}: 32, an ID of 253 or 255 is never valid\n"))
+        self.out.write_bytes(log[:-1])
+        self.assertEqual(run("log", "check", self.out), (NO, f"{self.out}: not sound: 31, not laid out as a log\n", ""))
+        self.assertEqual(run("log", "last", self.out, 1), (FAILED, "", f"dxl: {self.out}: 31, not laid out as a log\n"))
+        self.out.write_bytes(log[:24] + b"\x01" + log[25:])
+        self.assertEqual(run("log", "check", self.out), (NO, f"{self.out}: not sound: 34, the index is not that of the segments\n", ""))
+        self.out.write_bytes(b"")
+        self.assertEqual(run("log", "check", self.out)[:2], (NO, f"{self.out}: not sound: 31, not laid out as a log\n"))
+        self.assertEqual(run("log", "check", self.file("none")), (FAILED, "", f"dxl: {self.file('none')}: No such file or directory\n"))
+
+    def test_full_output(self):
+        self.assertEqual(run("log", "write", self.out, self.file("ping", PING))[0], DONE)
+        with open("/dev/full", "wb") as full:
+            ended = subprocess.run([PROGRAM, "log", "last", str(self.out), "1"], stdout=full, stderr=subprocess.PIPE, check=False)
+        self.assertEqual((ended.returncode, ended.stderr.startswith(b"dxl: standard output: ")), (FAILED, True))
+
+
+class Words(Folder):
+    def test_help(self):
+        status, text, err = run("--help")
+        self.assertEqual((status, err, text.splitlines()[0].startswith("usage: dxl log write OUT CAPTURE...")), (DONE, "", True))
+        self.assertEqual(run("log", "--help")[1], text)
+        for name in ["write", "check", "last"]:
+            status, more, err = run("log", name, "--help")
+            self.assertEqual((status, err, more.startswith(f"usage: dxl log {name} ")), (DONE, "", True))
+            self.assertEqual(run("log", name), (USAGE, "", more))
+        header = Path("include/mednukals.h").read_text(encoding="utf-8")
+        self.assertIn(f'#define DXL_VERSION "{run("--version")[1].split()[1]}"\n', header)
+
+    def test_other_words(self):
+        for words in [[], ["log"], ["log", "none"], ["none"], ["log", "check"], ["log", "check", "a", "b"], ["log", "write", "a"],
+                      ["log", "last", "a"], ["log", "last", "a", "256"], ["log", "last", "a", "-1"], ["log", "last", "a", "0x1"],
+                      ["log", "last", "a", ""], ["log", "last", "a", "1", "2"]]:
+            with self.subTest(words):
+                status, out, err = run(*words)
+                self.assertEqual((status, out, err.startswith("usage: dxl log ")), (USAGE, "", True))
+        self.assertEqual(self.names(), [])
+
+    def test_sample(self):
+        """What README.md shows."""
+        words = ["examples/capture.bin", "examples/ping.bin"]
+        self.assertEqual(run("log", "write", self.out, *words), (DONE, "", ""))
+        check = run("log", "check", self.out)[1].replace(str(self.out), "shift.log")
+        last = run("log", "last", self.out, 2)[1]
+        sample = ("$ dxl log write shift.log examples/capture.bin examples/ping.bin\n$ dxl log check shift.log\n" + check
+                  + "$ dxl log last shift.log 2\n" + last)
+        self.assertIn(sample, Path("README.md").read_text(encoding="utf-8"))
+
+
+class Progress(Folder):
+    """Work that takes long is told. The program counts the signals of its timer, so that some more of them make seconds pass."""
+
+    def long_work(self, stderr):
+        capture = self.file("capture")
+        with capture.open("wb") as file:
+            file.truncate(LONG)
+        return subprocess.Popen([PROGRAM, "log", "write", str(self.out), str(capture)], stderr=stderr)
+
+    def said(self, program, heard, wanted):
+        """What comes from the file, up to the words wanted."""
+        text = b""
+        os.set_blocking(heard, False)
+        ends = time.monotonic() + PATIENCE
+        while wanted not in text and program.poll() is None and time.monotonic() < ends:
+            if len(self.names()) > 1:  # it has begun, and listens
+                program.send_signal(signal.SIGALRM)
+            time.sleep(0.01)
+            try:
+                text += os.read(heard, 1000)
+            except BlockingIOError:
+                pass
+        program.send_signal(signal.SIGTERM)
+        program.wait(PATIENCE)
+        return text
+
+    def test_on_a_terminal(self):
+        ours, theirs = pty.openpty()
+        program = self.long_work(theirs)
+        os.close(theirs)
+        text = self.said(program, ours, b"3 s")
+        os.close(ours)
+        self.assertTrue(text.startswith(b"\rdxl: writing the log, 2 s\rdxl: writing the log, 3 s"), text)
+
+    def test_elsewhere(self):
+        ours, theirs = os.pipe()
+        program = self.long_work(theirs)
+        os.close(theirs)
+        text = self.said(program, ours, b"20 s\n")
+        os.close(ours)
+        self.assertEqual(text, b"dxl: writing the log, 10 s\ndxl: writing the log, 20 s\n")
+
+
+if __name__ == "__main__":
+    sys.exit(suite.run(usage=None if PROGRAM else "cli_test.py PROGRAM", done="dxl"))

@@ -9,6 +9,7 @@ mod reader;
 mod rng;
 mod stuffing;
 mod table;
+pub mod v1;
 
 pub use checksum::{checksum, flipped};
 pub use device::{device_call, packet_call, Answer as DeviceAnswer, Heard, Registered};

@@ -23,8 +23,9 @@ fn operations(rng: &mut Rng) -> Vec<Operation> {
     match rng.between(0, 99) {
         0..=5 => single::several(rng, single::checksum),
         6..=9 => single::several(rng, single::flip),
-        10..=19 => single::several(rng, single::encode),
-        20..=29 => single::several(rng, single::unstuff),
+        10..=15 => single::several(rng, single::encode),
+        16..=22 => single::several(rng, single::encode_v1),
+        23..=29 => single::several(rng, single::unstuff),
         30..=36 => single::several(rng, line::plain),
         37..=54 => line::reader(rng),
         55..=59 => device::table(rng),

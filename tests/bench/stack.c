@@ -117,6 +117,34 @@ static void call_next_event(void)
         answered = dxl_next_event(line, n_line, from).kind;
 }
 
+/* The line twice as the segments of a log. */
+static uint8_t log_bytes[DXL_LOG_FRONT + 2 * (DXL_LOG_ENTRY + sizeof line)];
+static size_t n_log;
+
+static void call_log_write(void)
+{
+    static uint8_t bytes[2 * sizeof line];
+    const uint32_t lengths[] = {(uint32_t)n_line, (uint32_t)n_line};
+    memcpy(bytes, line, n_line);
+    memcpy(bytes + n_line, line, n_line);
+    MARK_TOP();
+    answered = dxl_log_write(bytes, 2 * n_line, lengths, 2, log_bytes, sizeof log_bytes);
+    n_log = (size_t)answered;
+}
+
+static void call_log_check(void)
+{
+    MARK_TOP();
+    answered = dxl_log_check(log_bytes, n_log);
+}
+
+static void call_log_last(void)
+{
+    MARK_TOP();
+    for (unsigned id = 0; id < 256; id++)
+        answered = dxl_log_last(log_bytes, n_log, (uint8_t)id).found;
+}
+
 static void call_fresh(void)
 {
     MARK_TOP();
@@ -322,6 +350,9 @@ int main(void)
     tell("dxl_reader_feed", deepest(all_kinds, call_reader_feed));
     tell("dxl_reader_gap", deepest(full_record, call_reader_gap));
     tell("dxl_next_event", deepest(all_kinds, call_next_event));
+    tell("dxl_log_write", deepest(all_kinds, call_log_write));
+    tell("dxl_log_check", deepest(nothing, call_log_check));
+    tell("dxl_log_last", deepest(nothing, call_log_last));
     tell("dxl_fresh", deepest(nothing, call_fresh));
     tell("dxl_measure", deepest(nothing, call_measure));
     tell("dxl_device", deepest_device(call_device));

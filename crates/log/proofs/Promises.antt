@@ -83,14 +83,16 @@ module _ (file : List ℕ) (id : ℕ) where
     unfolding lastAnswer
     none-named h = rw (number-is, h)
 
-    -- segment k is
-    pub one-named : (k : ℕ) → indexNumberOf file id ≡ suc k → lastAnswer file id ≡ orIn nowhere k (lastIn id (segmentBy file (entryOf file k)))
-    unfolding lastAnswer
-    one-named k h =
+    -- segment k is, and there is such a segment
+    named-within : (k : ℕ) → indexNumberOf file id ≡ suc k → k < countIn file
+    named-within k h =
         let most = none-above (countIn file) (indexIn file) (placeOf id) (is-laid-out file l .most)
         (rw (numbers-length indexSize (drop (indexPlace (countIn file)) file)) (place-within id)) in
-        let within : k < countIn file = omega (arith, most, number-is, h) in
-        rw (number-is, h, segments-at file file directoryPlace (countIn file) k within)
+        omega (arith, most, number-is, h)
+
+    pub one-named : (k : ℕ) → indexNumberOf file id ≡ suc k → lastAnswer file id ≡ orIn nowhere k (lastIn id (segmentBy file (entryOf file k)))
+    unfolding lastAnswer
+    one-named k h = rw (number-is, h, segments-at file file directoryPlace (countIn file) k (named-within k h))
 
 -- ---- on a sound log
 
@@ -147,12 +149,6 @@ module _ (f g : List ℕ) (id : ℕ) (lf : laidOut f ≡ true) (lg : laidOut g �
   same-answer : lastAnswer f id ≡ lastAnswer g id
   same-answer = by-number (indexNumberOf f id) refl
     where
-      most : (k : ℕ) → indexNumberOf f id ≡ suc k → k < countIn f
-      most k h =
-          let m = none-above (countIn f) (indexIn f) (placeOf id) (is-laid-out f lf .most)
-          (rw (numbers-length indexSize (drop (indexPlace (countIn f)) f)) (place-within id)) in
-          omega (arith, m, number-is f id, h)
-
       same-entry : (k : ℕ) → k < countIn f → entryOf f k ≡ entryOf g k
       same-entry k h =
           ap₂ {C = Entry} (λ (a l : ℕ). (a, l)) (same-u32 f g (indexPlace (countIn f)) (16 + 8 * k) e (omega arith))
@@ -162,7 +158,7 @@ module _ (f g : List ℕ) (id : ℕ) (lf : laidOut f ≡ true) (lg : laidOut g �
       by-number zero h = none-named f id lf h ∙ sym (none-named g id lg (sym i ∙ h))
       by-number (suc k) h =
           one-named f id lf k h
-          ∙ ap (λ (w : List ℕ). orIn nowhere k (lastIn id w)) (s k h ∙ ap (segmentBy g) (same-entry k (most k h)))
+          ∙ ap (λ (w : List ℕ). orIn nowhere k (lastIn id w)) (s k h ∙ ap (segmentBy g) (same-entry k (named-within f id lf k h)))
           ∙ sym (one-named g id lg k (sym i ∙ h))
 
   same-question : question f id ≡ question g id

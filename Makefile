@@ -184,7 +184,7 @@ format:
 
 c_test: build/c/published build/c/exchange build/c/parts build/c/segment build/c/uart_test build/c/log_pages
 	@$(call need,python3)
-	@$(call step,published,published packets through the archive) build/c/published tests/vectors/packets.txt
+	@$(call step,published,published packets through the archive) build/c/published tests/vectors/packets.txt tests/vectors/packets_v1.txt
 	@$(call step,exchange,the loop that the header shows) build/c/exchange
 	@$(call step,parts,example that sends a packet in parts) build/c/parts
 	@$(call step,segment_test,example that prints the events of a capture) python3 tests/segment_test.py build/c/segment

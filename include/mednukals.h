@@ -78,9 +78,9 @@ uint16_t dxl_crc16_flipped(uint16_t crc, const uint8_t *flips, size_t n, size_t 
 
 /* Refusals: a call returns minus the number; for 25, see struct dxl_step. */
 enum {
-    DXL_BAD_ID = 11,         /* an ID of 253 or 255; of a status, also 254 */
-    DXL_TOO_LONG = 12,       /* the packet's length, which counts stuffed body and checksum, would pass 1,024; of a status, more than
-                                8 bytes of data */
+    DXL_BAD_ID = 11,         /* an ID of 253 or 255; in Protocol 1.0 of 255; of a status, also 254 */
+    DXL_TOO_LONG = 12,       /* the packet's length, which counts stuffed body and checksum, would pass 1,024; of an old board's
+                                packet 255; of a status, more than 8 bytes of data */
     DXL_NO_ROOM = 13,        /* the output buffer has too little room */
     DXL_BAD_STUFFING = 14,   /* the body is not well stuffed */
     DXL_NOT_A_TABLE = 21,    /* the control table is not 136 bytes long */
@@ -98,6 +98,7 @@ enum {
     DXL_MAX_BODY = 1022,   /* its body, stuffed or not */
     DXL_MAX_HELD = 1030,   /* the most bytes that a reader holds between two calls */
     DXL_TABLE_BYTES = 136, /* the control table */
+    DXL_V1_MAX_PACKET = 259, /* the longest packet of Protocol 1.0 and Mercury */
     DXL_MAX_STATUS = 21,   /* the longest status packet of dxl_device and dxl_exchange */
     DXL_MIN_REPLY = 32,    /* the shortest reply buffer that they accept */
     DXL_LOG_FRONT = 1032,  /* a log's bytes before its segments, without the directory */
@@ -209,6 +210,29 @@ enum {
  */
 int64_t dxl_encode(uint8_t id, uint8_t instruction, const uint8_t *params, size_t n_params, uint8_t *out, size_t n_out,
                    size_t at);
+
+/*
+ * The old boards: packets of Protocol 1.0 and Mercury. FF FF, the ID, the length, the body and the checksum; the body is the
+ * instruction, or the error byte of a status, followed by params, and is not stuffed. The length counts body and checksum. The
+ * checksum is the low byte of the sum of all bytes from the ID up to it, with every bit inverted.
+ *
+ * id            dxl_p1_encode: 0 to 253, or 254 for all devices; dxl_mercury_encode: 0 to 252, or 254
+ * instruction   any byte; of a status packet the error byte
+ * params        the parameters; any number of them
+ * out, n_out    the output buffer
+ * at            where in out the packet begins; any number, also past the end of out
+ *
+ * Returns the packet's byte count, 6 to 259, or
+ *   -11  id is 255, or in Mercury 253
+ *   -12  the length would pass 255: there are more than 253 parameters
+ *   -13  out has fewer bytes from at on than the packet, or at lies past its end
+ *
+ * The bytes of out before at and after the packet stay as they were; if the call is refused, all of out does.
+ */
+int64_t dxl_p1_encode(uint8_t id, uint8_t instruction, const uint8_t *params, size_t n_params, uint8_t *out, size_t n_out,
+                      size_t at);
+int64_t dxl_mercury_encode(uint8_t id, uint8_t instruction, const uint8_t *params, size_t n_params, uint8_t *out, size_t n_out,
+                           size_t at);
 
 /*
  * Removes the stuffing of a body: writes it to the start of out without the FD after each FF FF FD.

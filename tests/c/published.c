@@ -1,7 +1,7 @@
 /*
  * Calls the archive from C, with every packet that the maker's pages print: its checksum, and its body unstuffed and encoded
- * again.
- * usage: published PACKETS
+ * again. Those of Protocol 1.0 and Mercury are encoded again.
+ * usage: published PACKETS PACKETS_V1
  */
 #include <stdio.h>
 #include <stdlib.h>
@@ -74,6 +74,29 @@ static int flipped_as_summed_again(const uint8_t *bytes, size_t n, size_t at)
            && dxl_crc16_flipped(crc, flips, 0, SIZE_MAX) == crc;
 }
 
+typedef int64_t encoder(uint8_t id, uint8_t instruction, const uint8_t *params, size_t n_params, uint8_t *out, size_t n_out,
+                        size_t at);
+
+/* The parts of a packet of Protocol 1.0 or Mercury, encoded again, are the packet. */
+static int encodes_v1_again(encoder *encode, const uint8_t *packet, size_t n)
+{
+    uint8_t out[MAX_BYTES];
+    return n >= 6 && encode(packet[2], packet[4], packet + 5, n - 6, out, sizeof out, 0) == (int64_t)n
+           && memcmp(out, packet, n) == 0;
+}
+
+static void refusals_v1(void)
+{
+    static const uint8_t params[254];
+    uint8_t out[DXL_V1_MAX_PACKET];
+    expect(dxl_p1_encode(253, 1, params, 0, out, sizeof out, 0) == 6, "Protocol 1.0 does not take the ID 253", 0);
+    expect(dxl_p1_encode(255, 1, params, sizeof params, out, 0, 0) == -DXL_BAD_ID, "Protocol 1.0 takes the ID 255", 0);
+    expect(dxl_mercury_encode(253, 1, params, sizeof params, out, 0, 0) == -DXL_BAD_ID, "Mercury takes the ID 253", 0);
+    expect(dxl_mercury_encode(252, 1, params, sizeof params, out, 0, 0) == -DXL_TOO_LONG, "254 parameters are written", 0);
+    expect(dxl_p1_encode(254, 1, params, 253, out, sizeof out, 0) == DXL_V1_MAX_PACKET, "253 parameters are not written", 0);
+    expect(dxl_p1_encode(254, 1, params, 253, out, sizeof out, 1) == -DXL_NO_ROOM, "258 bytes are room for 259", 0);
+}
+
 static void refusals(void)
 {
     uint8_t out[10] = {0};
@@ -85,26 +108,49 @@ static void refusals(void)
     expect(dxl_unstuff(cut, 3, out, 2) == -DXL_NO_ROOM, "two bytes are room for three", 0);
 }
 
+/* The next row of packets and its number, from 1 on: how many bytes it has, or 0 at the file's end. */
+static size_t next_row(FILE *file, char line[MAX_LINE], uint8_t *bytes, unsigned *number)
+{
+    while (fgets(line, MAX_LINE, file) != NULL) {
+        const char *hex = strrchr(line, '|');
+        size_t n = hex == NULL ? 0 : bytes_of(hex + 1, bytes);
+        ++*number;
+        if (line[0] == '#')
+            continue;
+        if (n >= 2)
+            return n;
+        expect(0, "is not a row of packets", *number);
+    }
+    return 0;
+}
+
+/* How many packets of Protocol 1.0 and Mercury there are. */
+static unsigned published_v1(FILE *file)
+{
+    char line[MAX_LINE];
+    uint8_t bytes[MAX_BYTES];
+    unsigned number = 0, packets = 0;
+    for (size_t n; (n = next_row(file, line, bytes, &number)) != 0; packets++) {
+        expect(encodes_v1_again(dxl_p1_encode, bytes, n), "a packet is not what the encoder of Protocol 1.0 writes", number);
+        expect(encodes_v1_again(dxl_mercury_encode, bytes, n), "a packet is not what Mercury's encoder writes", number);
+    }
+    expect(packets != 0, "the file has no packet of Protocol 1.0", number);
+    return packets;
+}
+
 int main(int argc, char **argv)
 {
     char line[MAX_LINE];
-    unsigned number = 0, good = 0, misprints = 0;
-    FILE *file = argc == 2 ? fopen(argv[1], "r") : NULL;
-    if (file == NULL) {
-        fprintf(stderr, "C: no file of packets to read\n");
+    uint8_t bytes[MAX_BYTES];
+    unsigned number = 0, good = 0, misprints = 0, old;
+    FILE *file = argc == 3 ? fopen(argv[1], "r") : NULL;
+    FILE *file_v1 = argc == 3 ? fopen(argv[2], "r") : NULL;
+    if (file == NULL || file_v1 == NULL) {
+        fprintf(stderr, "C: no files of packets to read\n");
         return 2;
     }
-    while (fgets(line, sizeof line, file) != NULL) {
-        uint8_t bytes[MAX_BYTES];
-        const char *hex = strrchr(line, '|');
-        size_t n;
-        number++;
-        if (line[0] == '#')
-            continue;
-        n = hex == NULL ? 0 : bytes_of(hex + 1, bytes);
-        if (n < 2) {
-            expect(0, "is not a row of packets.txt", number);
-        } else if (strstr(line, "| good |") != NULL) {
+    for (size_t n; (n = next_row(file, line, bytes, &number)) != 0;) {
+        if (strstr(line, "| good |") != NULL) {
             size_t cut = number % (n - 1);
             uint16_t whole = dxl_crc16(0, bytes, n - 2);
             expect(ends_with_checksum(bytes, n), "a good packet's checksum is wrong", number);
@@ -120,12 +166,16 @@ int main(int argc, char **argv)
         }
     }
     fclose(file);
+    old = published_v1(file_v1);
+    fclose(file_v1);
     refusals();
+    refusals_v1();
     if (good == 0 || misprints == 0)
         expect(0, "the file has no good packet or no misprint", number);
     if (failures != 0)
         return 1;
     printf("C: %u published packets have the right checksum and are encoded again as printed\n", good);
     printf("C: %u misprints have a wrong one\n", misprints);
+    printf("C: %u packets of Protocol 1.0 and Mercury are encoded again as they stand\n", old);
     return 0;
 }

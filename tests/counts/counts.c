@@ -110,6 +110,16 @@ static int64_t encode(void)
     return dxl_encode(given.id, DXL_INST_STATUS, lent.params, given.n, lent.packet, given.room, 0);
 }
 
+static int64_t p1_encode(void)
+{
+    return dxl_p1_encode(given.id, 0, lent.params, given.n, lent.packet, given.room, 0);
+}
+
+static int64_t mercury_encode(void)
+{
+    return dxl_mercury_encode(given.id, 0, lent.params, given.n, lent.packet, given.room, 0);
+}
+
 static int64_t unstuff(void)
 {
     return dxl_unstuff(lent.packet + 7, given.n, lent.body, given.room);
@@ -144,6 +154,24 @@ static void count_packets(void)
     count(NAME(dxl_encode), "too long", encode, -DXL_TOO_LONG);
     given.id = 255;
     count(NAME(dxl_encode), "bad ID", encode, -DXL_BAD_ID);
+}
+
+static void count_v1_packets(void)
+{
+    given.id = 1;
+    given.room = DXL_V1_MAX_PACKET;
+    draw(lent.params, sizeof lent.params);
+    given.n = 4;
+    count(NAME(dxl_p1_encode), "10 bytes", p1_encode, 10);
+    count(NAME(dxl_mercury_encode), "10 bytes", mercury_encode, 10);
+    given.n = 253;
+    count(NAME(dxl_p1_encode), "259 bytes", p1_encode, DXL_V1_MAX_PACKET);
+    given.room--;
+    count(NAME(dxl_p1_encode), "no room", p1_encode, -DXL_NO_ROOM);
+    given.n = 254;
+    count(NAME(dxl_p1_encode), "too long", p1_encode, -DXL_TOO_LONG);
+    given.id = 253;
+    count(NAME(dxl_mercury_encode), "bad ID", mercury_encode, -DXL_BAD_ID);
 }
 
 /* Reads the line in chunks: how many events there are, or minus a refusal. */
@@ -538,6 +566,7 @@ int main(void)
 {
     count_checksums();
     count_packets();
+    count_v1_packets();
     count_feeds();
     count_lines();
     count_gaps();

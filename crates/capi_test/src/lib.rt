@@ -1,6 +1,7 @@
 // Exports that only the comparison tests and the benchmark call: parts that firmware does not need by themselves.
 use numbers::StepNumbers;
 use packet::Judgement;
+use packet_rules::Judgement as JudgementV1;
 use reader::Reader;
 use stuffing::Checked;
 ghost use mathlib.Core.Path.{_≡_};
@@ -16,9 +17,14 @@ ghost use Rattle.reading.specs.Calls.{feed as Call·feed};
 ghost use Rattle.reading.specs.Progress.{Settles};
 ghost use Rattle.packet_front.specs.Begun.{lacks};
 ghost use Rattle.packet.specs.Verdict.{verdict, answerFor, protocol2, settledBy};
+ghost use Rattle.packet_rules.specs.Shape.{rules};
+ghost use Rattle.packet_rules.specs.Answers.{answerBy};
+ghost use Rattle.packet_v1.specs.Packet.{lastOfP1, lastOfMercury};
+ghost use Rattle.packet_v1.specs.Verdict.{shapeUpTo, protocol1, mercury};
+ghost use Rattle.packet_v1.specs.Kept.{RulesKept};
 ghost use Rattle.reader.specs.Records.{stepOn, leftBy, lent, packetOn, ReaderPromises};
 ghost use Rattle.numbers.specs.Exported.{stepNumbers};
-ghost use Rattle.capi_test.specs.Numbers.{testNumber, verdictNumbers};
+ghost use Rattle.capi_test.specs.Numbers.{testNumber, verdictNumbers, verdictV1Numbers};
 
 // A verdict as numbers. kind 0: nothing; 1: a packet of `count` bytes; 2: a bad checksum of `id`; 3: waiting for `count` bytes.
 #[repr(C)]
@@ -92,6 +98,52 @@ pub extern "C" fn dxl_test_verdict(segment: &[u8], offset: usize) -> VerdictNumb
             count: n,
         },
     }
+}
+
+// The verdict of Protocol 1.0 or Mercury, by the largest ID of a device.
+fn verdict_v1(last: u8, segment: &[u8], offset: usize) -> VerdictNumbers
+    ensures { λ r. ⌜ r ≡ verdictV1Numbers (answerBy (rules (shapeUpTo last)) (drop offset (now (segment .entry)))) ⌝ }
+{
+    match packet_v1::judge(last, segment, offset) {
+        JudgementV1::Nothing => VerdictNumbers {
+            kind: 0,
+            id: 0,
+            count: 0,
+        },
+        JudgementV1::Packet(n) => VerdictNumbers {
+            kind: 1,
+            id: 0,
+            count: n,
+        },
+        JudgementV1::BadChecksum(id) => VerdictNumbers {
+            kind: 2,
+            id,
+            count: 0,
+        },
+        JudgementV1::Waiting(n) => VerdictNumbers {
+            kind: 3,
+            id: 0,
+            count: n,
+        },
+    }
+}
+
+// The verdict of Protocol 1.0. That its rules keep the laws of packet rules is promised too. [O1-O8]
+#[no_mangle]
+pub extern "C" fn dxl_test_p1_verdict(segment: &[u8], offset: usize) -> VerdictNumbers
+    ensures { λ r. ⌜ r ≡ verdictV1Numbers (answerBy protocol1 (drop offset (now (segment .entry)))) ⌝ }
+    ensures { λ _. ⌜ RulesKept lastOfP1 ⌝ }
+{
+    verdict_v1(packet_v1::LAST_OF_P1, segment, offset)
+}
+
+// The verdict of Mercury, likewise. [O1-O8]
+#[no_mangle]
+pub extern "C" fn dxl_test_mercury_verdict(segment: &[u8], offset: usize) -> VerdictNumbers
+    ensures { λ r. ⌜ r ≡ verdictV1Numbers (answerBy mercury (drop offset (now (segment .entry)))) ⌝ }
+    ensures { λ _. ⌜ RulesKept lastOfMercury ⌝ }
+{
+    verdict_v1(packet_v1::LAST_OF_MERCURY, segment, offset)
 }
 
 // What a feeding call by value returns: its step as numbers, the packet's bytes followed by 0, and the record from now on.

@@ -26,6 +26,10 @@ use Rattle.packet_front.specs.Begun.{frontAgrees, lengthAgrees}
 use Rattle.packet.specs.Verdict.{verdict, protocol2}
 use Rattle.packet.proofs.Laws.{laws}
 use Rattle.encoder.specs.Writing.{withChecksum, packetOf}
+use Rattle.packet_rules.specs.Shape.{verdict as shapeVerdict}
+use Rattle.packet_v1.specs.Packet.{sum, checksumRight as sumRight}
+use Rattle.packet_v1.specs.Verdict.{protocol1, mercury, frontAgrees as frontAgreesV1, lengthAgrees as lengthAgreesV1}
+use Rattle.encoder_v1.specs.Writing.{packetOf as packetV1Of}
 use Rattle.log_index.specs.Last.{lastPacket, lastFrom, indexFrom}
 use Rattle.log_layout.specs.Log.{laid, directory, logOf}
 use Rattle.registers.specs.Registers.{registers, permitsBy}
@@ -45,7 +49,7 @@ use Rattle.exchange.specs.Exchange.{idHeard}
 use Rattle.exchange.specs.Demand1.{packetError}
 use Rattle.instructions.specs.declared.RegisteredWrite.{RegisteredWrite}
 use Rattle.cases.specs.Exchanges.{Lent, answerTo, leftAfter}
-use Rattle.cases.specs.Cases.{Case, packet, stuffing, exchange, refusal, log, apart, across, Claim, table, CasesHold}
+use Rattle.cases.specs.Cases.{Case, packet, stuffing, exchange, refusal, log, apart, across, packetV1, onlyP1, Claim, table, CasesHold}
 
 -- ---- equality as a test
 
@@ -74,6 +78,18 @@ packet-of (isPacket m) n e = ap isPacket (eqb-true m n e)
 packet-of (isBadChecksum id) n e = let z : _≡_ {A = ℕ} 0 1 = cc in absurd (omega arith)
 packet-of isWaiting n e = let z : _≡_ {A = ℕ} 0 1 = cc in absurd (omega arith)
 packet-of isNothing n e = let z : _≡_ {A = ℕ} 0 1 = cc in absurd (omega arith)
+
+abbrev isNone : Verdict → Bool
+isNone (isPacket m) = false
+isNone (isBadChecksum id) = false
+isNone isWaiting = false
+isNone isNothing = true
+
+none-is : (v : Verdict) → isNone v ≡ true → v ≡ isNothing
+none-is (isPacket m) e = let z : _≡_ {A = ℕ} 0 1 = cc in absurd (omega arith)
+none-is (isBadChecksum id) e = let z : _≡_ {A = ℕ} 0 1 = cc in absurd (omega arith)
+none-is isWaiting e = let z : _≡_ {A = ℕ} 0 1 = cc in absurd (omega arith)
+none-is isNothing e = refl
 
 abbrev sameRegistered : RegisteredWrite → RegisteredWrite → Bool
 sameRegistered v w =
@@ -144,6 +160,10 @@ right (refusal bytes before number) = eqb (packetError (before .table) (before .
 right (log segments numbers n) = same (logOf segments) (laid numbers (joined segments)) && eqb (length (logOf segments)) n
 right (apart noise beyond) = not (reachesAcross protocol2 noise beyond)
 right (across noise beyond) = reachesAcross protocol2 noise beyond
+right (packetV1 id body bytes) =
+    same (packetV1Of id body) bytes
+    && (isPacketOf (protocol1 .verdict bytes) (length bytes) && isPacketOf (mercury .verdict bytes) (length bytes))
+right (onlyP1 bytes) = isPacketOf (protocol1 .verdict bytes) (length bytes) && isNone (mercury .verdict bytes)
 
 claimed : (c : Case) → right c ≡ true → Claim c
 claimed (packet id body bytes) e =
@@ -174,6 +194,19 @@ claimed (log segments numbers n) e =
 claimed (apart noise beyond) e = across-decided protocol2 laws noise beyond .0 (fails (reachesAcross protocol2 noise beyond) e)
 claimed (across noise beyond) e =
     λ n. both-ways (reachesAcross protocol2 noise beyond) e (across-decided protocol2 laws noise beyond .1 n)
+claimed (packetV1 id body bytes) e =
+    let a = same (packetV1Of id body) bytes in
+    let b = isPacketOf (protocol1 .verdict bytes) (length bytes) in
+    let c = isPacketOf (mercury .verdict bytes) (length bytes) in
+    let r = and-right a (b && c) e in (
+      same-lists (packetV1Of id body) bytes (and-left a (b && c) e),
+      packet-of (protocol1 .verdict bytes) (length bytes) (and-left b c r),
+      packet-of (mercury .verdict bytes) (length bytes) (and-right b c r),
+    )
+claimed (onlyP1 bytes) e =
+    let a = isPacketOf (protocol1 .verdict bytes) (length bytes) in
+    let b = isNone (mercury .verdict bytes) in
+    (packet-of (protocol1 .verdict bytes) (length bytes) (and-left a b e), none-is (mercury .verdict bytes) (and-right a b e))
 
 abbrev allRight : List Case → Bool
 allRight [] = true
@@ -187,5 +220,5 @@ each (d ∷ cs) e c m =
 
 -- the test is computed here
 pub cases-hold : CasesHold
-unfolding reachesAcross readFuel readFrom reading lastPacket lastFrom indexFrom laid directory logOf reduceIf shift shifts crcByte crcFrom stuffAfter wellAfter unstuffAfter lengthOf bodyOf checksumRight withChecksum packetOf frontAgrees lengthAgrees verdict registers permitsBy numberAt valueAt bytesOf put freshened everyByte everyTouched goalInside limitsKept writeRule readRule read write sameLimits regWrite action occurs searchFrom heardInstruction executed stateRefusal roomRefusal callRefusal removalRefusal idHeard
+unfolding reachesAcross readFuel readFrom reading lastPacket lastFrom indexFrom laid directory logOf reduceIf shift shifts crcByte crcFrom stuffAfter wellAfter unstuffAfter lengthOf bodyOf checksumRight withChecksum packetOf frontAgrees lengthAgrees verdict registers permitsBy numberAt valueAt bytesOf put freshened everyByte everyTouched goalInside limitsKept writeRule readRule read write sameLimits regWrite action occurs searchFrom heardInstruction executed stateRefusal roomRefusal callRefusal removalRefusal idHeard shapeVerdict sum sumRight frontAgreesV1 lengthAgreesV1 packetV1Of
 cases-hold = each table refl

@@ -4,12 +4,14 @@ use mathlib.Core.Bool.{true}
 use mathlib.Core.List.{List, [], _∷_, _++_, List·Memᴰ}
 use Prim.Native.Nat.{ℕ}
 use lib.ListN.{length, take, drop, replicate}
-use Rattle.reading.specs.Rules.{isPacket}
+use Rattle.reading.specs.Rules.{isPacket, isNothing}
 use Rattle.reading.specs.Promise.{joined, NoneAcross}
 use Rattle.stuffing.specs.Stuffing.{stuff, wellStuffed, unstuff}
 use Rattle.packet.specs.Packet.{WellFormed}
 use Rattle.packet.specs.Verdict.{verdict, protocol2}
 use Rattle.encoder.specs.Writing.{packetOf}
+use Rattle.packet_v1.specs.Verdict.{protocol1, mercury}
+use Rattle.encoder_v1.specs.Writing.{packetOf as packetV1Of}
 use Rattle.log_layout.specs.Log.{laid, logOf}
 use Rattle.registers.specs.Registers.{maxPosition, minPosition, goalPosition}
 use Rattle.items.specs.Items.{put}
@@ -35,6 +37,10 @@ pub data Case : Type 0 where
   apart : List ℕ → List ℕ → Case
   -- one does
   across : List ℕ → List ℕ → Case
+  -- the packet of Protocol 1.0, and of Mercury, with an ID and a body, and its bytes
+  packetV1 : ℕ → List ℕ → List ℕ → Case
+  -- a packet of Protocol 1.0 whose ID Mercury does not allow
+  onlyP1 : List ℕ → Case
 
 -- what each case says
 abbrev pub Claim : Case → Type 0
@@ -45,6 +51,9 @@ Claim (refusal bytes before number) = packetError (before .table) (before .regis
 Claim (log segments numbers n) = (logOf segments ≡ laid numbers (joined segments)) × (length (logOf segments) ≡ n)
 Claim (apart noise beyond) = NoneAcross protocol2 noise beyond
 Claim (across noise beyond) = ¬ NoneAcross protocol2 noise beyond
+Claim (packetV1 id body bytes) =
+    (packetV1Of id body ≡ bytes) × (protocol1 .verdict bytes ≡ isPacket (length bytes)) × (mercury .verdict bytes ≡ isPacket (length bytes))
+Claim (onlyP1 bytes) = (protocol1 .verdict bytes ≡ isPacket (length bytes)) × (mercury .verdict bytes ≡ isNothing)
 
 -- ---- the packets
 
@@ -80,6 +89,13 @@ lacksFF = 0xFF ∷ 0xFF ∷ 0xFD ∷ 0x00 ∷ 0x01 ∷ 0x04 ∷ 0x00 ∷ 0x02 �
 -- Ping to 1 with its last body byte changed by 0F and the low byte of its checksum by 22: the checksum is right again
 abbrev pub spoiledPing : List ℕ
 spoiledPing = 0xFF ∷ 0xFF ∷ 0xFD ∷ 0x00 ∷ 0x01 ∷ 0x03 ∷ 0x00 ∷ 0x0E ∷ 0x3B ∷ 0x4E ∷ []
+
+-- in Protocol 1.0: Read of one byte at 43 from device 1; Ping to 253, whose sum passes 255 [O12]
+abbrev pub readTemperature : List ℕ
+readTemperature = 0xFF ∷ 0xFF ∷ 0x01 ∷ 0x04 ∷ 0x02 ∷ 0x2B ∷ 0x01 ∷ 0xCC ∷ []
+
+abbrev pub pingTo253 : List ℕ
+pingTo253 = 0xFF ∷ 0xFF ∷ 0xFD ∷ 0x02 ∷ 0x01 ∷ 0xFF ∷ []
 
 -- ---- the cases
 
@@ -148,6 +164,9 @@ table =
     ∷ apart pingTo1 pingStatus
     ∷ across lacksFF pingTo1
     ∷ across (take 1 pingTo1) (drop 1 pingTo1)
+    -- the old boards
+    ∷ packetV1 1 (0x02 ∷ 0x2B ∷ 0x01 ∷ []) readTemperature
+    ∷ onlyP1 pingTo253
     ∷ []
 
 abbrev pub CasesHold : Type 0

@@ -1,5 +1,8 @@
 use exports::{Answer, Carried, Event, Found, Reader, Registered, Reply, Step};
 
+/// ID, instruction, parameters, output buffer and offset.
+pub type EncodeCall = fn(u8, u8, &[u8], &mut [u8], usize) -> i64;
+
 /// Table, registered write, kind, ID, body and reply buffer.
 pub type DeviceCall = fn(&mut [u8], Registered, u8, u8, &[u8], &mut [u8]) -> Answer;
 
@@ -17,7 +20,9 @@ pub type CarryPacketCall = fn(&mut [u8], Registered, &[u8], &mut [u8]) -> Carrie
 pub struct Calls {
     pub crc16: fn(u16, &[u8]) -> u16,
     pub crc16_flipped: fn(u16, &[u8], usize) -> u16,
-    pub encode: fn(u8, u8, &[u8], &mut [u8], usize) -> i64,
+    pub encode: EncodeCall,
+    pub p1_encode: EncodeCall,
+    pub mercury_encode: EncodeCall,
     pub unstuff: fn(&[u8], &mut [u8]) -> i64,
     pub feed: fn(&mut [u8; 1030], &mut usize, &[u8], &mut [u8; 1031]) -> Step,
     pub gap: fn(&mut [u8; 1030], &mut usize, &mut [u8; 1031]) -> Step,
@@ -40,6 +45,8 @@ pub const PROVED: Calls = Calls {
     crc16: exports::crc16,
     crc16_flipped: exports::crc16_flipped,
     encode: exports::encode,
+    p1_encode: exports::p1_encode,
+    mercury_encode: exports::mercury_encode,
     unstuff: exports::unstuff,
     feed: exports::feed,
     gap: exports::gap,

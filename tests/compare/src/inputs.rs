@@ -1,6 +1,6 @@
 //! Random inputs that lead to the corners of the rules.
 
-use reference::{framed, log_of, packet_of, reading, stuff, Event, Rng, MOST_HELD};
+use reference::{framed, log_of, packet_of, reading, stuff, v1, Event, Rng, MOST_HELD};
 
 /// A body rich in FF and FD, so that stuffing is met at every turn; sometimes any bytes.
 pub fn body(rng: &mut Rng, length: usize) -> Vec<u8> {
@@ -60,6 +60,22 @@ pub fn packet(rng: &mut Rng, length: usize) -> Vec<u8> {
     } else {
         packet_of(id, &body)
     }
+}
+
+/// Parameters of Protocol 1.0: few, those around the most that fit, and beyond.
+pub fn v1_length(rng: &mut Rng) -> usize {
+    match rng.between(0, 99) {
+        0 => rng.between(256, 70_000),
+        1..=40 => rng.between(251, 256),
+        41..=55 => rng.between(13, 249),
+        _ => rng.between(0, 12),
+    }
+}
+
+/// Bytes in the form of a packet of Protocol 1.0, with a body of so many bytes, at most 254. Some have an ID that is not allowed.
+pub fn v1_packet(rng: &mut Rng, length: usize) -> Vec<u8> {
+    let id = id(rng);
+    v1::packet_of(id, &body(rng, length))
 }
 
 /// Noise that looks like the beginnings of packets: header bytes, IDs at the ends of their range, lengths that are soon there,

@@ -1,7 +1,8 @@
 //! The calls that keep nothing: each goes to an export and to the reference, and all that is answered and left must be the same.
 
+use crate::calls::EncodeCall;
 use crate::{hex, number, Calls, Comparison, Difference, Guarded, Lent};
-use reference::{Event, Found, Rng};
+use reference::{v1, Answer, Event, Found, Rng};
 
 /// The checksum functions beside the one that the exports stand on.
 const OTHER_LEAVES: [(&str, fn(u16, &[u8]) -> u16); 2] =
@@ -46,13 +47,32 @@ pub struct Encoded<'a> {
 }
 
 pub fn compare_encode(calls: &Calls, rng: &mut Rng, what: Encoded) -> Result<i64, Difference> {
+    compare_encoder("dxl_encode", calls.encode, reference::encode, rng, what)
+}
+
+pub fn compare_v1_encode(calls: &Calls, protocol: v1::Protocol, rng: &mut Rng, what: Encoded) -> Result<i64, Difference> {
+    let (export, call) = match protocol {
+        v1::Protocol::P1 => ("dxl_p1_encode", calls.p1_encode),
+        v1::Protocol::Mercury => ("dxl_mercury_encode", calls.mercury_encode),
+    };
+    let second = |id, instruction, params: &[u8], out: &mut [u8], at| v1::encode(protocol, id, instruction, params, out, at);
+    compare_encoder(export, call, second, rng, what)
+}
+
+fn compare_encoder(
+    export: &'static str,
+    call: EncodeCall,
+    second: impl Fn(u8, u8, &[u8], &mut [u8], usize) -> Answer,
+    rng: &mut Rng,
+    what: Encoded,
+) -> Result<i64, Difference> {
     let Encoded { id, instruction, params, room, at } = what;
     let mut ours = Lent::new(rng, params, room);
     let mut expected = ours.clone();
-    let answer = ours.call(|params, out| (calls.encode)(id, instruction, params, out, at));
-    let wanted = expected.call(|params, out| reference::encode(id, instruction, params, out, at));
+    let answer = ours.call(|params, out| call(id, instruction, params, out, at));
+    let wanted = expected.call(|params, out| second(id, instruction, params, out, at));
     let given = || format!("ID {id}, instruction {instruction:02x}, at {at} of {room}, parameters {}", hex(params));
-    let comparison = Comparison { export: "dxl_encode", given: &given };
+    let comparison = Comparison { export, given: &given };
     comparison.same("the answer", answer, number(wanted))?;
     comparison.same_lent(&ours, &expected)?;
     Ok(answer)

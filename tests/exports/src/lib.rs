@@ -103,6 +103,24 @@ mod raw {
             n_out: usize,
             at: usize,
         ) -> i64;
+        pub fn dxl_p1_encode(
+            id: u8,
+            instruction: u8,
+            params: *const u8,
+            n_params: usize,
+            out: *mut u8,
+            n_out: usize,
+            at: usize,
+        ) -> i64;
+        pub fn dxl_mercury_encode(
+            id: u8,
+            instruction: u8,
+            params: *const u8,
+            n_params: usize,
+            out: *mut u8,
+            n_out: usize,
+            at: usize,
+        ) -> i64;
         pub fn dxl_unstuff(body: *const u8, n_body: usize, out: *mut u8, n_out: usize) -> i64;
 
         pub fn dxl_feed(held: *mut u8, count: *mut usize, chunk: *const u8, n: usize, packet: *mut u8) -> Step;
@@ -171,6 +189,8 @@ mod raw {
         pub fn dxl_test_well_stuffed(body: *const u8, n: usize) -> u8;
         pub fn dxl_test_stuff(first: u8, rest: *const u8, n_rest: usize, out: *mut u8, n_out: usize) -> usize;
         pub fn dxl_test_verdict(segment: *const u8, n: usize, offset: usize) -> Verdict;
+        pub fn dxl_test_p1_verdict(segment: *const u8, n: usize, offset: usize) -> Verdict;
+        pub fn dxl_test_mercury_verdict(segment: *const u8, n: usize, offset: usize) -> Verdict;
         pub fn dxl_test_feed_value(held: *const u8, count: usize, chunk: *const u8, n: usize) -> Fed;
     }
 }
@@ -188,6 +208,14 @@ pub fn crc16_flipped(crc: u16, flips: &[u8], after: usize) -> u16 {
 
 pub fn encode(id: u8, instruction: u8, params: &[u8], out: &mut [u8], at: usize) -> i64 {
     unsafe { raw::dxl_encode(id, instruction, params.as_ptr(), params.len(), out.as_mut_ptr(), out.len(), at) }
+}
+
+pub fn p1_encode(id: u8, instruction: u8, params: &[u8], out: &mut [u8], at: usize) -> i64 {
+    unsafe { raw::dxl_p1_encode(id, instruction, params.as_ptr(), params.len(), out.as_mut_ptr(), out.len(), at) }
+}
+
+pub fn mercury_encode(id: u8, instruction: u8, params: &[u8], out: &mut [u8], at: usize) -> i64 {
+    unsafe { raw::dxl_mercury_encode(id, instruction, params.as_ptr(), params.len(), out.as_mut_ptr(), out.len(), at) }
 }
 
 pub fn unstuff(body: &[u8], out: &mut [u8]) -> i64 {
@@ -324,6 +352,18 @@ pub mod test {
     /// The verdict on the bytes from offset on in an open segment, as (kind, ID, count).
     pub fn verdict(segment: &[u8], offset: usize) -> (u8, u8, usize) {
         let verdict = unsafe { raw::dxl_test_verdict(segment.as_ptr(), segment.len(), offset) };
+        (verdict.kind, verdict.id, verdict.count)
+    }
+
+    /// The verdict of Protocol 1.0, likewise.
+    pub fn p1_verdict(segment: &[u8], offset: usize) -> (u8, u8, usize) {
+        let verdict = unsafe { raw::dxl_test_p1_verdict(segment.as_ptr(), segment.len(), offset) };
+        (verdict.kind, verdict.id, verdict.count)
+    }
+
+    /// The verdict of Mercury, likewise.
+    pub fn mercury_verdict(segment: &[u8], offset: usize) -> (u8, u8, usize) {
+        let verdict = unsafe { raw::dxl_test_mercury_verdict(segment.as_ptr(), segment.len(), offset) };
         (verdict.kind, verdict.id, verdict.count)
     }
 

@@ -1,3 +1,5 @@
+use reference::v1;
+
 /// A call, a short list of calls, or a change of the memory that later calls borrow. Any of them may follow any other, so that a
 /// case from which some are dropped is a case again.
 #[derive(Clone, PartialEq, Eq, Debug)]
@@ -13,6 +15,15 @@ pub enum Operation {
         flips: Vec<u8>,
     },
     Encode {
+        id: u8,
+        instruction: u8,
+        room: usize,
+        at: usize,
+        params: Vec<u8>,
+    },
+    /// The encoder of Protocol 1.0 or Mercury.
+    EncodeV1 {
+        protocol: v1::Protocol,
         id: u8,
         instruction: u8,
         room: usize,
@@ -119,7 +130,7 @@ impl Operation {
         match self {
             Operation::Checksum { bytes, .. } => bytes.len(),
             Operation::Flip { flips, .. } => flips.len(),
-            Operation::Encode { params, .. } => params.len(),
+            Operation::Encode { params, .. } | Operation::EncodeV1 { params, .. } => params.len(),
             Operation::Unstuff { body, .. } | Operation::Hear { body, .. } => body.len(),
             Operation::Plain { segment, .. } => segment.len(),
             Operation::LogWrite { lengths, bytes, .. } => 4 * lengths.len() + bytes.len(),

@@ -2,9 +2,9 @@
 
 use crate::{Case, Operation};
 use compare::{compare_checksum, compare_encode, compare_flipped, compare_log_check, compare_log_last, compare_log_write};
-use compare::{compare_next_event, compare_status, compare_unstuff, BAD_CHECKSUM, PACKET};
+use compare::{compare_next_event, compare_status, compare_unstuff, compare_v1_encode, BAD_CHECKSUM, PACKET};
 use compare::{hex, Calls, Comparison, DevicePair, Difference, Encoded, Guarded, ReaderPair, Stepped, Told};
-use reference::{fresh, Event, Registered, Rng, MOST_HELD};
+use reference::{fresh, v1, Event, Registered, Rng, MOST_HELD};
 use std::collections::BTreeMap;
 
 /// Room for any unstuffed body.
@@ -86,6 +86,15 @@ impl<'a> World<'a> {
             &Operation::Encode { id, instruction, room, at, ref params } => {
                 let answer = compare_encode(self.calls, &mut self.rng, Encoded { id, instruction, params, room, at })?;
                 self.tally.call("dxl_encode", answer.min(0));
+            }
+            &Operation::EncodeV1 { protocol, id, instruction, room, at, ref params } => {
+                let what = Encoded { id, instruction, params, room, at };
+                let answer = compare_v1_encode(self.calls, protocol, &mut self.rng, what)?;
+                let export = match protocol {
+                    v1::Protocol::P1 => "dxl_p1_encode",
+                    v1::Protocol::Mercury => "dxl_mercury_encode",
+                };
+                self.tally.call(export, answer.min(0));
             }
             Operation::Unstuff { room, body } => drop(self.unstuff(body, *room)?),
             Operation::Plain { from, segment } => self.plain(segment, *from)?,

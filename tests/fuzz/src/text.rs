@@ -3,7 +3,7 @@
 
 use crate::{Case, Operation};
 use compare::hex;
-use reference::MOST_HELD;
+use reference::{v1, MOST_HELD};
 use std::fmt;
 
 const VERSION: &str = "mednukals fuzz case, version 1";
@@ -41,6 +41,10 @@ fn line(operation: &Operation) -> String {
         Operation::Encode { id, instruction, room, at, params } => {
             format!("encode id={id} instruction=0x{instruction:02x} room={room} at={at} params={}", hex(params))
         }
+        Operation::EncodeV1 { protocol, id, instruction, room, at, params } => {
+            let (name, params) = (name_of(*protocol), hex(params));
+            format!("encode_v1 protocol={name} id={id} instruction=0x{instruction:02x} room={room} at={at} params={params}")
+        }
         Operation::Unstuff { room, body } => format!("unstuff room={room} body={}", hex(body)),
         Operation::Plain { from, segment } => format!("plain from={from} segment={}", hex(segment)),
         Operation::LogWrite { room, lengths, bytes } => {
@@ -69,6 +73,13 @@ fn line(operation: &Operation) -> String {
         Operation::Receive { room, packet } => format!("receive room={room} packet={}", hex(packet)),
         Operation::Exchange { chunk } => format!("exchange chunk={}", hex(chunk)),
         Operation::Silence => "silence".to_string(),
+    }
+}
+
+fn name_of(protocol: v1::Protocol) -> &'static str {
+    match protocol {
+        v1::Protocol::P1 => "p1",
+        v1::Protocol::Mercury => "mercury",
     }
 }
 
@@ -103,6 +114,14 @@ fn operation(line: &str) -> Result<Operation, String> {
         "checksum" => Operation::Checksum { start: fields.number("start")?, bytes: fields.bytes("bytes")? },
         "flip" => Operation::Flip { crc: fields.number("crc")?, after: fields.number("after")?, flips: fields.bytes("flips")? },
         "encode" => Operation::Encode {
+            id: fields.number("id")?,
+            instruction: fields.number("instruction")?,
+            room: fields.room("room")?,
+            at: fields.number("at")?,
+            params: fields.bytes("params")?,
+        },
+        "encode_v1" => Operation::EncodeV1 {
+            protocol: fields.protocol("protocol")?,
             id: fields.number("id")?,
             instruction: fields.number("instruction")?,
             room: fields.room("room")?,
@@ -201,6 +220,12 @@ impl<'a> Fields<'a> {
             room if room > MOST_ROOM => Err(format!("`{key}` is above {MOST_ROOM}: {room}")),
             room => Ok(room),
         }
+    }
+
+    fn protocol(&mut self, key: &str) -> Result<v1::Protocol, String> {
+        let value = self.value(key)?;
+        let known = v1::BOTH.into_iter().find(|&protocol| name_of(protocol) == value);
+        known.ok_or_else(|| format!("`{key}` is neither p1 nor mercury: `{}`", short(value)))
     }
 
     /// The one number that may be negative.

@@ -34,10 +34,12 @@ fn other_seeds_other_cases() {
 }
 
 /// What has to come up in a short search, and how each export answers then.
-const ANSWERS: [(&str, &[i64]); 17] = [
+const ANSWERS: [(&str, &[i64]); 22] = [
     ("dxl_crc16", &[0]),
     ("dxl_crc16_flipped", &[0]),
     ("dxl_encode", &[0, -11, -12, -13]),
+    ("dxl_p1_encode", &[0, -11, -12, -13]),
+    ("dxl_mercury_encode", &[0, -11, -12, -13]),
     ("dxl_unstuff", &[0, -13, -14]),
     ("dxl_feed", &[0, 1, 2, 25]),
     ("dxl_gap", &[0, 1, 2, 25]),

@@ -1,6 +1,7 @@
 //! The text form of cases.
 
 use fuzz::{case, parse, write, Malformed, Operation};
+use reference::v1;
 
 #[test]
 fn round_trip() {
@@ -21,6 +22,8 @@ fn every_operation_by_hand() {
         checksum start=0x1234 bytes=00ff\n\
         flip crc=0x4e19 after=18446744073709551615 flips=10\n\
         encode id=254 instruction=0x03 room=40 at=18446744073709551615 params=\n\
+        encode_v1 protocol=p1 id=253 instruction=0x03 room=40 at=2 params=1e\n\
+        encode_v1 protocol=mercury id=252 instruction=0x01 room=6 at=0 params=\n\
         unstuff room=3 body=fffffdfd\n\
         plain from=18446744073709551615 segment=fffffd\n\
         log room=1050 lengths=0a000000ffffffff bytes=07\n\
@@ -48,6 +51,8 @@ fn every_operation_by_hand() {
         Operation::Checksum { start: 0x1234, bytes: vec![0, 0xFF] },
         Operation::Flip { crc: 0x4E19, after: usize::MAX, flips: vec![0x10] },
         Operation::Encode { id: 254, instruction: 3, room: 40, at: usize::MAX, params: vec![] },
+        Operation::EncodeV1 { protocol: v1::Protocol::P1, id: 253, instruction: 3, room: 40, at: 2, params: vec![0x1E] },
+        Operation::EncodeV1 { protocol: v1::Protocol::Mercury, id: 252, instruction: 1, room: 6, at: 0, params: vec![] },
         Operation::Unstuff { room: 3, body: vec![0xFF, 0xFF, 0xFD, 0xFD] },
         Operation::Plain { from: usize::MAX, segment: vec![0xFF, 0xFF, 0xFD] },
         Operation::LogWrite { room: 1_050, lengths: vec![10, u32::MAX], bytes: vec![7] },

@@ -10,6 +10,7 @@ mod reader;
 mod rng;
 mod stuffing;
 mod table;
+pub mod v1;
 
 pub use checksum::{checksum, flipped};
 pub use device::{carry_out_call, carry_out_packet_call, device_call, packet_call, status_call};

@@ -1,8 +1,8 @@
 //! The calls that keep nothing.
 
 use crate::Operation;
-use compare::{body, body_of_stuffed_length, id, length, place, some_room, stuffed_well_or_not};
-use reference::{stuff, Rng};
+use compare::{body, body_of_stuffed_length, id, length, place, some_room, stuffed_well_or_not, v1_length};
+use reference::{stuff, v1, Rng};
 
 pub fn several(rng: &mut Rng, draw: fn(&mut Rng) -> Operation) -> Vec<Operation> {
     (0..rng.between(1, 4)).map(|_| draw(rng)).collect()
@@ -28,6 +28,15 @@ pub fn encode(rng: &mut Rng) -> Operation {
     let (room, at) = place(rng, 9 + stuff(&body).len());
     let instruction = body.remove(0);
     Operation::Encode { id: id(rng), instruction, room, at, params: body }
+}
+
+pub fn encode_v1(rng: &mut Rng) -> Operation {
+    let length = v1_length(rng);
+    let params = body(rng, length);
+    let (room, at) = place(rng, 6 + length);
+    let protocol = rng.pick(&v1::BOTH);
+    let id = if rng.one_in(3) { rng.pick(&[253, 255]) } else { id(rng) };
+    Operation::EncodeV1 { protocol, id, instruction: rng.byte(), room, at, params }
 }
 
 pub fn unstuff(rng: &mut Rng) -> Operation {

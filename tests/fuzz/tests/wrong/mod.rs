@@ -19,6 +19,10 @@ pub fn all() -> Vec<Wrong> {
         wrong("dxl_crc16_flipped", "the checksum", Calls { crc16_flipped: half_the_bytes_after, ..PROVED }),
         wrong("dxl_encode", "the answer", Calls { encode: late_refusal, ..PROVED }),
         wrong("dxl_encode", "the bytes around input and output", Calls { encode: past_the_end, ..PROVED }),
+        wrong("dxl_p1_encode", "the answer", Calls { p1_encode: exports::mercury_encode, ..PROVED }),
+        wrong("dxl_p1_encode", "the output buffer", Calls { p1_encode: length_left_out_of_the_sum, ..PROVED }),
+        wrong("dxl_mercury_encode", "the answer", Calls { mercury_encode: exports::p1_encode, ..PROVED }),
+        wrong("dxl_mercury_encode", "the answer", Calls { mercury_encode: longest_refused, ..PROVED }),
         wrong("dxl_unstuff", "the answer", Calls { unstuff: room_first, ..PROVED }),
         wrong("dxl_unstuff", "the output buffer", Calls { unstuff: clears_the_rest, ..PROVED }),
         wrong("dxl_feed", "the count of held bytes, with the words around it", Calls { feed: drops_a_byte, ..PROVED }),
@@ -86,6 +90,23 @@ fn past_the_end(id: u8, instruction: u8, params: &[u8], out: &mut [u8], at: usiz
         unsafe { *black_box(out.as_mut_ptr_range().end) ^= 1 };
     }
     answer
+}
+
+fn length_left_out_of_the_sum(id: u8, instruction: u8, params: &[u8], out: &mut [u8], at: usize) -> i64 {
+    let answer = exports::p1_encode(id, instruction, params, out, at);
+    if answer > 0 {
+        let last = at + answer as usize - 1;
+        out[last] = out[last].wrapping_add(out[at + 3]);
+    }
+    answer
+}
+
+/// A length of 255 counts as too long.
+fn longest_refused(id: u8, instruction: u8, params: &[u8], out: &mut [u8], at: usize) -> i64 {
+    if params.len() == 253 && id <= 252 {
+        return -12;
+    }
+    exports::mercury_encode(id, instruction, params, out, at)
 }
 
 /// Room is tested before the stuffing.

@@ -1,0 +1,6 @@
+pub mod Bytes
+pub mod Asked
+pub mod Tests
+pub mod Laws
+pub mod Settled
+pub mod Looks

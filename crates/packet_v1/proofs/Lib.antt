@@ -1,0 +1,4 @@
+pub mod Sums
+mod Lengths
+pub mod Laws
+pub mod Kept

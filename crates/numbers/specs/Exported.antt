@@ -8,6 +8,8 @@ use Rattle.framer.specs.declared.StepEvent.{StepEvent}
 use Rattle.framer.specs.declared.StepEvent.the-variants.{Packet, BadChecksum, Silent, Refused}
 use Rattle.plain_reader.specs.declared.Next.{Next}
 use Rattle.plain_reader.specs.declared.Next.the-variants.{Packet as Next·Packet, BadChecksum as Next·BadChecksum, Nothing}
+use Rattle.plan_check.specs.declared.Tested.{Tested}
+use Rattle.plan_check.specs.declared.Tested.the-variants.{Accepted, NotPlan, BadCount, BadGoal}
 use Rattle.device.specs.Answers.{sent, DeviceAnswer, refused as Device·refused}
 use Rattle.instructions.specs.declared.RegisteredWrite.{RegisteredWrite}
 use Rattle.numbers.specs.declared.StepNumbers.{StepNumbers}
@@ -47,3 +49,10 @@ nextNumbers Nothing = record { offset = 0; count = 0; next = 0; kind = 0; id = 0
 abbrev pub deviceNumbers : DeviceAnswer → RegisteredWrite → DeviceNumbers
 deviceNumbers (sent n slot) w = record { count = exported (count n); slot = slot; registered = w }
 deviceNumbers (Device·refused number) w = record { count = negℤ (pos number); slot = 0; registered = w }
+
+-- what the test of a plan answers: 1 or 0, or minus the refusal number [G5 N11 W9]
+abbrev pub testedNumber : Tested → ℤ
+testedNumber Accepted = pos 1
+testedNumber NotPlan = pos 0
+testedNumber BadCount = negℤ (pos 41)
+testedNumber BadGoal = negℤ (pos 42)

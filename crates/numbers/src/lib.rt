@@ -9,6 +9,8 @@ use framer::Step;
 use framer::StepEvent;
 use instructions::RegisteredWrite;
 use plain_reader::Next;
+use plan_check::Tested;
+use plan_writer::Written;
 use stuffing::Unstuffed;
 use table_rules::Change;
 ghost use mathlib.Core.Path.{_≡_};
@@ -17,8 +19,9 @@ ghost use Rattle.encoder.specs.Encoding.{encodedAnswer};
 ghost use Rattle.table_rules.specs.Outcomes.{changeRefusal};
 ghost use Rattle.device.specs.Answers.{repliedAnswer};
 ghost use Rattle.exchange.specs.Exchange.{exchangedAnswer};
+ghost use Rattle.plan_writer.specs.Filling.{writtenAnswer};
 ghost use Rattle.lists.specs.Answer.{count as Answer·count};
-ghost use Rattle.numbers.specs.Exported.{exported, exportedRefusal, stepNumbers, nextNumbers, deviceNumbers};
+ghost use Rattle.numbers.specs.Exported.{exported, exportedRefusal, stepNumbers, nextNumbers, deviceNumbers, testedNumber};
 
 // What a feeding or gap call returns. kind 0: no event, from a gap call: nothing is left; 1: a packet of `count` bytes; 2: a bad
 // checksum; 25: the reader's count is above 1,030. `id` is that of the packet or of the bad checksum.
@@ -222,5 +225,27 @@ pub fn answered(answer: Answered) -> DeviceNumbers
             slot: 0,
             registered,
         },
+    }
+}
+
+pub fn written(answer: Written) -> i64
+    ensures { λ r. ⌜ r ≡ exported (writtenAnswer answer) ⌝ }
+{
+    match answer {
+        Written::Count(n) => count(n),
+        Written::BadCount => -41,
+        Written::BadGoal => -42,
+        Written::NoRoom => -13,
+    }
+}
+
+pub fn tested(answer: Tested) -> i64
+    ensures { λ r. ⌜ r ≡ testedNumber answer ⌝ }
+{
+    match answer {
+        Tested::Accepted => 1,
+        Tested::NotPlan => 0,
+        Tested::BadCount => -41,
+        Tested::BadGoal => -42,
     }
 }

@@ -22,6 +22,8 @@ pub struct Calls {
     pub measure: fn(&mut [u8], i32, u8) -> i64,
     pub device: DeviceCall,
     pub exchange: ExchangeCall,
+    pub plan: fn(&[i32], &mut [u8]) -> i64,
+    pub plan_check: fn(&[i32], &[u8]) -> i64,
 }
 
 pub const PROVED: Calls = Calls {
@@ -38,4 +40,6 @@ pub const PROVED: Calls = Calls {
     measure: exports::measure,
     device: exports::device,
     exchange: exports::exchange,
+    plan: exports::plan,
+    plan_check: exports::plan_check,
 };

@@ -28,6 +28,16 @@ pub enum Operation {
         from: usize,
         segment: Vec<u8>,
     },
+    /// The planner, on goals of four bytes each, lowest first.
+    Plan {
+        room: usize,
+        goals: Vec<u8>,
+    },
+    /// The test of a plan.
+    Check {
+        goals: Vec<u8>,
+        plan: Vec<u8>,
+    },
     /// Another record for the reader. What is not given of its 1,030 bytes is `past`.
     Record {
         count: usize,
@@ -99,6 +109,8 @@ impl Operation {
             Operation::Encode { params, .. } => params.len(),
             Operation::Unstuff { body, .. } | Operation::Hear { body, .. } => body.len(),
             Operation::Plain { segment, .. } => segment.len(),
+            Operation::Plan { goals, .. } => goals.len(),
+            Operation::Check { goals, plan } => goals.len() + plan.len(),
             Operation::Record { held, .. } => held.len(),
             Operation::Feed { chunk } | Operation::Arrive { chunk } | Operation::Exchange { chunk } => chunk.len(),
             Operation::Board { table, .. } => table.len(),

@@ -1,7 +1,8 @@
 //! Runs a case: every call goes to an export and to the reference, and all that is answered and left must be the same.
 
 use crate::{Case, Operation};
-use compare::{compare_checksum, compare_encode, compare_flipped, compare_next_event, compare_unstuff, BAD_CHECKSUM, PACKET};
+use compare::{compare_checksum, compare_encode, compare_flipped, compare_next_event, compare_plan, compare_plan_check};
+use compare::{compare_unstuff, BAD_CHECKSUM, PACKET};
 use compare::{hex, Calls, Comparison, DevicePair, Difference, Encoded, Guarded, ReaderPair, Stepped, Told};
 use reference::{fresh, Event, Registered, Rng, MOST_HELD};
 use std::collections::BTreeMap;
@@ -88,6 +89,14 @@ impl<'a> World<'a> {
             }
             Operation::Unstuff { room, body } => drop(self.unstuff(body, *room)?),
             Operation::Plain { from, segment } => self.plain(segment, *from)?,
+            Operation::Plan { room, goals } => {
+                let answer = compare_plan(self.calls, &mut self.rng, &numbers(goals), *room)?;
+                self.tally.call("dxl_plan", answer.min(0));
+            }
+            Operation::Check { goals, plan } => {
+                let answer = compare_plan_check(self.calls, &mut self.rng, &numbers(goals), plan)?;
+                self.tally.call("dxl_plan_check", answer);
+            }
             Operation::Record { count, past, held } => self.record(*count, *past, held),
             Operation::Scribble { byte } => self.reader.scribble(*byte),
             Operation::Feed { chunk } => drop(self.feed(chunk)?),
@@ -227,4 +236,9 @@ impl<'a> World<'a> {
         let comparison = Comparison { export: "dxl_feed", given: &given };
         comparison.same("a status read back", event, Some(Event::Packet { id: status[4], bytes: status.clone() }))
     }
+}
+
+/// Numbers of four bytes each, lowest first; what is left of the bytes is ignored.
+fn numbers(bytes: &[u8]) -> Vec<i32> {
+    bytes.chunks_exact(4).map(|four| i32::from_le_bytes([four[0], four[1], four[2], four[3]])).collect()
 }

@@ -43,6 +43,8 @@ fn line(operation: &Operation) -> String {
         }
         Operation::Unstuff { room, body } => format!("unstuff room={room} body={}", hex(body)),
         Operation::Plain { from, segment } => format!("plain from={from} segment={}", hex(segment)),
+        Operation::Plan { room, goals } => format!("plan room={room} goals={}", hex(goals)),
+        Operation::Check { goals, plan } => format!("check goals={} plan={}", hex(goals), hex(plan)),
         Operation::Record { count, past, held } => format!("record count={count} past=0x{past:02x} held={}", hex(held)),
         Operation::Scribble { byte } => format!("scribble byte=0x{byte:02x}"),
         Operation::Feed { chunk } => format!("feed chunk={}", hex(chunk)),
@@ -105,6 +107,8 @@ fn operation(line: &str) -> Result<Operation, String> {
         },
         "unstuff" => Operation::Unstuff { room: fields.room("room")?, body: fields.bytes("body")? },
         "plain" => Operation::Plain { from: fields.number("from")?, segment: fields.bytes("segment")? },
+        "plan" => Operation::Plan { room: fields.room("room")?, goals: fields.bytes("goals")? },
+        "check" => Operation::Check { goals: fields.bytes("goals")?, plan: fields.bytes("plan")? },
         "record" => record(&mut fields)?,
         "scribble" => Operation::Scribble { byte: fields.number("byte")? },
         "feed" => Operation::Feed { chunk: fields.bytes("chunk")? },

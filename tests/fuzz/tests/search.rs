@@ -34,7 +34,7 @@ fn other_seeds_other_cases() {
 }
 
 /// What has to come up in a short search, and how each export answers then.
-const ANSWERS: [(&str, &[i64]); 14] = [
+const ANSWERS: [(&str, &[i64]); 16] = [
     ("dxl_crc16", &[0]),
     ("dxl_crc16_flipped", &[0]),
     ("dxl_encode", &[0, -11, -12, -13]),
@@ -48,6 +48,8 @@ const ANSWERS: [(&str, &[i64]); 14] = [
     ("dxl_measure", &[0, -21]),
     ("dxl_device", &[0, -21, -22, -23, -24]),
     ("dxl_exchange", &[0, -13, -14, -21, -22, -23, -24]),
+    ("dxl_plan", &[0, -13, -41, -42]),
+    ("dxl_plan_check", &[0, 1, -41, -42]),
     ("error", &[0, 2, 3, 4, 5, 6, 7]),
 ];
 

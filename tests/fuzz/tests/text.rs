@@ -23,6 +23,8 @@ fn every_operation_by_hand() {
         encode id=254 instruction=0x03 room=40 at=18446744073709551615 params=\n\
         unstuff room=3 body=fffffdfd\n\
         plain from=18446744073709551615 segment=fffffd\n\
+        plan room=30 goals=07000000\n\
+        check goals=ffffffff plan=\n\
         record count=1031 past=0x07 held=ff\n\
         scribble byte=0x2a\n\
         feed chunk=ff\n\
@@ -47,6 +49,8 @@ fn every_operation_by_hand() {
         Operation::Encode { id: 254, instruction: 3, room: 40, at: usize::MAX, params: vec![] },
         Operation::Unstuff { room: 3, body: vec![0xFF, 0xFF, 0xFD, 0xFD] },
         Operation::Plain { from: usize::MAX, segment: vec![0xFF, 0xFF, 0xFD] },
+        Operation::Plan { room: 30, goals: vec![7, 0, 0, 0] },
+        Operation::Check { goals: vec![0xFF, 0xFF, 0xFF, 0xFF], plan: vec![] },
         Operation::Record { count: 1_031, past: 7, held: vec![0xFF] },
         Operation::Scribble { byte: 42 },
         Operation::Feed { chunk: vec![0xFF] },

@@ -21,8 +21,8 @@ STATUS = Path("crates/status/specs/Status.antt")
 WORDS = {"DEVICE_ID": "ID", "NO_ACCESS": "ACCESS"}
 # Names of the header for which the code may have no constant: it gives these numbers in one place, or has them as the length of an
 # array.
-NOT_IN_CODE = {"BAD_ID", "TOO_LONG", "NO_ROOM", "BAD_STUFFING", "BAD_TABLE_ID", "BAD_REGISTERED", "SHORT_REPLY", "BAD_READER", "NOT_GOALS", "BAD_GOAL",
-               "MAX_PACKET", "MAX_BODY", "MAX_HELD", "MAX_STATUS", "NO_EVENT", "PACKET", "BAD_CHECKSUM"}
+NOT_IN_CODE = {"BAD_ID", "TOO_LONG", "NO_ROOM", "BAD_STUFFING", "BAD_TABLE_ID", "BAD_REGISTERED", "SHORT_REPLY", "BAD_READER",
+               "NOT_GOALS", "BAD_GOAL", "MAX_PACKET", "MAX_BODY", "MAX_HELD", "MAX_STATUS", "NO_EVENT", "PACKET", "BAD_CHECKSUM"}
 # A constant that begins so is in the header.
 GROUPS = ("REG_", "SIZE_", "FRESH_", "INST_", "ERROR_")
 

@@ -21,9 +21,9 @@ fn of_case(seed: u64, number: u64) -> Rng {
 
 fn operations(rng: &mut Rng) -> Vec<Operation> {
     match rng.between(0, 99) {
-        0..=3 => single::several(rng, single::checksum),
-        4..=5 => single::several(rng, single::plan),
-        6..=9 => single::several(rng, single::flip),
+        0..=1 => single::several(rng, single::checksum),
+        2..=6 => single::several(rng, single::plan),
+        7..=9 => single::several(rng, single::flip),
         10..=19 => single::several(rng, single::encode),
         20..=29 => single::several(rng, single::unstuff),
         30..=36 => single::several(rng, line::plain),

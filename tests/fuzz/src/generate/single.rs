@@ -49,10 +49,10 @@ pub fn plan(rng: &mut Rng) -> Operation {
     let wanted = rng.pick(&[0, 1, 5, 60, 253]);
     let mut wanted = goals(rng, wanted);
     let packets = any_plan(rng, &wanted);
-    if rng.one_in(8) {
+    if rng.one_in(3) {
         wanted[rng.between(0, 252)] = rng.pick(&[-2, 4096, i32::MIN, i32::MAX]);
     }
-    if rng.one_in(8) {
+    if rng.one_in(4) {
         wanted.resize(rng.between(0, 260), -1);
     }
     let bytes = wanted.iter().flat_map(|goal| goal.to_le_bytes()).collect();

@@ -15,7 +15,6 @@ use Rattle.lists.proofs.Numbers.{bytes-length}
 use Rattle.stuffing.specs.Stuffing.{marksAfter, marks, stuff, unstuff}
 use Rattle.stuffing.proofs.Laws.{length-stuff}
 use Rattle.reading.specs.Promise.{joined}
-use Rattle.encoder.specs.Writing.{packetOf}
 use Rattle.encoder.proofs.Writing.{packet-length}
 use Rattle.encoder.proofs.RoundTrip.{round-trip}
 use Rattle.packet.specs.Packet.{bodyOf, WellFormed}

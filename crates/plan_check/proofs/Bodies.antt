@@ -1,14 +1,14 @@
 -- A well-formed packet's unstuffed body in a buffer of 1,022 bytes.
-use mathlib.Core.Path.{_≡_, refl, sym, ap, ap₂, subst, _∙_}
+use mathlib.Core.Path.{_≡_, ap, ap₂, subst, _∙_}
 use mathlib.Core.Bool.{Bool, true, false, not}
-use mathlib.Core.List.{List, [], _∷_}
+use mathlib.Core.List.{List}
 use mathlib.Core.Option.{none}
-use Prim.Native.Nat.{ℕ, _+_, _-_, _≤_, _<_}
+use Prim.Native.Nat.{ℕ, _≤_}
 use native.Mathlib.Omega.{arith}
 use lib.IntN.{ℤ}
 use lib.ListN.{length, take, drop, length-append}
 use borrow.Author.Tests.{le-leb}
-use Rattle.lists.specs.Answer.{Answer, count}
+use Rattle.lists.specs.Answer.{count}
 use Rattle.lists.specs.Write.{overwritten}
 use Rattle.lists.proofs.Write.{overwritten-take}
 use Rattle.stuffing.specs.Stuffing.{unstuff}

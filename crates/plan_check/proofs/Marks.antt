@@ -1,9 +1,9 @@
 -- The loop over the IDs of one packet.
 use mathlib.Core.Path.{_≡_, refl, sym, ap, ap₂, subst, _∙_}
 use mathlib.Core.Bool.{Bool, true, false}
-use mathlib.Core.List.{List, [], _∷_, _++_, append-nil}
+use mathlib.Core.List.{List, [], _++_, append-nil}
 use mathlib.Core.Logic.{⊎-elim}
-use Prim.Native.Nat.{ℕ, suc, _+_, _<_, _≤_}
+use Prim.Native.Nat.{ℕ, _+_, _<_, _≤_}
 use native.Mathlib.Nat.{le-of-suc-le-suc, eq-or-lt-of-le}
 use native.Mathlib.Numerals.{add-one}
 use native.Mathlib.Omega.{arith}
@@ -13,13 +13,13 @@ use lib.Seq.{getD-set-same, getD-set-other}
 use Rattle.parameters.specs.Parameters.{syncSearch}
 use Rattle.parameters.specs.declared.Found.{Found}
 use Rattle.parameters.specs.declared.Found.the-variants.{At, Nothing}
-use Rattle.plan.specs.Goals.{unwanted, goalOf}
+use Rattle.plan.specs.Goals.{unwanted}
 use Rattle.plan.specs.Plan.{goalAt, goalFound}
 use Rattle.plan.proofs.Wanted.{goal-there}
-use Rattle.plan_check.specs.Checking.{entryFor, pastBy, past, Marked, Unfit, MarkSays}
+use Rattle.plan_check.specs.Checking.{entryFor, pastBy, past, Unfit, MarkSays}
 use Rattle.plan_check.specs.declared.Entry.{Entry}
 use Rattle.plan_check.specs.declared.Entry.the-variants.{Absent, New, Other}
-use Rattle.plan_check.proofs.Steps.{First, absent, new, other}
+use Rattle.plan_check.proofs.Steps.{absent, new, other}
 
 -- an ID finds one goal at most
 goal-once : (params : List ℕ) (f : Found) → length (goalAt params f) ≤ 1

@@ -2,7 +2,7 @@
 use mathlib.Core.Path.{_≡_, refl, sym, ap, subst, _∙_}
 use mathlib.Core.Bool.{Bool, true, false, cond, _&&_}
 use mathlib.Core.List.{List, [], _∷_, _++_}
-use Prim.Native.Nat.{ℕ, zero, suc, _+_, _<_, _≤_, _-_, _^_}
+use Prim.Native.Nat.{ℕ, _<_, _≤_, _-_, _^_}
 use native.Mathlib.Omega.{arith}
 use lib.Dec.{eqb, ltb}
 use lib.IntN.{ℤ, pos, negsuc, pos-ne-negsuc}
@@ -10,20 +10,12 @@ use lib.ListN.{length, take, getD}
 use lib.Seq.{getD-take}
 use lib.Signed.{leZ, ltZ, mag}
 use borrow.Author.Tests.{eqb-true, eqb-false, eq-eqb, ne-eqb, leb-false, ltb-true, lt-ltb}
-use Rattle.lists.specs.Numbers.{numberAt}
 use Rattle.items.specs.Items.{signed}
 use Rattle.plan.specs.Goals.{unwanted, goalOf, wanted}
 use Rattle.plan.specs.Plan.{planHead}
 use Rattle.plan.proofs.Wanted.{goal-there}
-use Rattle.parameters.specs.declared.Found.{Found}
-use Rattle.parameters.specs.declared.Found.the-variants.{At, Nothing}
 use Rattle.plan_check.specs.Checking.{entryFor, pastBy, past}
-use Rattle.plan_check.specs.declared.Entry.{Entry}
 use Rattle.plan_check.specs.declared.Entry.the-variants.{Absent, New, Other}
-
-pub not-found : (f : Found) → ((slot at : ℕ) → f ≡ At slot at → ⊥) → f ≡ Nothing
-not-found (At slot at) h = absurd (h slot at refl)
-not-found Nothing h = refl
 
 -- a number that is read as a goal is the goal's
 pub signed-pos : (u n : ℕ) → signed u ≡ pos n → u ≡ n

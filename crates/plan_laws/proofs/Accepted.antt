@@ -1,25 +1,24 @@
 -- Our plans are accepted: what a device finds in the planner's packets.
 use mathlib.Core.Path.{_≡_, refl, sym, ap, ap₂, subst, _∙_}
-use mathlib.Core.Bool.{Bool, true, false, not, cond, _&&_}
-use mathlib.Core.List.{List, [], _∷_, _++_, append-nil, append-assoc, List·Memᴰ, List·Memᴰ·not-nil, List·Memᴰ·cases-cons}
+use mathlib.Core.Bool.{Bool, true, false, cond}
+use mathlib.Core.List.{List, [], _∷_, _++_, append-assoc, List·Memᴰ, List·Memᴰ·not-nil, List·Memᴰ·cases-cons}
 use mathlib.Core.Logic.{⊎-elim}
 use mathlib.Core.Option.{none}
-use Prim.Native.Nat.{ℕ, zero, suc, _+_, _*_, _/_, _%_, _≤_, _<_}
+use Prim.Native.Nat.{ℕ, zero, suc, _+_, _≤_, _<_}
 use native.Mathlib.Omega.{arith}
-use lib.Dec.{leb, eqb}
+use lib.Dec.{eqb}
 use lib.IntN.{ℤ, pos, negsuc}
 use lib.ListN.{length, take, drop, getD, length-append, length-take, length-drop, take-append-drop}
 use lib.Seq.{getD-append-add, getD-append-seam}
-use borrow.Author.Tests.{le-leb, lt-leb, eq-eqb, ne-eqb, eqb-true, eqb-false}
+use borrow.Author.Tests.{le-leb, lt-leb, eq-eqb, ne-eqb, eqb-true}
 use Rattle.lists.specs.Numbers.{numberAt, bytesOf}
 use Rattle.lists.proofs.Bools.{and-right}
 use Rattle.lists.proofs.Numbers.{bytes-length, same-number}
 use Rattle.stuffing.specs.Stuffing.{unstuff}
 use Rattle.packet.specs.Packet.{bodyOf}
-use Rattle.encoder.specs.Writing.{packetOf}
 use Rattle.encoder.proofs.RoundTrip.{round-trip}
 use Rattle.parameters.specs.Entries.{occurs, entryGood, searchFrom}
-use Rattle.parameters.specs.Parameters.{plain, syncSearch}
+use Rattle.parameters.specs.Parameters.{plain}
 use Rattle.parameters.specs.declared.Found.{Found}
 use Rattle.parameters.specs.declared.Found.the-variants.{At, Nothing}
 use Rattle.plan.specs.Goals.{unwanted, goalOf, goalWithin, goalsWithin, goalsRefusal, wanted}

@@ -1,19 +1,19 @@
 -- No plan has fewer packets than ours: a packet has goals for 203 IDs at the most.
-use mathlib.Core.Path.{_≡_, refl, sym, ap, ap₂, subst, _∙_}
+use mathlib.Core.Path.{_≡_, refl, sym, ap, _∙_}
 use mathlib.Core.Bool.{Bool, true, false, cond}
-use mathlib.Core.List.{List, [], _∷_, _++_, List·Memᴰ, List·Memᴰ·head, List·Memᴰ·tail}
+use mathlib.Core.List.{List, [], _∷_, List·Memᴰ, List·Memᴰ·head, List·Memᴰ·tail}
 use mathlib.Core.Option.{none}
 use Prim.Native.Nat.{ℕ, zero, suc, _+_, _*_, _-_, _≤_, _<_}
 use native.Mathlib.Omega.{arith}
 use lib.Dec.{leb, eqb}
 use lib.IntN.{ℤ, pos, negsuc}
-use lib.ListN.{length, drop, getD, length-append, length-drop}
+use lib.ListN.{length, getD, length-append, length-drop}
 use borrow.Author.Tests.{eqb-true, ne-eqb, leb-true}
-use Rattle.lists.proofs.Bools.{and-left, and-right}
+use Rattle.lists.proofs.Bools.{and-left}
 use Rattle.stuffing.specs.Stuffing.{unstuff}
 use Rattle.packet.specs.Packet.{bodyOf}
 use Rattle.parameters.specs.Entries.{entryGood, searchFrom}
-use Rattle.parameters.specs.Parameters.{wordAt, plain, syncSearch}
+use Rattle.parameters.specs.Parameters.{wordAt, plain}
 use Rattle.parameters.specs.declared.Found.{Found}
 use Rattle.parameters.specs.declared.Found.the-variants.{At, Nothing}
 use Rattle.plan.specs.Goals.{unwanted, goalOf, goalsRefusal, wanted}

@@ -2,7 +2,7 @@
 use mathlib.Core.Path.{_≡_, refl, sym, ap, ap₂, _∙_}
 use mathlib.Core.Bool.{Bool, true, false}
 use mathlib.Core.List.{List, [], _∷_, _++_, append-nil, append-assoc}
-use Prim.Native.Nat.{ℕ, zero, suc, _+_, _*_, _-_, _≤_, _<_}
+use Prim.Native.Nat.{ℕ, suc, _+_, _*_, _≤_, _<_}
 use native.Mathlib.Numerals.{add-one}
 use native.Mathlib.Omega.{arith}
 use lib.Dec.{ltb}
@@ -13,7 +13,6 @@ use lib.Signed.{leZ}
 use borrow.Author.Tests.{leb-false, ltb-true, ltb-false}
 use Rattle.lists.specs.Write.{overwritten, placed}
 use Rattle.lists.proofs.Write.{overwritten-take, overwritten-parts}
-use Rattle.lists.proofs.Numbers.{bytes-length}
 use Rattle.items.specs.Items.{unsigned}
 use Rattle.plan.specs.Planner.{Entry, entriesFrom, entryBytes, listBytes}
 use Rattle.plan.proofs.Packets.{list-length}

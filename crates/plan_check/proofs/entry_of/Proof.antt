@@ -2,11 +2,9 @@ use mathlib.Core.Path.{_≡_, sym, ap, _∙_}
 use mathlib.Core.List.{[], _∷_}
 use Prim.Native.Nat.{ℕ, _+_}
 use native.Mathlib.Omega.{arith}
-use lib.IntN.{pos}
 use mir.Syntax.{w32}
 use mir.Val.{toZ, ofZ}
 use mir.Facts.{toZ-ofZ}
-use types.Run.{miss}
 use borrow.Author.Needs.{needs}
 use Rattle.lists.specs.Numbers.{numberAt}
 use Rattle.parameters.specs.Parameters.{syncSearch}
@@ -14,7 +12,7 @@ use Rattle.parameters.specs.declared.Found.the-variants.{At}
 use Rattle.parameters.proofs.Searching.{sync-whole}
 use Rattle.plan.specs.Plan.{goalAt, goalFound}
 use Rattle.plan_check.specs.Checking.{entryFor}
-use Rattle.plan_check.proofs.Steps.{not-found, other-unwanted, other-again, other-goal, new-goal}
+use Rattle.plan_check.proofs.Steps.{other-unwanted, other-again, other-goal, new-goal}
 use Rattle.plan_check.proofs.entry_of.Statement.{statement}
 use Rattle.plan_check.proofs.entry_of.Tie as tie
 

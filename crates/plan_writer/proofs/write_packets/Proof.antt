@@ -4,7 +4,6 @@ use native.Mathlib.Omega.{arith}
 use lib.ListN.{length, drop, length-append, length-drop}
 use Rattle.lists.specs.Write.{overwritten}
 use Rattle.plan.specs.Planner.{planOf}
-use Rattle.plan_writer.specs.Filling.{entriesAt}
 use Rattle.plan_writer.proofs.Sending.{Sending, sending-start, sending-room, sending-next, sending-end}
 use borrow.Author.Needs.{needs}
 use Rattle.plan_writer.proofs.write_packets.Statement.{statement}

@@ -55,7 +55,7 @@ pub fn unstuff(rng: &mut Rng) -> Operation {
 
 /// Any reply: mark, ID and count are good or not, and its bytes are often such that have to be stuffed.
 pub fn status(rng: &mut Rng) -> Operation {
-    let mut marked = |rng: &mut Rng| if rng.one_in(3) { rng.byte() } else { rng.pick(&[0xFF, 0xFF, 0xFD]) };
+    let marked = |rng: &mut Rng| if rng.one_in(3) { rng.byte() } else { rng.pick(&[0xFF, 0xFF, 0xFD]) };
     let bytes = std::array::from_fn(|_| marked(rng));
     Operation::Status {
         room: rng.pick(&[0, 11, 22, 30, 31, 32, 32, 32, 32, 33, 40]),

@@ -432,11 +432,15 @@ fn narrows_past_the_goal(table: &mut [u8], registered: Registered, kind: u8, id:
 /// Action goes by max position alone: a registered write that carries another min position is carried out all the same.
 fn compares_max_alone(table: &mut [u8], registered: Registered, kind: u8, id: u8, body: &[u8], reply: &mut [u8]) -> Answer {
     let min = table.get(52..56).map_or(0, |bytes| i32::from_le_bytes(bytes.try_into().unwrap()));
-    let answer = exports::device(table, Registered { min, ..registered }, kind, id, body, reply);
-    if answer.registered == (Registered { min, ..registered }) {
-        return Answer { registered, ..answer };
-    }
-    answer
+    let suiting = Registered { min, ..registered };
+    let left = |lent| {
+        let mut table = table.to_vec();
+        exports::device(&mut table, lent, kind, id, body, &mut reply.to_vec());
+        table
+    };
+    // where the write is refused all the same, only the number would differ
+    let lent = if left(suiting) == left(registered) { registered } else { suiting };
+    exports::device(table, lent, kind, id, body, reply)
 }
 
 /// Action does not drop the registered write.

@@ -182,16 +182,17 @@ kit:
 format:
 	@$(call step,format,layout of the Rattle files (make fmt puts it right)) rt fmt --check
 
-c_test: build/c/published build/c/exchange build/c/parts build/c/segment build/c/uart_test build/c/log_pages
+c_test: build/c/published build/c/exchange build/c/plan build/c/parts build/c/segment build/c/uart_test build/c/log_pages
 	@$(call need,python3)
 	@$(call step,published,published packets through the archive) build/c/published tests/vectors/packets.txt tests/vectors/packets_v1.txt
 	@$(call step,exchange,the loop that the header shows) build/c/exchange
+	@$(call step,plan,the planner and the test of plans from C) build/c/plan
 	@$(call step,parts,example that sends a packet in parts) build/c/parts
 	@$(call step,segment_test,example that prints the events of a capture) python3 tests/segment_test.py build/c/segment
 	@$(call step,uart_test,example board on a simulated UART) build/c/uart_test
 	@$(call step,log_pages,questions to a log whose other segments are unreadable) build/c/log_pages
 
-build/c/published build/c/exchange: build/c/%: tests/c/%.c include/mednukals.h build/lib/libmednukals.a
+build/c/published build/c/exchange build/c/plan: build/c/%: tests/c/%.c include/mednukals.h build/lib/libmednukals.a
 	@$(call need,$(CC))
 	@mkdir -p $(@D)
 	@$(CC) $(WARNINGS) -O2 -Iinclude -o $@ $< build/lib/libmednukals.a || $(call failed,compiling the C test)

@@ -90,7 +90,9 @@ enum {
     DXL_BAD_READER = 25,     /* the reader's count is above 1,030 */
     DXL_BAD_LOG = 31,        /* a file that is not laid out as a log, or segments of which no log can be made */
     DXL_BAD_LOG_ID = 32,     /* an ID of 253 or 255, asked of a log */
-    DXL_WRONG_INDEX = 34     /* a log whose index is not that of its segments */
+    DXL_WRONG_INDEX = 34,    /* a log whose index is not that of its segments */
+    DXL_NOT_GOALS = 41,      /* the list of wanted goals is not 253 long */
+    DXL_BAD_GOAL = 42        /* a wanted goal is below -1 or above 4,095 */
 };
 
 enum {
@@ -615,6 +617,39 @@ struct dxl_carried dxl_carry_out_packet(uint8_t *table, size_t n_table, struct d
  * The bytes after the status stay as they were; for silence and for a refusal all of out does.
  */
 int64_t dxl_status(struct dxl_reply reply, uint8_t *out, size_t n_out);
+
+/*
+ * Writes the wanted goal positions of many devices as Sync Writes, one behind the other, to the start of out: IDs rising, 203
+ * devices to each packet but the last. Sent as they are, they set the goals.
+ *
+ * goals, n_goals   253 numbers, one for each ID from 0 to 252: its goal, 0 to 4,095, or -1 if none is wanted
+ * out, n_out       the output buffer; 1,293 bytes are always enough
+ *
+ * Returns the byte count, 0 where no goal is wanted, or
+ *   -41  n_goals is not 253
+ *   -42  a number is below -1 or above 4,095
+ *   -13  out has too few bytes
+ *
+ * The bytes of out after the plan stay as they were; if the call is refused, all of out does. dxl_plan_check accepts every plan
+ * that this writes, and none that it accepts has fewer packets.
+ */
+int64_t dxl_plan(const int32_t *goals, size_t n_goals, uint8_t *out, size_t n_out);
+
+/*
+ * Tests a plan, whoever made it. It is accepted exactly where it is well-formed packets end to end, each a Sync Write to 254 at
+ * address 116 with length 4 and a list that is not empty and that devices would carry out, in which every wanted ID stands once
+ * over all packets with its goal, and no other ID stands.
+ *
+ * goals, n_goals   as for dxl_plan
+ * plan, n_plan     any bytes, any number of them; none are a plan where nothing is wanted
+ *
+ * Returns 1 if it is accepted, 0 if not, or
+ *   -41  n_goals is not 253
+ *   -42  a number is below -1 or above 4,095
+ *
+ * It writes no memory.
+ */
+int64_t dxl_plan_check(const int32_t *goals, size_t n_goals, const uint8_t *plan, size_t n_plan);
 
 #ifdef __cplusplus
 }

@@ -22,6 +22,8 @@ static struct {
     uint8_t body[DXL_MAX_BODY];
     uint8_t table[DXL_TABLE_BYTES];
     uint8_t reply[64];
+    int32_t goals[253];
+    uint8_t plan[1300];
 } lent;
 
 /* The numbers of the next call. */
@@ -562,6 +564,44 @@ static void count_faults(void)
     count(NAME(dxl_status), "refused", status, -DXL_SHORT_REPLY);
 }
 
+static int64_t plan(void)
+{
+    return dxl_plan(lent.goals, given.n, lent.plan, given.room);
+}
+
+static int64_t plan_check(void)
+{
+    return dxl_plan_check(lent.goals, given.n, lent.plan, given.room);
+}
+
+/* Two goals, then one for every ID. */
+static void count_plans(void)
+{
+    enum { IDS = 253 };
+    for (size_t id = 0; id < IDS; id++)
+        lent.goals[id] = id == 3 || id == 9 ? 255 : -1;
+    given.n = IDS;
+    given.room = sizeof lent.plan;
+    count(NAME(dxl_plan), "2 goals", plan, 24);
+    given.room = 24;
+    count(NAME(dxl_plan_check), "2 goals", plan_check, 1);
+    for (size_t id = 0; id < IDS; id++)
+        lent.goals[id] = 4095 - (int32_t)id;
+    given.room = sizeof lent.plan;
+    count(NAME(dxl_plan), "253 goals", plan, 1293);
+    given.room = 1293;
+    count(NAME(dxl_plan_check), "253 goals", plan_check, 1);
+    lent.goals[0]--;
+    count(NAME(dxl_plan_check), "another goal", plan_check, 0);
+    given.room = 1292;
+    count(NAME(dxl_plan), "no room", plan, -DXL_NO_ROOM);
+    lent.goals[IDS - 1] = 4096;
+    count(NAME(dxl_plan), "bad goal", plan, -DXL_BAD_GOAL);
+    count(NAME(dxl_plan_check), "bad goal", plan_check, -DXL_BAD_GOAL);
+    given.n = 1;
+    count(NAME(dxl_plan_check), "refused", plan_check, -DXL_NOT_GOALS);
+}
+
 int main(void)
 {
     count_checksums();
@@ -579,5 +619,6 @@ int main(void)
         count_in_two(&heard[i]);
     count_lists();
     count_faults();
+    count_plans();
     return 0;
 }

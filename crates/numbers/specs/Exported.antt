@@ -8,6 +8,8 @@ use Rattle.framer.specs.declared.StepEvent.{StepEvent}
 use Rattle.framer.specs.declared.StepEvent.the-variants.{Packet, BadChecksum, Silent, Refused}
 use Rattle.plain_reader.specs.declared.Next.{Next}
 use Rattle.plain_reader.specs.declared.Next.the-variants.{Packet as Next·Packet, BadChecksum as Next·BadChecksum, Nothing}
+use Rattle.plan_check.specs.declared.Tested.{Tested}
+use Rattle.plan_check.specs.declared.Tested.the-variants.{Accepted, NotPlan, BadCount, BadGoal}
 use Rattle.device.specs.Answers.{sent, DeviceAnswer, refused as Device·refused}
 use Rattle.instructions.specs.declared.RegisteredWrite.{RegisteredWrite}
 use Rattle.numbers.specs.declared.StepNumbers.{StepNumbers}
@@ -67,3 +69,10 @@ abbrev pub foundNumbers : Log·Answer → FoundNumbers
 foundNumbers (found (at k p)) = record { found = pos 1; segment = k; offset = p }
 foundNumbers (found nowhere) = record { found = pos 0; segment = 0; offset = 0 }
 foundNumbers (Log·refused number) = record { found = negℤ (pos number); segment = 0; offset = 0 }
+
+-- what the test of a plan answers: 1 or 0, or minus the refusal number [G5 N11 W9]
+abbrev pub testedNumber : Tested → ℤ
+testedNumber Accepted = pos 1
+testedNumber NotPlan = pos 0
+testedNumber BadCount = negℤ (pos 41)
+testedNumber BadGoal = negℤ (pos 42)

@@ -14,6 +14,8 @@ use log::Checked;
 use log::Found;
 use log_writer::LogWritten;
 use plain_reader::Next;
+use plan_check::Tested;
+use plan_writer::PlanWritten;
 use status::Reply;
 use status::Written;
 use stuffing::Unstuffed;
@@ -28,8 +30,9 @@ ghost use Rattle.exchange.specs.Exchange.{exchangedAnswer};
 ghost use Rattle.log_writer.specs.Writing.{logWrittenAnswer};
 ghost use Rattle.log.specs.Soundness.{checkedRefusal};
 ghost use Rattle.log.specs.Question.{foundAnswer};
+ghost use Rattle.plan_writer.specs.Filling.{planWrittenAnswer};
 ghost use Rattle.lists.specs.Answer.{count as Answer·count};
-ghost use Rattle.numbers.specs.Exported.{exported, exportedRefusal, stepNumbers, nextNumbers, deviceNumbers, refusalNumber, carriedNumbers, foundNumbers};
+ghost use Rattle.numbers.specs.Exported.{exported, exportedRefusal, stepNumbers, nextNumbers, deviceNumbers, refusalNumber, carriedNumbers, foundNumbers, testedNumber};
 
 // What a feeding or gap call returns. kind 0: no event, from a gap call: nothing is left; 1: a packet of `count` bytes; 2: a bad
 // checksum; 25: the reader's count is above 1,030. `id` is that of the packet or of the bad checksum.
@@ -375,5 +378,27 @@ pub fn found(answer: Found) -> FoundNumbers
             segment: 0,
             offset: 0,
         },
+    }
+}
+
+pub fn plan_written(answer: PlanWritten) -> i64
+    ensures { λ r. ⌜ r ≡ exported (planWrittenAnswer answer) ⌝ }
+{
+    match answer {
+        PlanWritten::Count(n) => count(n),
+        PlanWritten::BadCount => -41,
+        PlanWritten::BadGoal => -42,
+        PlanWritten::NoRoom => -13,
+    }
+}
+
+pub fn tested(answer: Tested) -> i64
+    ensures { λ r. ⌜ r ≡ testedNumber answer ⌝ }
+{
+    match answer {
+        Tested::Accepted => 1,
+        Tested::NotPlan => 0,
+        Tested::BadCount => -41,
+        Tested::BadGoal => -42,
     }
 }

@@ -39,6 +39,8 @@ pub struct Calls {
     pub carry_out: CarryCall,
     pub carry_out_packet: CarryPacketCall,
     pub status: fn(Reply, &mut [u8]) -> i64,
+    pub plan: fn(&[i32], &mut [u8]) -> i64,
+    pub plan_check: fn(&[i32], &[u8]) -> i64,
 }
 
 pub const PROVED: Calls = Calls {
@@ -63,4 +65,6 @@ pub const PROVED: Calls = Calls {
     carry_out: exports::carry_out,
     carry_out_packet: exports::carry_out_packet,
     status: exports::status,
+    plan: exports::plan,
+    plan_check: exports::plan_check,
 };

@@ -7,6 +7,7 @@ mod difference;
 mod inputs;
 mod lent;
 mod log_calls;
+mod plans;
 mod published;
 mod reader_pair;
 mod single_calls;
@@ -18,7 +19,8 @@ pub use inputs::{body, body_of_stuffed_length, id, length, noise, packet, place,
 pub use inputs::{damaged_log, packet_ids, stuffed_well_or_not, v1_length, v1_packet, worst_noise};
 pub use lent::{number, Guarded, Lent};
 pub use log_calls::{compare_log_check, compare_log_last, compare_log_write};
+pub use plans::{any_plan, goals, joined, spoiled};
 pub use published::{published, published_v1, Published, PublishedV1, Status};
 pub use reader_pair::{ReaderPair, Stepped};
-pub use single_calls::{compare_checksum, compare_encode, compare_flipped, compare_next_event, compare_status, compare_unstuff};
-pub use single_calls::{compare_v1_encode, Encoded};
+pub use single_calls::{compare_checksum, compare_encode, compare_flipped, compare_next_event, compare_plan, compare_plan_check};
+pub use single_calls::{compare_status, compare_unstuff, compare_v1_encode, Encoded};

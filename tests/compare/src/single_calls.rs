@@ -129,3 +129,32 @@ pub fn compare_status(
     comparison.same_guarded("the reply buffer", ours, expected)?;
     Ok(answer)
 }
+
+/// The planner's answer; its goals are compared too, since no call writes them.
+pub fn compare_plan(calls: &Calls, rng: &mut Rng, goals: &[i32], room: usize) -> Result<i64, Difference> {
+    let mut ours = Lent::new(rng, &[], room);
+    let mut expected = ours.clone();
+    let lent = goals.to_vec();
+    let answer = ours.call(|_, out| (calls.plan)(&lent, out));
+    let wanted = expected.call(|_, out| reference::plan_into(goals, out));
+    let given = || format!("room for {room}, goals {goals:?}");
+    let comparison = Comparison { export: "dxl_plan", given: &given };
+    comparison.same("the answer", answer, number(wanted))?;
+    comparison.same("the goals", &lent[..], goals)?;
+    comparison.same_lent(&ours, &expected)?;
+    Ok(answer)
+}
+
+pub fn compare_plan_check(calls: &Calls, rng: &mut Rng, goals: &[i32], plan: &[u8]) -> Result<i64, Difference> {
+    let mut ours = Lent::new(rng, plan, 0);
+    let expected = ours.clone();
+    let lent = goals.to_vec();
+    let answer = ours.call(|plan, _| (calls.plan_check)(&lent, plan));
+    let wanted = reference::plan_check(goals, plan).map(usize::from);
+    let given = || format!("goals {goals:?}, {} bytes {}", plan.len(), hex(plan));
+    let comparison = Comparison { export: "dxl_plan_check", given: &given };
+    comparison.same("the answer", answer, number(wanted))?;
+    comparison.same("the goals", &lent[..], goals)?;
+    comparison.same_lent(&ours, &expected)?;
+    Ok(answer)
+}

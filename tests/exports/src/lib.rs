@@ -184,6 +184,9 @@ mod raw {
         ) -> Carried;
         pub fn dxl_status(reply: Reply, out: *mut u8, n_out: usize) -> i64;
 
+        pub fn dxl_plan(goals: *const i32, n_goals: usize, out: *mut u8, n_out: usize) -> i64;
+        pub fn dxl_plan_check(goals: *const i32, n_goals: usize, plan: *const u8, n_plan: usize) -> i64;
+
         pub fn dxl_test_crc16_small(start: u16, bytes: *const u8, n: usize) -> u16;
         pub fn dxl_test_crc16_fold(start: u16, bytes: *const u8, n: usize) -> u16;
         pub fn dxl_test_well_stuffed(body: *const u8, n: usize) -> u8;
@@ -314,6 +317,14 @@ pub fn carry_out_packet(table: &mut [u8], registered: Registered, packet: &[u8],
 
 pub fn status(reply: Reply, out: &mut [u8]) -> i64 {
     unsafe { raw::dxl_status(reply, out.as_mut_ptr(), out.len()) }
+}
+
+pub fn plan(goals: &[i32], out: &mut [u8]) -> i64 {
+    unsafe { raw::dxl_plan(goals.as_ptr(), goals.len(), out.as_mut_ptr(), out.len()) }
+}
+
+pub fn plan_check(goals: &[i32], plan: &[u8]) -> i64 {
+    unsafe { raw::dxl_plan_check(goals.as_ptr(), goals.len(), plan.as_ptr(), plan.len()) }
 }
 
 /// Exports for tests alone.

@@ -50,6 +50,16 @@ pub enum Operation {
         id: u8,
         log: Vec<u8>,
     },
+    /// The planner, on goals of four bytes each, lowest first.
+    Plan {
+        room: usize,
+        goals: Vec<u8>,
+    },
+    /// The test of a plan.
+    Check {
+        goals: Vec<u8>,
+        plan: Vec<u8>,
+    },
     /// Another record for the reader. What is not given of its 1,030 bytes is `past`.
     Record {
         count: usize,
@@ -135,6 +145,8 @@ impl Operation {
             Operation::Plain { segment, .. } => segment.len(),
             Operation::LogWrite { lengths, bytes, .. } => 4 * lengths.len() + bytes.len(),
             Operation::Ask { log, .. } => log.len(),
+            Operation::Plan { goals, .. } => goals.len(),
+            Operation::Check { goals, plan } => goals.len() + plan.len(),
             Operation::Record { held, .. } => held.len(),
             Operation::Feed { chunk } | Operation::Arrive { chunk } | Operation::Exchange { chunk } => chunk.len(),
             Operation::Board { table, .. } => table.len(),

@@ -2,7 +2,8 @@
 
 use crate::{Case, Operation};
 use compare::{compare_checksum, compare_encode, compare_flipped, compare_log_check, compare_log_last, compare_log_write};
-use compare::{compare_next_event, compare_status, compare_unstuff, compare_v1_encode, BAD_CHECKSUM, PACKET};
+use compare::{compare_next_event, compare_plan, compare_plan_check, compare_status, compare_unstuff, compare_v1_encode};
+use compare::{BAD_CHECKSUM, PACKET};
 use compare::{hex, Calls, Comparison, DevicePair, Difference, Encoded, Guarded, ReaderPair, Stepped, Told};
 use reference::{fresh, v1, Event, Registered, Rng, MOST_HELD};
 use std::collections::BTreeMap;
@@ -115,6 +116,14 @@ impl<'a> World<'a> {
                 self.tally.call("dxl_log_check", sound);
                 let answer = compare_log_last(self.calls, &mut self.rng, log, *id)?;
                 self.tally.call("dxl_log_last", answer.found);
+            }
+            Operation::Plan { room, goals } => {
+                let answer = compare_plan(self.calls, &mut self.rng, &numbers(goals), *room)?;
+                self.tally.call("dxl_plan", answer.min(0));
+            }
+            Operation::Check { goals, plan } => {
+                let answer = compare_plan_check(self.calls, &mut self.rng, &numbers(goals), plan)?;
+                self.tally.call("dxl_plan_check", answer);
             }
             Operation::Record { count, past, held } => self.record(*count, *past, held),
             Operation::Scribble { byte } => self.reader.scribble(*byte),
@@ -264,4 +273,9 @@ impl<'a> World<'a> {
 /// Of the first of two calls, which does not look at the reply buffer.
 fn first_refusal(told: Told) -> i64 {
     if told.count == -24 { 0 } else { told.count.min(0) }
+}
+
+/// Numbers of four bytes each, lowest first; what is left of the bytes is ignored.
+fn numbers(bytes: &[u8]) -> Vec<i32> {
+    bytes.chunks_exact(4).map(|four| i32::from_le_bytes([four[0], four[1], four[2], four[3]])).collect()
 }

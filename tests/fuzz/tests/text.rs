@@ -28,6 +28,8 @@ fn every_operation_by_hand() {
         plain from=18446744073709551615 segment=fffffd\n\
         log room=1050 lengths=0a000000ffffffff bytes=07\n\
         ask id=253 log=01000000\n\
+        plan room=30 goals=07000000\n\
+        check goals=ffffffff plan=\n\
         record count=1031 past=0x07 held=ff\n\
         scribble byte=0x2a\n\
         feed chunk=ff\n\
@@ -57,6 +59,8 @@ fn every_operation_by_hand() {
         Operation::Plain { from: usize::MAX, segment: vec![0xFF, 0xFF, 0xFD] },
         Operation::LogWrite { room: 1_050, lengths: vec![10, u32::MAX], bytes: vec![7] },
         Operation::Ask { id: 253, log: vec![1, 0, 0, 0] },
+        Operation::Plan { room: 30, goals: vec![7, 0, 0, 0] },
+        Operation::Check { goals: vec![0xFF, 0xFF, 0xFF, 0xFF], plan: vec![] },
         Operation::Record { count: 1_031, past: 7, held: vec![0xFF] },
         Operation::Scribble { byte: 42 },
         Operation::Feed { chunk: vec![0xFF] },

@@ -22,11 +22,12 @@ fn of_case(seed: u64, number: u64) -> Rng {
 
 fn operations(rng: &mut Rng) -> Vec<Operation> {
     match rng.between(0, 99) {
-        0..=5 => single::several(rng, single::checksum),
-        6..=9 => single::several(rng, single::flip),
+        0..=1 => single::several(rng, single::checksum),
+        2..=6 => single::several(rng, single::plan),
+        7..=9 => single::several(rng, single::flip),
         10..=15 => single::several(rng, single::encode),
-        16..=21 => single::several(rng, single::encode_v1),
-        22..=29 => single::several(rng, single::unstuff),
+        16..=22 => single::several(rng, single::encode_v1),
+        23..=29 => single::several(rng, single::unstuff),
         30..=35 => single::several(rng, line::plain),
         36..=41 => single::several(rng, single::status),
         42..=54 => line::reader(rng),

@@ -1,7 +1,8 @@
 //! The calls that keep nothing.
 
 use crate::Operation;
-use compare::{body, body_of_stuffed_length, id, length, place, some_room, stuffed_well_or_not, v1_length};
+use compare::{any_plan, body, body_of_stuffed_length, goals, id, joined, length, place};
+use compare::{some_room, spoiled, stuffed_well_or_not, v1_length};
 use reference::{stuff, v1, Rng};
 
 pub fn several(rng: &mut Rng, draw: fn(&mut Rng) -> Operation) -> Vec<Operation> {
@@ -54,7 +55,7 @@ pub fn unstuff(rng: &mut Rng) -> Operation {
 
 /// Any reply: mark, ID and count are good or not, and its bytes are often such that have to be stuffed.
 pub fn status(rng: &mut Rng) -> Operation {
-    let mut marked = |rng: &mut Rng| if rng.one_in(3) { rng.byte() } else { rng.pick(&[0xFF, 0xFF, 0xFD]) };
+    let marked = |rng: &mut Rng| if rng.one_in(3) { rng.byte() } else { rng.pick(&[0xFF, 0xFF, 0xFD]) };
     let bytes = std::array::from_fn(|_| marked(rng));
     Operation::Status {
         room: rng.pick(&[0, 11, 22, 30, 31, 32, 32, 32, 32, 33, 40]),
@@ -65,6 +66,27 @@ pub fn status(rng: &mut Rng) -> Operation {
         count: rng.pick(&[0, 1, 2, 3, 4, 7, 8, 8, 9, 255]),
         bytes,
     }
+}
+
+/// Goals for few IDs or many, now and then a list that is refused; for the planner or for the test, of a plan that is right or wrong.
+pub fn plan(rng: &mut Rng) -> Operation {
+    let wanted = rng.pick(&[0, 1, 5, 60, 253]);
+    let mut wanted = goals(rng, wanted);
+    let packets = any_plan(rng, &wanted);
+    if rng.one_in(3) {
+        wanted[rng.between(0, 252)] = rng.pick(&[-2, 4096, i32::MIN, i32::MAX]);
+    }
+    if rng.one_in(4) {
+        wanted.resize(rng.between(0, 260), -1);
+    }
+    let bytes = wanted.iter().flat_map(|goal| goal.to_le_bytes()).collect();
+    if rng.one_in(2) {
+        let entries = wanted.iter().filter(|&&goal| goal >= 0).count();
+        let room = some_room(rng, 5 * entries + 14 * entries.div_ceil(203));
+        return Operation::Plan { room, goals: bytes };
+    }
+    let plan = if rng.one_in(3) || wanted.len() != 253 { joined(&packets) } else { spoiled(rng, &wanted, packets) };
+    Operation::Check { goals: bytes, plan }
 }
 
 /// Any body, often one whose stuffed form is about as long as a packet can carry.

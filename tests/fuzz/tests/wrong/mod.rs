@@ -47,6 +47,10 @@ pub fn all() -> Vec<Wrong> {
         wrong("dxl_log_last", "the answer", Calls { log_last: id_first, ..PROVED }),
         wrong("dxl_log_last", "the answer", Calls { log_last: the_first_in_it, ..PROVED }),
         wrong("dxl_log_last", "the answer", Calls { log_last: goes_on_to_other_segments, ..PROVED }),
+        wrong("dxl_plan", "the answer", Calls { plan: one_byte_too_little_room, ..PROVED }),
+        wrong("dxl_plan", "the output buffer", Calls { plan: clears_behind_the_plan, ..PROVED }),
+        wrong("dxl_plan_check", "the answer", Calls { plan_check: accepts_a_subset, ..PROVED }),
+        wrong("dxl_plan_check", "the answer", Calls { plan_check: accepts_a_byte_behind, ..PROVED }),
         wrong("dxl_fresh", "the answer", Calls { fresh: any_length, ..PROVED }),
         wrong("dxl_measure", "the table", Calls { measure: short_position, ..PROVED }),
         wrong("dxl_device", "the reply buffer", Calls { device: other_error, ..PROVED }),
@@ -350,6 +354,36 @@ fn goes_on_to_other_segments(log: &[u8], id: u8) -> Found {
     found
 }
 
+/// A plan that just fits is refused.
+fn one_byte_too_little_room(goals: &[i32], out: &mut [u8]) -> i64 {
+    let size = exports::plan(goals, &mut vec![0; 1_300]);
+    if size > 0 && size as usize == out.len() {
+        return -13;
+    }
+    exports::plan(goals, out)
+}
+
+fn clears_behind_the_plan(goals: &[i32], out: &mut [u8]) -> i64 {
+    let size = exports::plan(goals, out);
+    if size > 0 {
+        out[size as usize..].fill(0);
+    }
+    size
+}
+
+/// Some wanted ID may be missing.
+fn accepts_a_subset(goals: &[i32], plan: &[u8]) -> i64 {
+    let wanted = (0..goals.len()).filter(|&id| goals[id] >= 0);
+    let without = |id: usize| [&goals[..id], &[-1], &goals[id + 1..]].concat();
+    let subset = wanted.take(10).any(|id| exports::plan_check(&without(id), plan) == 1);
+    exports::plan_check(goals, plan).max(if subset { 1 } else { -42 })
+}
+
+fn accepts_a_byte_behind(goals: &[i32], plan: &[u8]) -> i64 {
+    let shorter = &plan[..plan.len().saturating_sub(1)];
+    exports::plan_check(goals, plan).max(if exports::plan_check(goals, shorter) == 1 { 1 } else { -42 })
+}
+
 fn any_length(table: &mut [u8]) -> i64 {
     exports::fresh(table).max(if table.len() > 136 { 0 } else { -21 })
 }
@@ -398,11 +432,15 @@ fn narrows_past_the_goal(table: &mut [u8], registered: Registered, kind: u8, id:
 /// Action goes by max position alone: a registered write that carries another min position is carried out all the same.
 fn compares_max_alone(table: &mut [u8], registered: Registered, kind: u8, id: u8, body: &[u8], reply: &mut [u8]) -> Answer {
     let min = table.get(52..56).map_or(0, |bytes| i32::from_le_bytes(bytes.try_into().unwrap()));
-    let answer = exports::device(table, Registered { min, ..registered }, kind, id, body, reply);
-    if answer.registered == (Registered { min, ..registered }) {
-        return Answer { registered, ..answer };
-    }
-    answer
+    let suiting = Registered { min, ..registered };
+    let left = |lent| {
+        let mut table = table.to_vec();
+        exports::device(&mut table, lent, kind, id, body, &mut reply.to_vec());
+        table
+    };
+    // where the write is refused all the same, only the number would differ
+    let lent = if left(suiting) == left(registered) { registered } else { suiting };
+    exports::device(table, lent, kind, id, body, reply)
 }
 
 /// Action does not drop the registered write.

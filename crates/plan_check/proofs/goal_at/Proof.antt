@@ -1,0 +1,49 @@
+use mathlib.Core.Path.{ap, _∙_}
+use mir.Syntax.{w32}
+use mir.Facts.{toZ-ofZ}
+use borrow.Author.Needs.{needs}
+use Rattle.items.specs.Items.{signed}
+use Rattle.lists.proofs.Numbers.{four-bytes}
+use Rattle.plan_check.proofs.goal_at.Statement.{statement}
+use Rattle.plan_check.proofs.goal_at.Tie as tie
+
+shared-slice-read-signed-of : tie.Need-shared-slice-read-signed-of
+shared-slice-read-signed-of c = search needs
+
+add-signed-of : tie.Need-add-signed-of
+add-signed-of c = search needs
+
+shared-slice-read-signed-of-2 : tie.Need-shared-slice-read-signed-of-2
+shared-slice-read-signed-of-2 c = search needs
+
+add-signed-of-2 : tie.Need-add-signed-of-2
+add-signed-of-2 c = search needs
+
+shared-slice-read-signed-of-3 : tie.Need-shared-slice-read-signed-of-3
+shared-slice-read-signed-of-3 c = search needs
+
+add-signed-of-3 : tie.Need-add-signed-of-3
+add-signed-of-3 c = search needs
+
+shared-slice-read-signed-of-4 : tie.Need-shared-slice-read-signed-of-4
+shared-slice-read-signed-of-4 c = search needs
+
+signed-of-requires : tie.Need-signed-of-requires
+signed-of-requires c κs = search needs
+
+returns : tie.Need-returns
+returns c = toZ-ofZ {w = w32} (record { sfits = c .signed-of .ok }) ∙ c .signed-of .ensures ∙ ap signed (four-bytes _ _)
+
+pub goal-at-spec : {M : Type 1} → statement M
+goal-at-spec =
+    tie.close
+    (tie.spec
+    shared-slice-read-signed-of
+    add-signed-of
+    shared-slice-read-signed-of-2
+    add-signed-of-2
+    shared-slice-read-signed-of-3
+    add-signed-of-3
+    shared-slice-read-signed-of-4
+    signed-of-requires
+    returns)

@@ -1,0 +1,185 @@
+// The test of a plan: whether bytes are Sync Writes end to end that set the wanted goals, each once, and nothing else.
+use packet::Judgement;
+use parameters::Found;
+use plan::Goals;
+use stuffing::Unstuffed;
+ghost use mathlib.Core.Path.{_≡_};
+ghost use mathlib.Core.Option.{none};
+ghost use Prim.Native.Nat.{ℕ, _+_, _≤_, _<_};
+ghost use lib.ListN.{length, take, getD};
+ghost use Rattle.lists.specs.Numbers.{numberAt};
+ghost use Rattle.items.specs.Items.{signed};
+ghost use Rattle.packet.specs.Packet.{WellFormed};
+ghost use Rattle.plan.specs.Goals.{wanted, goalsRefusal};
+ghost use Rattle.plan.specs.Plan.{planHead, goalFound, Plan};
+ghost use Rattle.plan_check.specs.Checking.{entryFor, past, MarkSays, BodySays, PacketSays};
+ghost use Rattle.plan_check.specs.Tested.{Decides, TestSays};
+
+pub enum Tested {
+    Accepted,
+    NotPlan,
+    BadCount,
+    BadGoal,
+}
+
+// What a packet has for an ID: nothing, its goal for the first time, or anything else.
+pub enum Entry {
+    Absent,
+    New,
+    Other,
+}
+
+// The four bytes of a goal.
+fn goal_at(params: &[u8], k: usize) -> i32
+    requires { ⌜ k + 4 ≤ length (now params) ⌝ }
+    ensures { λ r. ⌜ r ≡ signed (numberAt (now (params .entry)) k 4) ⌝ }
+{
+    items::signed_of(params[k], params[k + 1], params[k + 2], params[k + 3])
+}
+
+// The entry of one ID, by the device's own search.
+fn entry_of(params: &[u8], id: u8, goal: i32, stood: u8) -> Entry
+    ensures { λ r. ⌜ r ≡ entryFor goal stood (goalFound id (now (params .entry))) ⌝ }
+{
+    let Found::At(_, at) = parameters::sync_search(params, 4, id) else {
+        return Entry::Absent;
+    };
+    if goal < 0 {
+        return Entry::Other;
+    }
+    if stood != 0 {
+        return Entry::Other;
+    }
+    if goal_at(params, at + 1) != goal {
+        return Entry::Other;
+    }
+    Entry::New
+}
+
+// Marks each ID that has an entry; false if there is none, or one that may not stand.
+fn mark_entries(goals: &[i32], params: &[u8], stood: &mut [u8]) -> bool
+    requires { ⌜ (length (now goals) ≡ 253) × (length (now stood) ≡ 253) ⌝ }
+    ensures { λ r. ⌜ MarkSays (now (goals .entry)) (now (stood .entry)) (now (params .entry)) (now (stood .exit)) r ⌝ }
+{
+    let mut any = false;
+    let mut id = 0;
+    while id < plan::IDS {
+        match entry_of(params, id as u8, goals[id], stood[id]) {
+            Entry::Absent => {}
+            Entry::New => {
+                stood[id] = 1;
+                any = true;
+            }
+            Entry::Other => {
+                return false;
+            }
+        }
+        id += 1;
+    }
+    any
+}
+
+// Whether the body begins as a Sync Write of goal positions.
+fn has_head(body: &[u8]) -> bool
+    ensures { λ r. ⌜ Decides r (take 5 (now (body .entry)) ≡ planHead) ⌝ }
+{
+    if body.len() < 5 {
+        return false;
+    }
+    if body[0] != codes::INST_SYNC_WRITE {
+        return false;
+    }
+    if body[1] != plan::ADDRESS {
+        return false;
+    }
+    if body[2] != 0 {
+        return false;
+    }
+    if body[3] != plan::LENGTH {
+        return false;
+    }
+    if body[4] != 0 {
+        return false;
+    }
+    true
+}
+
+// Marks the IDs of an unstuffed body; false if it is not one that a plan may have here.
+fn mark_body(goals: &[i32], body: &[u8], stood: &mut [u8]) -> bool
+    requires { ⌜ (length (now goals) ≡ 253) × (length (now stood) ≡ 253) ⌝ }
+    ensures { λ r. ⌜ BodySays (now (goals .entry)) (now (stood .entry)) (now (body .entry)) (now (stood .exit)) r ⌝ }
+{
+    if !has_head(body) {
+        return false;
+    }
+    mark_entries(goals, &body[1..], stood)
+}
+
+// Marks the IDs of a packet; false if it is not one that a plan may have here.
+fn mark_packet(goals: &[i32], packet: &[u8], stood: &mut [u8]) -> bool
+    requires { ⌜ (length (now goals) ≡ 253) × (length (now stood) ≡ 253) × WellFormed (now packet) ⌝ }
+    ensures { λ r. ⌜ PacketSays (now (goals .entry)) (now (stood .entry)) (now (packet .entry)) (now (stood .exit)) r ⌝ }
+{
+    if packet[4] != packet_front::BROADCAST_ID {
+        return false;
+    }
+    let mut buffer = [0u8; 1022];
+    let Unstuffed::Count(n) = packet::unstuff(packet, &mut buffer) else {
+        return false;
+    };
+    let body: &[u8] = &buffer;
+    mark_body(goals, &body[..n], stood)
+}
+
+// Whether every wanted ID has stood.
+fn all_stood(goals: &[i32], stood: &[u8]) -> bool
+    requires { ⌜ (length (now goals) ≡ 253) × (length (now stood) ≡ 253) ⌝ }
+    ensures { λ r. ⌜ Decides r ((id : ℕ) → id < 253 → past (now (goals .entry)) (now (stood .entry)) id ≡ wanted (now (goals .entry)) id) ⌝ }
+{
+    let mut id = 0;
+    while id < plan::IDS {
+        if 0 <= goals[id] {
+            if stood[id] == 0 {
+                return false;
+            }
+        }
+        id += 1;
+    }
+    true
+}
+
+// Packet after packet, to the end.
+fn is_plan(goals: &[i32], plan: &[u8]) -> bool
+    requires { ⌜ length (now goals) ≡ 253 ⌝ }
+    ensures { λ r. ⌜ Decides r (Plan (now (goals .entry)) (now (plan .entry))) ⌝ }
+{
+    let mut stood = [0u8; 253];
+    let mut at = 0;
+    while at < plan.len() {
+        let Judgement::Packet(n) = packet::judge(plan, at) else {
+            return false;
+        };
+        if !mark_packet(goals, &plan[at..at + n], &mut stood) {
+            return false;
+        }
+        at += n;
+    }
+    all_stood(goals, &stood)
+}
+
+// Whether the bytes are a plan of the wanted goals. [W2 W3-W5 W9]
+pub fn check(goals: &[i32], plan: &[u8]) -> Tested
+    ensures { λ r. ⌜ TestSays (now (goals .entry)) (now (plan .entry)) r ⌝ }
+{
+    match plan::test_goals(goals) {
+        Goals::BadCount => Tested::BadCount,
+        Goals::BadGoal => Tested::BadGoal,
+        Goals::Good => {
+            if is_plan(goals, plan) {
+                Tested::Accepted
+            } else {
+                Tested::NotPlan
+            }
+        }
+    }
+}

@@ -1,0 +1,3 @@
+mod Accepted
+mod Fewest
+pub mod Planned

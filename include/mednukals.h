@@ -101,8 +101,8 @@ enum {
     DXL_MAX_HELD = 1030,   /* the most bytes that a reader holds between two calls */
     DXL_TABLE_BYTES = 136, /* the control table */
     DXL_V1_MAX_PACKET = 259, /* the longest packet of Protocol 1.0 and Mercury */
-    DXL_MAX_STATUS = 21,   /* the longest status packet of dxl_device and dxl_exchange */
-    DXL_MIN_REPLY = 32,    /* the shortest reply buffer that they accept */
+    DXL_MAX_STATUS = 21,   /* the device's longest status packet; of a reply that it did not make, dxl_status may write 22 */
+    DXL_MIN_REPLY = 32,    /* the shortest reply buffer that is accepted */
     DXL_LOG_FRONT = 1032,  /* a log's bytes before its segments, without the directory */
     DXL_LOG_ENTRY = 8      /* the directory's bytes for each segment */
 };
@@ -250,7 +250,8 @@ int64_t dxl_mercury_encode(uint8_t id, uint8_t instruction, const uint8_t *param
  */
 int64_t dxl_unstuff(const uint8_t *body, size_t n_body, uint8_t *out, size_t n_out);
 
-/* Kinds of events, from a reader's call, from dxl_next_event and for dxl_device. A reader's call can also give DXL_BAD_READER. */
+/* Kinds of events, from a reader's call, from dxl_next_event, and for dxl_device and dxl_carry_out. A reader's call can also give
+ * DXL_BAD_READER. */
 enum {
     DXL_NO_EVENT = 0,    /* no event; from a gap call: nothing is left */
     DXL_PACKET = 1,      /* a well-formed packet */
@@ -289,6 +290,15 @@ struct dxl_step {
  *     static struct dxl_registered registered;  // all 0: none
  *     static struct dxl_reply waiting;          // all 0: silence
  *
+ *     static void slot_came(void)
+ *     {
+ *         uint8_t status[DXL_MIN_REPLY];
+ *         int64_t n = dxl_status(waiting, status, sizeof status);
+ *         if (n > 0)
+ *             send(status, (size_t)n);
+ *         waiting.speaks = 0;
+ *     }
+ *
  *     static void hear(struct dxl_step step)
  *     {
  *         int64_t n = 0;
@@ -296,17 +306,11 @@ struct dxl_step {
  *             n = dxl_unstuff(packet + 7, step.count - 9, body, sizeof body);
  *         struct dxl_carried carried = dxl_carry_out(table, sizeof table, registered, step.kind, step.id, body, (size_t)n);
  *         registered = carried.registered;
- *         if (carried.reply.speaks)
- *             waiting = carried.reply;          // until the slot waiting.slot comes
- *     }
- *
- *     void slot_came(void)
- *     {
- *         uint8_t status[DXL_MIN_REPLY];
- *         int64_t n = dxl_status(waiting, status, sizeof status);
- *         if (n > 0)
- *             send(status, (size_t)n);
- *         waiting.speaks = 0;
+ *         if (carried.reply.speaks) {
+ *             waiting = carried.reply;          // in the place of one that still waits
+ *             if (waiting.slot == 0)
+ *                 slot_came();                  // at once; for any other slot the timer calls it
+ *         }
  *     }
  *
  *     void bytes_came(const uint8_t *chunk, size_t n)
@@ -332,7 +336,7 @@ struct dxl_step {
  *     }
  *
  * Whatever comes over the line, none of these calls is refused. A refusal means that the program passed something unfit, or that
- * its memory was overwritten; examples/board.c, the same loop on a pseudo-terminal, tests for it after each call and stops.
+ * its memory was overwritten; examples/board.c, such a loop on a pseudo-terminal, tests for it after each call and stops.
  */
 
 /* The reader's record: the first count bytes are held. */
@@ -498,7 +502,7 @@ int64_t dxl_fresh(uint8_t *table, size_t n);
 int64_t dxl_measure(uint8_t *table, size_t n, int32_t position, uint8_t hardware_error);
 
 /* A write that waits for Action. Begin with all 0, and pass each call of the device what the last one returned.
- * min and max are new after 0.1.0: firmware that was compiled with that header must be compiled again. */
+ * min and max are new since the first header: firmware that was compiled with that one must be compiled again. */
 struct dxl_registered {
     uint16_t address;
     uint8_t count; /* how many of bytes are to be written, at most 8; 0 if no write waits */
@@ -620,7 +624,7 @@ int64_t dxl_status(struct dxl_reply reply, uint8_t *out, size_t n_out);
 
 /*
  * Writes the wanted goal positions of many devices as Sync Writes, one behind the other, to the start of out: IDs rising, 203
- * devices to each packet but the last. Sent as they are, they set the goals.
+ * devices to each packet but the last.
  *
  * goals, n_goals   253 numbers, one for each ID from 0 to 252: its goal, 0 to 4,095, or -1 if none is wanted
  * out, n_out       the output buffer; 1,293 bytes are always enough
@@ -641,7 +645,7 @@ int64_t dxl_plan(const int32_t *goals, size_t n_goals, uint8_t *out, size_t n_ou
  * over all packets with its goal, and no other ID stands.
  *
  * goals, n_goals   as for dxl_plan
- * plan, n_plan     any bytes, any number of them; none are a plan where nothing is wanted
+ * plan, n_plan     any bytes, any number of them; where nothing is wanted, the plan is no bytes at all
  *
  * Returns 1 if it is accepted, 0 if not, or
  *   -41  n_goals is not 253

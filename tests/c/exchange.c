@@ -11,6 +11,7 @@ static struct dxl_reader reader;
 static uint8_t packet[DXL_MAX_PACKET], body[DXL_MAX_BODY];
 static uint8_t table[DXL_TABLE_BYTES], reply[DXL_MIN_REPLY];
 static struct dxl_registered registered;
+static struct dxl_reply waiting;
 
 /* What was sent, and in which slot at last. */
 static uint8_t sent[512];
@@ -26,6 +27,15 @@ static void send_in_slot(const uint8_t *bytes, size_t n, size_t slot)
     last_slot = slot;
 }
 
+static void slot_came(void)
+{
+    uint8_t status[DXL_MIN_REPLY];
+    int64_t n = dxl_status(waiting, status, sizeof status);
+    if (n > 0)
+        send_in_slot(status, (size_t)n, waiting.slot);
+    waiting.speaks = 0;
+}
+
 static void hear(struct dxl_step step)
 {
     int64_t n = 0;
@@ -33,9 +43,11 @@ static void hear(struct dxl_step step)
         n = dxl_unstuff(packet + 7, step.count - 9, body, sizeof body);
     struct dxl_carried carried = dxl_carry_out(table, sizeof table, registered, step.kind, step.id, body, (size_t)n);
     registered = carried.registered;
-    n = dxl_status(carried.reply, reply, sizeof reply);
-    if (n > 0)
-        send_in_slot(reply, (size_t)n, carried.reply.slot);
+    if (carried.reply.speaks) {
+        waiting = carried.reply;
+        if (waiting.slot == 0)
+            slot_came();
+    }
 }
 
 static void bytes_came(const uint8_t *chunk, size_t n)
@@ -110,6 +122,8 @@ static void exchange(size_t chunk, int with_noise)
         line_was_silent();
     }
     expect(reader.count == 0, "bytes are held at the end", chunk);
+    expect(waiting.speaks && waiting.slot == 1, "the reply to Ping to all does not wait for its slot", chunk);
+    slot_came();
     expect(n_sent == sizeof wanted && memcmp(sent, wanted, sizeof wanted) == 0, "the answers are not those printed", chunk);
     expect(last_slot == 1, "Ping to all is not answered in the slot of the own ID", chunk);
     expect(table[116] == 0 && table[117] == 2, "the goal position is not 512", chunk);
@@ -137,22 +151,25 @@ static void in_one_call(void)
     expect(last_slot == 1 && table[117] == 2 && table[104] == 200, "in one call: slot or table are not those wanted", 0);
 }
 
-/* And by the two calls that wait for the slot in between: packet, body buffer, table, registered write and status are the same. */
+/* And by the two calls that wait for the slot in between: table, body buffer, registered write, slot and status are the same. */
 static void in_two_calls(void)
 {
     static const struct dxl_registered none;
-    uint8_t one[DXL_TABLE_BYTES], two[DXL_TABLE_BYTES], other[DXL_MIN_REPLY];
+    uint8_t one[DXL_TABLE_BYTES], two[DXL_TABLE_BYTES], other[DXL_MIN_REPLY], second[DXL_MAX_BODY] = {0};
     struct dxl_registered left = none;
     dxl_fresh(one, sizeof one);
     dxl_measure(one, sizeof one, 166, 0x20);
     memcpy(two, one, sizeof two);
+    memset(body, 0, sizeof body);
     for (size_t at = 0; at < sizeof line;) {
         size_t n = 7 + line[at + 5] + 256 * (size_t)line[at + 6];
         struct dxl_answer answer = dxl_exchange(one, sizeof one, left, line + at, n, body, sizeof body, reply, sizeof reply);
-        struct dxl_carried carried = dxl_carry_out_packet(two, sizeof two, left, line + at, n, body, sizeof body);
+        struct dxl_carried carried = dxl_carry_out_packet(two, sizeof two, left, line + at, n, second, sizeof second);
         expect(carried.refusal == 0 && memcmp(one, two, sizeof one) == 0, "in two calls: another table", 0);
-        expect(memcmp(&carried.registered.bytes, &answer.registered.bytes, 8) == 0 && carried.registered.count == answer.registered.count
-                   && carried.registered.max == answer.registered.max,
+        expect(memcmp(body, second, sizeof body) == 0, "in two calls: another body buffer", 0);
+        expect(carried.registered.address == answer.registered.address && carried.registered.count == answer.registered.count
+                   && memcmp(carried.registered.bytes, answer.registered.bytes, 8) == 0
+                   && carried.registered.min == answer.registered.min && carried.registered.max == answer.registered.max,
                "in two calls: another registered write", 0);
         expect(carried.reply.speaks == (answer.count > 0) && carried.reply.slot == answer.slot, "in two calls: another slot", 0);
         expect(dxl_status(carried.reply, other, sizeof other) == answer.count, "in two calls: another count", 0);

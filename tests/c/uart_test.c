@@ -498,6 +498,10 @@ static void test_fault(const char *call, const char *number)
         say(NOTHING, 1);
         say((const uint8_t *)"\xFF\xFF\xFD", 3); /* is held until the gap */
         run(20000, 100);
+        instruct(1, DXL_INST_PING, NOTHING, 0);
+        run(20000, 100);
+        say((const uint8_t *)"\xFF\xFF\xFD\x00\x01\x03\x00\x01\x19\x4F", 10); /* a bad checksum */
+        run(20000, 100);
     }
     expect(fault == atoi(number), call);
     unsetenv("REFUSING");
@@ -523,6 +527,9 @@ int main(void)
     test_fault("dxl_reader_feed", "25");
     test_fault("dxl_reader_gap", "25");
     test_fault("dxl_measure", "21");
+    test_fault("dxl_carry_out", "22");
+    test_fault("dxl_carry_out_packet", "23");
+    test_fault("dxl_status", "24");
     if (failures != 0)
         return 1;
     printf("uart: the board on a simulated UART, %u tests\n", tests);

@@ -240,7 +240,7 @@ pub extern "C" fn dxl_next_event(segment: &[u8], from: usize) -> EventNumbers
 }
 
 // The writer of a log: its byte count, or minus a refusal number. That what is written is sound is promised too.
-// [G5 I1-I5 I11-I15 N10-N12 N14 N15]
+// [G5 I1-I5 I11-I15 N4 N10-N12 N14 N15]
 #[no_mangle]
 pub extern "C" fn dxl_log_write(bytes: &[u8], lengths: &[u32], out: &mut [u8]) -> i64
     ensures { λ r. ⌜ r ≡ exported (writeAnswer (now (bytes .entry)) (now (lengths .entry)) (now (out .entry))) ⌝ }
@@ -336,8 +336,8 @@ pub extern "C" fn dxl_exchange(
     numbers::answered(exchange::answer(table, registered, packet, body, reply))
 }
 
-// The first of two calls: what was heard is carried out, and its reply waits for its slot. Kinds as of `dxl_device`.
-// [D50 D51 D54 G5 N5-N7 N10-N12]
+// The first of two calls: what was heard is carried out, and its reply waits for its slot. Kinds as of `dxl_device`, whose theorems
+// hold of it by `Split`. [D40-D42 D49-D51 D54 G5 N5-N7 N10-N12 T20]
 #[no_mangle]
 pub extern "C" fn dxl_carry_out(
     table: &mut [u8],
@@ -350,14 +350,15 @@ pub extern "C" fn dxl_carry_out(
         (carriedReply (now (table .entry)) registered (heardBy kind) (idOfKind kind id) (now (body .entry)))
         (carriedRegistered (now (table .entry)) registered (heardBy kind) (idOfKind kind id) (now (body .entry))) ⌝ }
     ensures { λ _. ⌜ now (table .exit) ≡ carriedTable (now (table .entry)) registered (heardBy kind) (idOfKind kind id) (now (body .entry)) ⌝ }
-    ensures { λ _. ⌜ Split × StaysAccepted × GoalWithinLimits ⌝ }
+    ensures { λ _. ⌜ DevicePromises × Split × StaysAccepted × GoalWithinLimits × Fence ⌝ }
 {
     let heard = heard_by(kind);
     let heard_id = id_of_kind(kind, id);
     numbers::carried(device::carry_out(table, registered, heard, heard_id, body))
 }
 
-// The first call on a packet as received; its body is written to `body` without its stuffing. [D38 D39 D50 D51 D54 G5 N3 N4]
+// The first call on a packet as received; its body is written to `body` without its stuffing. The theorems of `dxl_exchange` hold
+// of it by `Split`. [D38-D42 D49-D51 D54 G5 N3-N7 N10-N12 N14 T20]
 #[no_mangle]
 pub extern "C" fn dxl_carry_out_packet(
     table: &mut [u8],
@@ -370,7 +371,7 @@ pub extern "C" fn dxl_carry_out_packet(
         (packetRegistered (now (table .entry)) registered (now (packet .entry)) (now (body .entry))) ⌝ }
     ensures { λ _. ⌜ (now (table .exit) ≡ packetTable (now (table .entry)) registered (now (packet .entry)) (now (body .entry)))
         × (now (body .exit) ≡ packetBody (now (table .entry)) registered (now (packet .entry)) (now (body .entry))) ⌝ }
-    ensures { λ _. ⌜ Exchange·Split × StaysAccepted × GoalWithinLimits ⌝ }
+    ensures { λ _. ⌜ ExchangePromises × Exchange·Split ⌝ }
 {
     numbers::carried_packet(exchange::carry_out(table, registered, packet, body))
 }

@@ -88,7 +88,8 @@ fn write_status(reply: Reply, out: &mut [u8]) -> Encoded
 }
 
 // Writes the status packet to the start of out; silence writes nothing. Refused, in this order, even for silence: an ID above 252,
-// more than 8 bytes of data, a buffer under 32 bytes. A refusal writes nothing. [D28 D35-D37 N1 N2 N8]
+// more than 8 bytes of data, a buffer under 32 bytes. A refusal writes nothing.
+// [D28 D35-D37 D52 D53 N1 N2 N8 N10-N12 N14]
 pub fn send(reply: Reply, out: &mut [u8]) -> Written
     ensures { λ r. ⌜ writtenAnswer r ≡ statusAnswer reply (now (out .entry)) ⌝ }
     ensures { λ _. ⌜ now (out .exit) ≡ statusOut reply (now (out .entry)) ⌝ }

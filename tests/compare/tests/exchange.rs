@@ -42,7 +42,7 @@ fn received(rng: &mut Rng, table: &[u8]) -> Vec<u8> {
     bytes
 }
 
-/// [D38-D40]
+/// [D38-D40 D50 D51 D54]
 #[test]
 fn packets_of_every_kind() {
     let mut rng = Rng::new(70);

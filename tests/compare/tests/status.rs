@@ -57,7 +57,7 @@ fn any_replies() {
 }
 
 /// The alert goes by the hardware error after the instruction, and ID and level by the table before it; a later change of the table
-/// does not reach a reply that waits. [D29 D30 D50 D54]
+/// does not reach a reply that waits. [D29 D30 D50 D51 D54]
 #[test]
 fn settled_in_the_first_call() {
     let mut rng = Rng::new(82);

@@ -1,4 +1,6 @@
 use mathlib.Core.Path.{sym, _∙_}
+use Rattle.device.proofs.Promises.{device-promises}
+use Rattle.table_rules.proofs.Fence.{fence}
 use Rattle.exchange.proofs.Stays.{stays-accepted}
 use Rattle.exchange.proofs.GoalWithinLimits.{goal-within-limits}
 use Rattle.device.proofs.Split.{split}
@@ -29,7 +31,7 @@ returns c =
     let i = h .before .before in
     rw (sym (i .before .heard-by .ensures), sym (i .id-of-kind .ensures)) (
       c .carried .ensures ∙ by-parts _ _ _ _ _ _ (e .0) (e .1 .0) (e .1 .1 .0),
-      (e .1 .1 .1, (split, stays-accepted, goal-within-limits)),
+      (e .1 .1 .1, (device-promises, split, stays-accepted, goal-within-limits, fence)),
     )
 
 pub dxl-carry-out-spec : {M : Type 1} → statement M

@@ -1,6 +1,5 @@
 use mathlib.Core.Path.{_∙_}
-use Rattle.exchange.proofs.Stays.{stays-accepted}
-use Rattle.exchange.proofs.GoalWithinLimits.{goal-within-limits}
+use Rattle.exchange.proofs.Promises.{exchange-promises}
 use Rattle.exchange.proofs.Split.{split}
 use Rattle.capi.proofs.Carried.{by-parts}
 use borrow.Author.Needs.{needs}
@@ -24,7 +23,7 @@ returns c =
     let h = c .before .before .before .before .before in
     let e = h .carry-out .ensures in (
       c .carried-packet .ensures ∙ by-parts _ _ _ _ _ _ (e .0) (e .1 .0) (e .1 .1 .0),
-      ((e .1 .1 .1 .0, e .1 .1 .1 .1), (split, stays-accepted, goal-within-limits)),
+      ((e .1 .1 .1 .0, e .1 .1 .1 .1), (exchange-promises, split)),
     )
 
 pub dxl-carry-out-packet-spec : {M : Type 1} → statement M

@@ -18,14 +18,15 @@ static const char HELP[] =
     "       dxl --version\n"
     "\n"
     "It ends with 0 where all is well, 1 where the answer is no (a log that is not sound, no packet for the ID), 2 where it does\n"
-    "not know the words, and 3 where a file cannot be read or written or what is asked is refused; then it says why.\n";
+    "not know the words, and 3 where a file cannot be read or written, or a log cannot be written or asked; then it says why.\n";
 
 static const char HELP_WRITE[] =
     "usage: dxl log write OUT CAPTURE...\n"
     "\n"
     "Writes a log of the captures to OUT. Each CAPTURE is a file with the bytes of one segment, and they are numbered from 0 in the\n"
     "order given. An OUT that is there is replaced once the new log is complete; until then it stays, and whatever goes wrong leaves\n"
-    "it as it was. All captures together may have some 4 gigabytes; a second copy of them is kept in the folder of OUT meanwhile.\n";
+    "it as it was. A link is replaced itself. All captures together may have some 4 gigabytes, and must not change meanwhile; where\n"
+    "there are several, a copy of them is kept in the folder of OUT until the log is written.\n";
 
 static const char HELP_CHECK[] =
     "usage: dxl log check LOG\n"
@@ -37,8 +38,8 @@ static const char HELP_LAST[] =
     "usage: dxl log last LOG ID\n"
     "\n"
     "Prints the number of the segment, from 0, that has the last packet with that ID, and the offset of this packet in it. ID is 0 to\n"
-    "252, or 254 for packets to all devices. The log is taken at its word: what its index says is not checked, and only the segment\n"
-    "that it names is read. 'dxl log check' tells whether the index is right.\n";
+    "252, or 254 for packets to all devices. The log is taken at its word: which segments its index names is not checked, and only\n"
+    "the one for this ID is read. 'dxl log check' tells whether the index is right.\n";
 
 static int help(const char *text)
 {
@@ -92,14 +93,15 @@ struct captures {
     size_t total;
 };
 
-/* The captures and how long the log will be; a log that would be too long is not begun. */
+/* The captures and how long the log will be; a log that would be too long is not begun. Several are not mapped, since a process may
+ * have only so many maps. */
 static int map_captures(const char *out, struct captures *captures, uint64_t *size)
 {
     *size = DXL_LOG_FRONT + DXL_LOG_ENTRY * (uint64_t)captures->count;
     captures->total = 0;
     for (size_t i = 0; i < captures->count; i++) {
         struct mapped *file = &captures->files[i];
-        if (!map_file(captures->names[i], file))
+        if (!(captures->count == 1 ? map_file(captures->names[i], file) : measure_file(captures->names[i], file)))
             return 0;
         if (same_file(out, file))
             return say_failure(captures->names[i], "a capture and the log to be written are one file");
@@ -135,7 +137,8 @@ static int write_log(const char *out, struct captures *captures)
 {
     uint64_t size;
     struct output log;
-    if (!map_captures(out, captures, &size) || !join_captures(out, captures) || !begin_output(out, (size_t)size, &log))
+    if (!may_be_written(out) || !map_captures(out, captures, &size) || !join_captures(out, captures)
+        || !begin_output(out, (size_t)size, &log))
         return FAILED;
     int64_t count =
         dxl_log_write(captures->bytes, captures->total, captures->lengths, captures->count, log.bytes, log.count);
@@ -177,7 +180,8 @@ static int log_check(int n, char **words)
         printf("%s: not sound: %s\n", words[0], reason(answer));
         return printed(NO);
     }
-    printf("%s: sound, %u segments in %zu bytes\n", words[0], (unsigned)number_at(log.bytes), log.count);
+    unsigned segments = number_at(log.bytes);
+    printf("%s: sound, %u segment%s in %zu bytes\n", words[0], segments, segments == 1 ? "" : "s", log.count);
     return printed(DONE);
 }
 

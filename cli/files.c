@@ -62,8 +62,11 @@ static void end_program(int number)
 {
     if (unfinished != NULL)
         unlink(unfinished);
-    if (number == SIGBUS)
-        put("dxl: a file was made shorter while it was read\n");
+    if (number == SIGBUS) {
+        put(shown && terminal ? "\ndxl: " : "dxl: ");
+        put("a file was made shorter, or could not be read, while it was mapped\n");
+        _exit(FAILED);
+    }
     signal(number, SIG_DFL);
     raise(number);
 }
@@ -78,16 +81,33 @@ static void listen_to(int number, void (*handler)(int))
     sigaction(number, &action, NULL);
 }
 
-/* What the caller ignores stays ignored, as with nohup. A file that may not become so long is told by the call that asks for room. */
+/* What the caller ignores stays ignored, as with nohup. A file that may not become so long is told by the call that asks for room,
+ * and a reader that has gone by the call that writes. */
 static void listen_to_ends(void)
 {
-    static const int ends[] = {SIGBUS, SIGINT, SIGTERM, SIGHUP};
+    static const int ends[] = {SIGBUS, SIGINT, SIGTERM, SIGHUP, SIGQUIT};
     for (size_t i = 0; i < sizeof ends / sizeof *ends; i++) {
         struct sigaction before;
         if (sigaction(ends[i], NULL, &before) != 0 || before.sa_handler != SIG_IGN)
             listen_to(ends[i], end_program);
     }
     listen_to(SIGXFSZ, SIG_IGN);
+    listen_to(SIGPIPE, SIG_IGN);
+}
+
+/* No signal comes until it is given back what was before. */
+static sigset_t hold_signals(void)
+{
+    sigset_t all, before;
+    sigfillset(&all);
+    sigdelset(&all, SIGBUS);
+    sigprocmask(SIG_BLOCK, &all, &before);
+    return before;
+}
+
+static void let_signals(sigset_t before)
+{
+    sigprocmask(SIG_SETMASK, &before, NULL);
 }
 
 void begin_work(const char *what)
@@ -115,7 +135,7 @@ void end_work(void)
 /* An opened regular file, or -1. */
 static int open_regular(const char *name, struct stat *about)
 {
-    int file = open(name, O_RDONLY | O_CLOEXEC);
+    int file = open(name, O_RDONLY | O_CLOEXEC | O_NONBLOCK | O_NOCTTY); /* a pipe without a writer would wait for one */
     if (file >= 0 && fstat(file, about) == 0) {
         if (S_ISREG(about->st_mode))
             return file;
@@ -129,17 +149,35 @@ static int open_regular(const char *name, struct stat *about)
     return -1;
 }
 
-int map_file(const char *name, struct mapped *mapped)
+/* The opened file, or -1; its bytes are not mapped yet. */
+static int open_measured(const char *name, struct mapped *mapped)
 {
     struct stat about;
     int file = open_regular(name, &about);
     if (file < 0)
-        return 0;
-    listen_to_ends();
+        return -1;
     mapped->bytes = none;
     mapped->count = (size_t)about.st_size;
     mapped->device = about.st_dev;
     mapped->inode = about.st_ino;
+    return file;
+}
+
+int measure_file(const char *name, struct mapped *mapped)
+{
+    int file = open_measured(name, mapped);
+    if (file < 0)
+        return 0;
+    close(file);
+    return 1;
+}
+
+int map_file(const char *name, struct mapped *mapped)
+{
+    int file = open_measured(name, mapped);
+    if (file < 0)
+        return 0;
+    listen_to_ends();
     if (mapped->count > 0) {
         void *bytes = mmap(NULL, mapped->count, PROT_READ, MAP_PRIVATE, file, 0);
         if (bytes == MAP_FAILED) {
@@ -197,9 +235,46 @@ static char *with_ending(const char *name, const char *ending)
 
 int give_up(struct output *output, const char *why)
 {
-    unlink(output->temporary);
+    if (output->temporary != NULL)
+        unlink(output->temporary);
     unfinished = NULL;
     return say_failure(output->name, why);
+}
+
+int may_be_written(const char *name)
+{
+    struct stat about;
+    if (stat(name, &about) == 0 && !S_ISREG(about.st_mode))
+        return say_failure(name, "not a regular file");
+    return 1;
+}
+
+/* The temporary file; a signal finds it either not there or known. */
+static int make_temporary(struct output *output)
+{
+    sigset_t before = hold_signals();
+    int file = mkstemp(output->temporary);
+    if (file >= 0)
+        unfinished = output->temporary;
+    int why = errno;
+    let_signals(before);
+    errno = why;
+    return file;
+}
+
+/* 0, or why there is none; the tick must not end a call that begins anew then. */
+static int take_room(int file, size_t count)
+{
+    sigset_t before, ticks;
+    sigemptyset(&ticks);
+    sigaddset(&ticks, SIGALRM);
+    sigprocmask(SIG_BLOCK, &ticks, &before);
+    int why;
+    do
+        why = posix_fallocate(file, 0, (off_t)count);
+    while (why == EINTR);
+    let_signals(before);
+    return why;
 }
 
 /* Room is taken on the disk first: a mapped file that has none would end the program where it is written. */
@@ -210,16 +285,15 @@ int begin_output(const char *name, size_t count, struct output *output)
     output->temporary = with_ending(name, ".XXXXXX");
     if (output->temporary == NULL)
         return say_failure(name, "no memory");
-    output->file = mkstemp(output->temporary);
+    listen_to_ends();
+    output->file = make_temporary(output);
     if (output->file < 0) {
         int why = errno;
         free(output->temporary);
         output->temporary = NULL;
         return say_failure(name, strerror(why));
     }
-    unfinished = output->temporary;
-    listen_to_ends();
-    int why = posix_fallocate(output->file, 0, (off_t)count);
+    int why = take_room(output->file, count);
     if (why != 0)
         return give_up(output, strerror(why));
     output->bytes = mmap(NULL, count, PROT_READ | PROT_WRITE, MAP_SHARED, output->file, 0);
@@ -234,12 +308,17 @@ int begin_scratch(const char *beside, size_t count, struct output *output)
         return 0;
     unlink(output->temporary);
     unfinished = NULL;
+    free(output->temporary);
+    output->temporary = NULL;
     return 1;
 }
 
-/* The mode that a new file gets; mkstemp makes one that only its owner reads. */
-static mode_t usual_mode(void)
+/* The mode of the file that is replaced, or the one that a new file gets; mkstemp makes one that only its owner reads. */
+static mode_t mode_for(const char *name)
 {
+    struct stat about;
+    if (stat(name, &about) == 0)
+        return about.st_mode & 0777;
     mode_t mask = umask(0);
     umask(mask);
     return 0666 & ~mask;
@@ -247,8 +326,10 @@ static mode_t usual_mode(void)
 
 int finish_output(struct output *output)
 {
-    if (munmap(output->bytes, output->count) != 0 || fchmod(output->file, usual_mode()) != 0 || fsync(output->file) != 0
-        || close(output->file) != 0 || rename(output->temporary, output->name) != 0)
+    int kept = fchmod(output->file, mode_for(output->name)); /* some file systems have no modes: the log is whole all the same */
+    (void)kept;
+    if (munmap(output->bytes, output->count) != 0 || fsync(output->file) != 0 || close(output->file) != 0
+        || rename(output->temporary, output->name) != 0)
         return give_up(output, strerror(errno));
     unfinished = NULL;
     free(output->temporary);

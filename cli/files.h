@@ -33,6 +33,8 @@ struct output {
 
 /* Each of these returns whether it was done; where not, it has said on standard error why. */
 int map_file(const char *name, struct mapped *mapped);
+int measure_file(const char *name, struct mapped *mapped); /* the same without its bytes */
+int may_be_written(const char *name);                      /* not there, or a regular file */
 int begin_output(const char *name, size_t count, struct output *output);    /* gets `name` by finish_output */
 int begin_scratch(const char *beside, size_t count, struct output *output); /* in the same folder, and without a name */
 int append_file(const char *name, uint8_t *out, size_t count); /* all its bytes, which have to be as many as before */

@@ -81,6 +81,20 @@ class Write(Folder):
         mask = os.umask(0)
         os.umask(mask)
         self.assertEqual(self.out.stat().st_mode & 0o777, 0o666 & ~mask)
+        self.out.chmod(0o600)
+        self.assertEqual(run("log", "write", self.out, self.file("ping", PING))[0], DONE)
+        self.assertEqual(self.out.stat().st_mode & 0o777, 0o600)
+
+    # [L9]
+    def test_no_regular_files(self):
+        """What is no regular file is neither replaced by a log nor waited for."""
+        ping, pipe, folder = self.file("ping", PING), self.file("pipe"), self.file("folder")
+        os.mkfifo(pipe)
+        folder.mkdir()
+        for out, capture, named in [(pipe, ping, pipe), (folder, ping, folder), (self.out, pipe, pipe)]:
+            with self.subTest(out=out, capture=capture):
+                self.assertEqual(run("log", "write", out, capture), (FAILED, "", f"dxl: {named}: not a regular file\n"))
+                self.assertEqual(self.names(), ["folder", "ping", "pipe"])
 
     # [L9]
     def test_complete_or_not_there(self):
@@ -125,13 +139,15 @@ class Write(Folder):
         capture = self.file("capture")
         with capture.open("wb") as file:
             file.truncate(LONG)
-        program = subprocess.Popen([PROGRAM, "log", "write", str(self.out), str(capture)], stderr=subprocess.DEVNULL)
-        waited = time.monotonic()
-        while len(self.names()) < 2 and program.poll() is None and time.monotonic() < waited + PATIENCE:
-            time.sleep(0.001)
-        program.send_signal(signal.SIGTERM)
-        self.assertEqual(program.wait(PATIENCE), -signal.SIGTERM)
-        self.assertEqual(self.names(), ["capture"])
+        for number in [signal.SIGTERM, signal.SIGINT, signal.SIGQUIT]:
+            with self.subTest(number):
+                program = subprocess.Popen([PROGRAM, "log", "write", str(self.out), str(capture)], stderr=subprocess.DEVNULL)
+                waited = time.monotonic()
+                while len(self.names()) < 2 and program.poll() is None and time.monotonic() < waited + PATIENCE:
+                    time.sleep(0.001)
+                program.send_signal(number)
+                self.assertEqual(program.wait(PATIENCE), -number)
+                self.assertEqual(self.names(), ["capture"])
 
 
 class Ask(Folder):
@@ -139,7 +155,7 @@ class Ask(Folder):
     def test_answers(self):
         self.assertEqual(run("log", "write", self.out, self.file("ping", PING))[0], DONE)
         log = self.out.read_bytes()
-        self.assertEqual(run("log", "check", self.out), (DONE, f"{self.out}: sound, 1 segments in 1050 bytes\n", ""))
+        self.assertEqual(run("log", "check", self.out), (DONE, f"{self.out}: sound, 1 segment in 1050 bytes\n", ""))
         self.assertEqual(run("log", "last", self.out, 2), (NO, "no packet for ID 2\n", ""))
         self.assertEqual(run("log", "last", self.out, 253), (FAILED, "", f"dxl: {self.out}: 32, an ID of 253 or 255 is never valid\n"))
         self.out.write_bytes(log[:-1])

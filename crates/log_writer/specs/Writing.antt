@@ -29,7 +29,7 @@ directoryBy start (n ∷ ns) = (start, n) ∷ directoryBy (start + n) ns
 abbrev pub written : List ℕ → List ℕ → List ℕ
 written bytes lengths = logOf (cut lengths bytes)
 
--- lengths that do not add up to the bytes given, a file that would be too long, no room: in this order [I12 I13 N10 N15]
+-- lengths that do not add up to the bytes given, a file that would be too long, no room: in this order [I12 I13 N4 N10 N15]
 unfoldable pub writeRefusal : List ℕ → List ℕ → List ℕ → Option ℕ
 writeRefusal bytes lengths out =
     firstFailing

@@ -97,7 +97,7 @@ fn writing() {
     assert!(counts.iter().all(|&count| count > 200), "{counts:?}");
 }
 
-/// Where both refusals apply, 31 comes first. A directory that no file has room for is refused with few bytes. [I12 I13 N10 N15-N17]
+/// Where both refusals apply, 31 comes first. [I12 I13 N10 N15-N17]
 #[test]
 fn refusals_in_order() {
     let mut rng = Rng::new(72);

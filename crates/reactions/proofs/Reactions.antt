@@ -12,17 +12,20 @@ use Rattle.registers.specs.Registers.{tableSize}
 use Rattle.instructions.specs.Instructions.{Effect, refusing, ping, read}
 use Rattle.parameters.specs.Entries.{search}
 use Rattle.parameters.specs.Parameters.{wordAt, bulkRead, syncSearch}
-use Rattle.reactions.specs.Reactions.{ReplyRule, silent, speaks, ownOnly, reaction, Reaction, reacting, counted, ownId, heardPing, heardRead, heardUndefined, byEntry, heardSyncRead, heardBulkRead, heardInstruction}
+use Rattle.reply_rules.specs.Replies.{ReplyRule, ownOnly, Reaction, reacting, counted, ownId}
+use Rattle.sync_reactions.specs.Sync.{byEntry, heardSyncRead}
+use Rattle.bulk_reactions.specs.Bulk.{heardBulkRead}
+use Rattle.reactions.specs.Reactions.{reaction, heardPing, heardRead, heardUndefined, heardInstruction}
 use Rattle.reactions.specs.declared.Heard.{Heard}
 use Rattle.reactions.specs.declared.Heard.the-variants.{Packet, BadChecksum}
 use Rattle.parameters.specs.declared.Found.{Found}
 use Rattle.instructions.specs.Results.{doneWith, doneOf, sized}
 use Rattle.instructions.proofs.Sized.{of-size}
-use Rattle.reactions.specs.Results.{reactedBy, reactedOf, sizedReaction}
+use Rattle.reply_rules.specs.Results.{reactedBy, reactedOf}
 use Rattle.instructions.specs.declared.Done.{Done}
-use Rattle.reactions.specs.declared.Reacted.{Reacted}
+use Rattle.reply_rules.specs.declared.Reacted.{Reacted}
 use Rattle.instructions.specs.declared.RegisteredWrite.{RegisteredWrite}
-use Rattle.reactions.proofs.Lists.{by-list}
+use Rattle.sync_reactions.proofs.Lists.{by-list}
 
 module _ (replying : ReplyRule) (table : List ℕ) (w : RegisteredWrite) (e : Effect) (right : Bool) where
   pub wrong-count : right ≡ false → (r : Reacted) → r ≡ reactedBy replying (doneWith 0x05 [] w)
@@ -137,35 +140,3 @@ module _ (all : Bool) (table : List ℕ) (w : RegisteredWrite) (heard : Heard) w
       → heardInstruction (getD body 0 0) all table w (drop 1 body) ≡ reaction heard all table w body
   some-body [] e h = absurd (h refl)
   some-body (x ∷ xs) e h = rw e
-
--- ---- the size of the table
-
-module _ (table : List ℕ) (w : RegisteredWrite) (q : Reaction) where
-  -- for a caller whose table has its size
-  pub reaction-of-size : length table ≡ tableSize → sizedReaction table w q ≡ q
-  reaction-of-size s = rw (eq-eqb (length table) tableSize s)
-
-  no-reaction : (length table ≡ tableSize → ⊥) → sizedReaction table w q ≡ reacting (refusing table w 21) silent
-  no-reaction n = rw (ne-eqb (length table) tableSize n)
-
-  -- the two promises of `reaction`, by the reaction that the code shows
-  reacted-as : (p : Reaction) → p ≡ sizedReaction table w q → (r : Reacted) (t : List ℕ) → r ≡ reactedOf p → t ≡ p .effect .table
-      → (r ≡ reactedOf (sizedReaction table w q)) × (t ≡ sizedReaction table w q .effect .table)
-  reacted-as p e r t a b = (a ∙ ap reactedOf e, b ∙ ap (λ (x : Reaction). x .effect .table) e)
-
-  pub reacted-of-size : length table ≡ tableSize → (p : Reaction) → p ≡ q → (r : Reacted) (t : List ℕ) → r ≡ reactedOf p → t ≡ p .effect .table
-      → (r ≡ reactedOf (sizedReaction table w q)) × (t ≡ sizedReaction table w q .effect .table)
-  reacted-of-size s p e = reacted-as p (e ∙ sym (reaction-of-size s))
-
-  pub not-reacted : (length table ≡ tableSize → ⊥) → (r : Reacted) (t : List ℕ) → r ≡ reactedBy silent (doneWith 21 [] w) → t ≡ table
-      → (r ≡ reactedOf (sizedReaction table w q)) × (t ≡ sizedReaction table w q .effect .table)
-  not-reacted n = reacted-as (reacting (refusing table w 21) silent) (sym (no-reaction n))
-
--- ---- the reply
-
-pub reacted-done : (q : Reaction) → reactedOf q .done ≡ doneOf (q .effect)
-reacted-done q = by-replying (q .replying)
-  where
-    by-replying : (replying : ReplyRule) → reactedBy replying (doneOf (q .effect)) .done ≡ doneOf (q .effect)
-    by-replying silent = refl
-    by-replying (speaks least slot) = refl

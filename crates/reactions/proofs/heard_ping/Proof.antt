@@ -5,7 +5,7 @@ use borrow.Author.Tests.{eq-eqb, ne-eqb}
 use Rattle.instructions.specs.Instructions.{ping}
 use Rattle.instructions.specs.Results.{doneOf}
 use Rattle.instructions.proofs.Sized.{of-size}
-use Rattle.reactions.specs.Results.{reactedBy}
+use Rattle.reply_rules.specs.Results.{reactedBy}
 use Rattle.reactions.specs.Reactions.{speaks}
 use borrow.Author.Needs.{needs}
 use Rattle.reactions.proofs.heard_ping.Statement.{statement}

@@ -2,8 +2,9 @@ use mathlib.Core.Path.{_≡_, refl, ap, _∙_}
 use mathlib.Core.List.{List}
 use Prim.Native.Nat.{ℕ}
 use Rattle.reactions.specs.Reactions.{Reaction, heardInstruction}
-use Rattle.reactions.specs.Results.{reactedOf}
-use Rattle.reactions.specs.declared.Reacted.{Reacted}
+use Rattle.reply_rules.specs.Results.{reactedOf, sizedReaction}
+use Rattle.reply_rules.proofs.Sized.{reaction-of-size}
+use Rattle.reply_rules.specs.declared.Reacted.{Reacted}
 use Rattle.reactions.proofs.Reactions.{by-number, ping-keeps, read-keeps, sync-read-keeps, bulk-read-keeps, undefined-instruction}
 use borrow.Author.Needs.{needs}
 use Rattle.reactions.proofs.react.Statement.{statement}
@@ -55,6 +56,13 @@ heard s n = heardInstruction n (s .args .all) (s .args .table .now) (s .args .re
 arm : (s : tie.Start) (n : ℕ) (r : Reacted) (t : List ℕ) → s .args .instruction ≡ n → r ≡ reactedOf (heard s n) → t ≡ heard s n .effect .table
     → (r ≡ reactedOf (heard s (s .args .instruction))) × (t ≡ heard s (s .args .instruction) .effect .table)
 arm s n = by-number (s .args .instruction) n (s .args .all) (s .args .table .now) (s .args .registered) (s .args .params .now)
+
+-- and what an arm of another crate answers, for a table of any size
+sized-answer : (s : tie.Start) (n : ℕ) (r : Reacted) → r ≡ reactedOf (sizedReaction (s .args .table .now) (s .args .registered) (heard s n)) → r ≡ reactedOf (heard s n)
+sized-answer s n r a = a ∙ ap reactedOf (reaction-of-size (s .args .table .now) (s .args .registered) (heard s n) (s .pre))
+
+sized-table : (s : tie.Start) (n : ℕ) (t : List ℕ) → t ≡ sizedReaction (s .args .table .now) (s .args .registered) (heard s n) .effect .table → t ≡ heard s n .effect .table
+sized-table s n t b = b ∙ ap (λ (q : Reaction). q .effect .table) (reaction-of-size (s .args .table .now) (s .args .registered) (heard s n) (s .pre))
 
 same-length : tie.Need-same-length
 same-length c = search needs
@@ -123,14 +131,18 @@ unfolding heardInstruction
 returns-9 c =
     let k = c .before .before in
     let s = k .before .before .before in
-    arm s 0x82 _ _ (k .match .keys9) (c .heard-sync-read .ensures) (sync-read-keeps (s .args .table .now) (s .args .registered) (s .args .all) (s .args .params .now))
+    arm s 0x82 _ _ (k .match .keys9) (sized-answer s 0x82 _ (c .heard-sync-read .ensures)) (sync-read-keeps (s .args .table .now) (s .args .registered) (s .args .all) (s .args .params .now))
 
 same-length-9 : tie.Need-same-length-9
 same-length-9 c = search needs
 
 returns-10 : tie.Need-returns-10
 unfolding heardInstruction
-returns-10 c = let r = c .before .before in let k = r .before .before in arm (k .before .before .before) 0x83 _ _ (k .match .keys10) (r .heard-sync-write .ensures .0) (r .heard-sync-write .ensures .1)
+returns-10 c =
+    let r = c .before .before in
+    let k = r .before .before in
+    let s = k .before .before .before in
+    arm s 0x83 _ _ (k .match .keys10) (sized-answer s 0x83 _ (r .heard-sync-write .ensures .0)) (sized-table s 0x83 _ (r .heard-sync-write .ensures .1))
 
 same-length-10 : tie.Need-same-length-10
 same-length-10 c = search needs
@@ -140,14 +152,18 @@ unfolding heardInstruction
 returns-11 c =
     let k = c .before .before in
     let s = k .before .before .before in
-    arm s 0x92 _ _ (k .match .keys11) (c .heard-bulk-read .ensures) (bulk-read-keeps (s .args .table .now) (s .args .registered) (s .args .all) (s .args .params .now))
+    arm s 0x92 _ _ (k .match .keys11) (sized-answer s 0x92 _ (c .heard-bulk-read .ensures)) (bulk-read-keeps (s .args .table .now) (s .args .registered) (s .args .all) (s .args .params .now))
 
 same-length-11 : tie.Need-same-length-11
 same-length-11 c = search needs
 
 returns-12 : tie.Need-returns-12
 unfolding heardInstruction
-returns-12 c = let r = c .before .before in let k = r .before .before in arm (k .before .before .before) 0x93 _ _ (k .match .keys12) (r .heard-bulk-write .ensures .0) (r .heard-bulk-write .ensures .1)
+returns-12 c =
+    let r = c .before .before in
+    let k = r .before .before in
+    let s = k .before .before .before in
+    arm s 0x93 _ _ (k .match .keys12) (sized-answer s 0x93 _ (r .heard-bulk-write .ensures .0)) (sized-table s 0x93 _ (r .heard-bulk-write .ensures .1))
 
 returns-13 : tie.Need-returns-13
 returns-13 c =

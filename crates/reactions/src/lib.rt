@@ -1,7 +1,6 @@
 // What the device makes of what it hears: which instruction is carried out, and how that is answered. A table of another size is
 // refused: nothing is done, NOT_A_TABLE stands in the place of the error number, and nothing is answered.
 use codes::ERROR_CHECKSUM;
-use codes::ERROR_DATA_LENGTH;
 use codes::ERROR_INSTRUCTION;
 use codes::INST_ACTION;
 use codes::INST_BULK_READ;
@@ -16,154 +15,21 @@ use codes::INST_SYNC_READ;
 use codes::INST_SYNC_WRITE;
 use codes::INST_WRITE;
 use instructions::NOT_A_TABLE;
-use instructions::RESET_ALL;
 use instructions::RegisteredWrite;
-use registers::REG_ID;
 use registers::TABLE_BYTES;
 use reply_rules::LEVEL_ALL;
-use reply_rules::LEVEL_PING;
-use reply_rules::LEVEL_READ;
 use reply_rules::Reacted;
 ghost use mathlib.Core.Path.{_≡_};
-ghost use mathlib.Core.Bool.{_&&_};
-ghost use lib.Dec.{eqb};
 ghost use lib.ListN.{length};
 ghost use Rattle.registers.specs.Registers.{tableSize};
 ghost use Rattle.reply_rules.specs.Results.{reactedOf, sizedReaction};
-ghost use Rattle.reactions.specs.Reactions.{heardPing, heardRead, heardWrite, heardRegWrite, heardAction, heardReboot, heardFactoryReset, heardInstruction};
+ghost use Rattle.reactions.specs.Reactions.{heardInstruction};
 ghost use Rattle.reactions.specs.Reactions.{reaction as Reactions·reaction};
 
 // What the device hears: a packet with its unstuffed body, or one whose checksum is wrong, which has no body.
 pub enum Heard {
     Packet,
     BadChecksum,
-}
-
-// What each instruction does and how it is answered. A wrong count of parameters comes first.
-
-fn heard_ping(table: &[u8], registered: RegisteredWrite, all: bool, params: &[u8]) -> Reacted
-    requires { ⌜ length (now table) ≡ tableSize ⌝ }
-    ensures { λ r. ⌜ r ≡ reactedOf (heardPing all (now (table .entry)) registered (now (params .entry))) ⌝ }
-{
-    if params.len() != 0 {
-        return reply_rules::nothing_done(registered, ERROR_DATA_LENGTH, all, LEVEL_PING);
-    }
-    let done = instructions::ping(table, registered);
-    if all {
-        return Reacted {
-            done,
-            speaks: true,
-            level: LEVEL_PING,
-            slot: table[REG_ID] as usize,
-        };
-    }
-    reply_rules::own_only(done, all, LEVEL_PING)
-}
-
-fn heard_read(table: &[u8], registered: RegisteredWrite, all: bool, params: &[u8]) -> Reacted
-    requires { ⌜ length (now table) ≡ tableSize ⌝ }
-    ensures { λ r. ⌜ r ≡ reactedOf (heardRead all (now (table .entry)) registered (now (params .entry))) ⌝ }
-{
-    if params.len() != 4 {
-        return reply_rules::nothing_done(registered, ERROR_DATA_LENGTH, all, LEVEL_READ);
-    }
-    let reading = instructions::read(
-        table,
-        parameters::word_at(params, 0),
-        parameters::word_at(params, 2),
-    );
-    reply_rules::own_only(instructions::keeping(reading, registered), all, LEVEL_READ)
-}
-
-fn heard_write(table: &mut [u8], registered: RegisteredWrite, all: bool, params: &[u8]) -> Reacted
-    requires { ⌜ length (now table) ≡ tableSize ⌝ }
-    ensures { λ r. ⌜ r ≡ reactedOf (heardWrite all (now (table .entry)) registered (now (params .entry))) ⌝ }
-    ensures { λ _. ⌜ now (table .exit) ≡ heardWrite all (now (table .entry)) registered (now (params .entry)) .effect .table ⌝ }
-{
-    if params.len() < 2 {
-        return reply_rules::nothing_done(registered, ERROR_DATA_LENGTH, all, LEVEL_ALL);
-    }
-    let done = instructions::write(
-        table,
-        registered,
-        parameters::word_at(params, 0),
-        &params[2..],
-    );
-    reply_rules::own_only(done, all, LEVEL_ALL)
-}
-
-fn heard_reg_write(
-    table: &mut [u8],
-    registered: RegisteredWrite,
-    all: bool,
-    params: &[u8],
-) -> Reacted
-    requires { ⌜ length (now table) ≡ tableSize ⌝ }
-    ensures { λ r. ⌜ r ≡ reactedOf (heardRegWrite all (now (table .entry)) registered (now (params .entry))) ⌝ }
-    ensures { λ _. ⌜ now (table .exit) ≡ heardRegWrite all (now (table .entry)) registered (now (params .entry)) .effect .table ⌝ }
-{
-    if params.len() < 2 {
-        return reply_rules::nothing_done(registered, ERROR_DATA_LENGTH, all, LEVEL_ALL);
-    }
-    let done = instructions::reg_write(
-        table,
-        registered,
-        parameters::word_at(params, 0),
-        &params[2..],
-    );
-    reply_rules::own_only(done, all, LEVEL_ALL)
-}
-
-fn heard_action(table: &mut [u8], registered: RegisteredWrite, all: bool, params: &[u8]) -> Reacted
-    requires { ⌜ length (now table) ≡ tableSize ⌝ }
-    ensures { λ r. ⌜ r ≡ reactedOf (heardAction all (now (table .entry)) registered (now (params .entry))) ⌝ }
-    ensures { λ _. ⌜ now (table .exit) ≡ heardAction all (now (table .entry)) registered (now (params .entry)) .effect .table ⌝ }
-{
-    if params.len() != 0 {
-        return reply_rules::nothing_done(registered, ERROR_DATA_LENGTH, all, LEVEL_ALL);
-    }
-    let done = instructions::action(table, registered);
-    reply_rules::own_only(done, all, LEVEL_ALL)
-}
-
-fn heard_reboot(table: &mut [u8], registered: RegisteredWrite, all: bool, params: &[u8]) -> Reacted
-    requires { ⌜ length (now table) ≡ tableSize ⌝ }
-    ensures { λ r. ⌜ r ≡ reactedOf (heardReboot all (now (table .entry)) registered (now (params .entry))) ⌝ }
-    ensures { λ _. ⌜ now (table .exit) ≡ heardReboot all (now (table .entry)) registered (now (params .entry)) .effect .table ⌝ }
-{
-    if params.len() != 0 {
-        return reply_rules::nothing_done(registered, ERROR_DATA_LENGTH, all, LEVEL_ALL);
-    }
-    let done = instructions::reboot(table, registered);
-    reply_rules::own_only(done, all, LEVEL_ALL)
-}
-
-// FF to all devices would give them all the same ID.
-fn resets_every_id(all: bool, option: u8) -> bool
-    ensures { λ r. ⌜ r ≡ (all && eqb option 0xFF) ⌝ }
-{
-    all && option == RESET_ALL
-}
-
-fn heard_factory_reset(
-    table: &mut [u8],
-    registered: RegisteredWrite,
-    all: bool,
-    params: &[u8],
-) -> Reacted
-    requires { ⌜ length (now table) ≡ tableSize ⌝ }
-    ensures { λ r. ⌜ r ≡ reactedOf (heardFactoryReset all (now (table .entry)) registered (now (params .entry))) ⌝ }
-    ensures { λ _. ⌜ now (table .exit) ≡ heardFactoryReset all (now (table .entry)) registered (now (params .entry)) .effect .table ⌝ }
-{
-    if params.len() != 1 {
-        return reply_rules::nothing_done(registered, ERROR_DATA_LENGTH, all, LEVEL_ALL);
-    }
-    let option = params[0];
-    if resets_every_id(all, option) {
-        return reply_rules::nothing_done(registered, 0, all, LEVEL_ALL);
-    }
-    let done = instructions::factory_reset(table, registered, option);
-    reply_rules::own_only(done, all, LEVEL_ALL)
 }
 
 fn react(
@@ -178,13 +44,13 @@ fn react(
     ensures { λ _. ⌜ now (table .exit) ≡ heardInstruction instruction all (now (table .entry)) registered (now (params .entry)) .effect .table ⌝ }
 {
     match instruction {
-        INST_PING => heard_ping(&table[..], registered, all, params),
-        INST_READ => heard_read(&table[..], registered, all, params),
-        INST_WRITE => heard_write(table, registered, all, params),
-        INST_REG_WRITE => heard_reg_write(table, registered, all, params),
-        INST_ACTION => heard_action(table, registered, all, params),
-        INST_FACTORY_RESET => heard_factory_reset(table, registered, all, params),
-        INST_REBOOT => heard_reboot(table, registered, all, params),
+        INST_PING => single_reactions::heard_ping(&table[..], registered, all, params),
+        INST_READ => single_reactions::heard_read(&table[..], registered, all, params),
+        INST_WRITE => single_reactions::heard_write(table, registered, all, params),
+        INST_REG_WRITE => single_reactions::heard_reg_write(table, registered, all, params),
+        INST_ACTION => single_reactions::heard_action(table, registered, all, params),
+        INST_FACTORY_RESET => single_reactions::heard_factory_reset(table, registered, all, params),
+        INST_REBOOT => single_reactions::heard_reboot(table, registered, all, params),
         INST_STATUS => reply_rules::quiet(registered, 0),
         INST_SYNC_READ => sync_reactions::heard_sync_read(&table[..], registered, all, params),
         INST_SYNC_WRITE => sync_reactions::heard_sync_write(table, registered, all, params),

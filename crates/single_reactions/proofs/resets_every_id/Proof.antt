@@ -1,5 +1,5 @@
-use Rattle.reactions.proofs.resets_every_id.Statement.{statement}
-use Rattle.reactions.proofs.resets_every_id.Tie as tie
+use Rattle.single_reactions.proofs.resets_every_id.Statement.{statement}
+use Rattle.single_reactions.proofs.resets_every_id.Tie as tie
 
 returns : tie.Need-returns
 returns c = rw (c .if1 .taken)

@@ -1,10 +1,16 @@
 """Builds the exports over another checksum leaf: usage other_leaf.py LEAF FOLDER, in the repository's root
 
 All leaves make the same promise to the letter. A copy of the tree is made outside the repository, in which the callers of the leaf
-`crc16` name LEAF instead: in their sources, their proofs and crates.txt, and nothing else. There the callers and all crates from
-them up to the exports are proved, each once, and the archives of the exports go to FOLDER. Crates that do not stand on the leaf are
-not proved again where target/ has them proved.
+`crc16` name LEAF instead: in their sources, their proofs and crates.txt, and nothing else. There the callers are proved over it, and
+the exports again, and the archives of the exports go to FOLDER.
+
+The crates between the callers and the exports rest on what the callers promise and not on their code. So the archives are built from
+these as they were proved over the first leaf: by `rattle build` itself, since `rt` goes by files alone. `rattle` takes a module of
+theirs, proofs included, as it was checked only where all that it rests on is as it was then, and checks every other one again; how
+many of either there are is printed.
 """
+import os
+import platform
 import re
 import shutil
 import subprocess
@@ -37,15 +43,6 @@ def callers(stands_on):
     return sorted(crate for crate, names in stands_on.items() if LEAF in names)
 
 
-def from_callers(stands_on):
-    """The callers, and what stands between them and the exports."""
-    exports = set(ARCHIVES).union(*(stands_on[crate] for crate in ARCHIVES))
-    found = set(callers(stands_on))
-    while more := {crate for crate, names in stands_on.items() if crate in exports and found & set(names)} - found:
-        found |= more
-    return found
-
-
 def change_over(room, leaf):
     """Puts the other leaf's name in the place of the first one's. Answers how many lines that changes in each caller."""
     table = room / "crates.txt"
@@ -64,40 +61,57 @@ def change_over(room, leaf):
     return changed
 
 
-def rt(room, *words):
-    made = subprocess.run(["rt", *words], cwd=room, capture_output=True, text=True)
+def run(words, room):
+    made = subprocess.run(words, cwd=room, stdout=subprocess.PIPE, stderr=subprocess.STDOUT, text=True, check=False)
     if made.returncode != 0:
-        sys.exit(f"other_leaf: rt {' '.join(words)}: {made.stdout[-3000:]}{made.stderr[-3000:]}")
+        sys.exit(f"other_leaf: {words[0]} {words[1]}: {made.stdout[-6000:]}")
     return made.stdout
+
+
+def build(room, crate, stands_on, archive):
+    """Proves and builds an export crate over the libraries in the copy's target/, as `rt staticlib` does. Answers what is said."""
+    home = Path(os.environ.get("RATTLE_HOME") or Path(shutil.which("rt")).resolve().parent.parent)
+    own = home / "on" / platform.machine()
+    libraries = {"std": own / "rlib" / "std.rlib", **{name: room / "target" / "rlib" / f"{name}.rlib" for name in stands_on[crate]}}
+    words = [word for name, library in libraries.items() for word in ("--extern", f"{name}={library}")]
+    words += [word for folder in (room / "target" / "rlib", own / "rlib") for word in ("-L", f"dependency={folder}")]
+    words += ["--antt-project", home / "logic" / "antt-project.json", "--logic-built", own / "logic-built"]
+    words += ["--toolchain", own / "toolchain", "--crate-type", "staticlib", "-o", archive]
+    return run([own / "bin" / "rattle", "build", "--crate-name", crate, f"crates/{crate}/src/lib.rt", *words], room)
 
 
 def main(leaf, folder):
     if promise(leaf) != promise(LEAF):
         sys.exit(f"other_leaf: {leaf}::update and {LEAF}::update do not make the same promise")
-    folder = Path(folder)
+    folder = Path(folder).resolve()
     folder.mkdir(parents=True, exist_ok=True)
     with tempfile.TemporaryDirectory(prefix="mednukals-") as name:
-        room = Path(name)
+        room = Path(name).resolve()
         shutil.copytree("crates", room / "crates", ignore=shutil.ignore_patterns("must-fail"))
         shutil.copy("crates.txt", room)
         for part in KEPT:
             if (Path("target") / part).exists():
                 shutil.copytree(Path("target") / part, room / "target" / part)
+        first = dependencies((room / "crates.txt").read_text(encoding="utf-8"))
+        run(["rt", "check", *sorted(set().union(*(first[crate] for crate in ARCHIVES)))], room)  # what target/ lacks
         changed = change_over(room, leaf)
         stands_on = dependencies((room / "crates.txt").read_text(encoding="utf-8"))
-        below = set(changed).union(*(stands_on[crate] for crate in ARCHIVES)) - set(ARCHIVES)
-        said = rt(room, "check", *sorted(below))
+        said = run(["rt", "check", *sorted(set(changed) - set(ARCHIVES))], room)
         proved = set(re.findall(r"^rt: (\w+) proved \(\d+ s\)", said, flags=re.M))
+        modules = {"loaded": 0, "checked": 0}
         for crate, archive in ARCHIVES.items():
-            if re.search(r"^logic=proved ", rt(room, "staticlib", crate), flags=re.M):
+            said = build(room, crate, stands_on, folder / archive)
+            if re.search(r"^logic=proved ", said, flags=re.M):
                 proved.add(crate)
-            shutil.copy(room / "target" / "staticlib" / f"lib{crate}.a", folder / archive)
-        missing = from_callers(dependencies(Path("crates.txt").read_text(encoding="utf-8"))) - proved
+            for library in re.findall(r"^library \w+: modules loaded=(\d+) checked=(\d+)", said, flags=re.M):
+                modules = {what: modules[what] + int(count) for what, count in zip(modules, library)}
+        missing = (set(changed) | set(ARCHIVES)) - proved
         if missing or not all(changed.values()):
             sys.exit(f"other_leaf: not proved over {leaf}: {sorted(missing)}; lines changed: {changed}")
     lines = ", ".join(f"{crate} {count}" for crate, count in changed.items())
     print(f"other leaf: the callers name {leaf} (lines changed: {lines}), and nothing else differs")
     print(f"other leaf: proved over it: {', '.join(sorted(proved))}")
+    print(f"other leaf: of the modules beneath the exports, {modules['loaded']} stand as they were checked and {modules['checked']} were checked again")
 
 
 if __name__ == "__main__":

@@ -13,8 +13,8 @@ use Rattle.instructions.specs.Registered.{LimitsOf}
 use Rattle.instructions.specs.Instructions.{Effect, action}
 use Rattle.instructions.proofs.Acting.{limits-of, not-limits, not-acted, acts-on-same}
 use Rattle.reactions.specs.Reactions.{ownId, reacting, unchanged, silent, reaction}
-use Rattle.reactions.specs.Refused.{isAction, actsOn}
-use Rattle.reactions.proofs.Theorems.{acting}
+use Rattle.reaction_laws.specs.Refused.{isAction, actsOn}
+use Rattle.reaction_laws.proofs.Theorems.{acting}
 use Rattle.device.specs.Device.{executed}
 use Rattle.device.specs.Answers.{sent, callRefusal, callAnswer}
 use Rattle.device.specs.ActionLimits.{actsHere, DroppedByLimits, ActionNeedsSameLimits}

@@ -14,7 +14,7 @@ use Rattle.table_rules.specs.Rules.{readRule}
 use Rattle.control_table.proofs.Theorems.{read-short}
 use Rattle.instructions.proofs.Options.{each-option, each-action}
 use Rattle.instructions.proofs.Errors.{read-number, write-number}
-use Rattle.reactions.proofs.Every.{every}
+use Rattle.reaction_laws.proofs.Every.{every}
 use Rattle.device.proofs.Replies.{to-whomever}
 use Rattle.instructions.specs.Instructions.{Effect, ping, read, write, regWrite, action}
 use Rattle.reactions.specs.Reactions.{ReplyRule, silent, speaks, ownId, Reaction, reaction}

@@ -13,8 +13,8 @@ use Rattle.encoder.specs.Writing.{withChecksum, packetOf}
 use Rattle.status.specs.Status.{silence, errorByte, status, replyBytes}
 use Rattle.instructions.specs.Instructions.{Effect}
 use Rattle.reactions.specs.Reactions.{ReplyRule, silent, speaks, Reaction, ownId}
-use Rattle.reactions.specs.Refused.{tableIfRefused, registeredIfRefused}
-use Rattle.reactions.proofs.Theorems.{refused as reaction-refused}
+use Rattle.reaction_laws.specs.Refused.{tableIfRefused, registeredIfRefused}
+use Rattle.reaction_laws.proofs.Theorems.{refused as reaction-refused}
 use Rattle.device.specs.Device.{hardwareErrorIn, replyBy, executed, carryOut}
 use Rattle.device.specs.Answers.{sent, refused, answeredBy, callRefusal, callAnswer}
 use Rattle.device.specs.Demand1.{LeftAlone, LeftByRefusal, Demand1}

@@ -10,7 +10,7 @@ use Rattle.reactions.specs.Reactions.{ownId, ReplyRule, silent, speaks, reactio
 use Rattle.device.specs.Device.{replyBy, Carried, carried, executed, carryOut}
 use Rattle.reactions.specs.declared.Heard.{Heard}
 use Rattle.instructions.specs.Results.{doneOf}
-use Rattle.reactions.specs.Results.{reactedBy, reactedOf}
+use Rattle.reply_rules.specs.Results.{reactedBy, reactedOf}
 use Rattle.device.specs.Results.{replyTo}
 use Rattle.status.specs.Status.{silence}
 use Rattle.instructions.specs.declared.RegisteredWrite.{RegisteredWrite}

@@ -15,7 +15,7 @@ use Rattle.instructions.proofs.Options.{each-option, each-action}
 use Rattle.instructions.proofs.Kept.{Kept, write-keeps, reg-write-keeps, action-keeps, factory-reset-keeps}
 use Rattle.instructions.proofs.Fit.{reg-write-short}
 use Rattle.reactions.specs.Reactions.{Reaction}
-use Rattle.reactions.proofs.Every.{every}
+use Rattle.reaction_laws.proofs.Every.{every}
 use Rattle.device.specs.Device.{executed}
 use Rattle.device.specs.Answers.{stateRefusal, carriedTable, carriedRegistered, callRefusal, callTable, callRegistered}
 use Rattle.instructions.specs.Registered.{keptBy}

@@ -7,7 +7,7 @@ use lib.Dec.{eqb}
 use lib.ListN.{set}
 use Rattle.instructions.specs.Registered.{dropped, LimitsOf}
 use Rattle.reactions.specs.Reactions.{ownId}
-use Rattle.reactions.specs.Refused.{actsOn}
+use Rattle.reaction_laws.specs.Refused.{actsOn}
 use Rattle.device.specs.Answers.{sent, callAnswer, callTable, callRegistered}
 use Rattle.device.specs.Demand1.{errorNumber}
 use Rattle.instructions.specs.declared.RegisteredWrite.{RegisteredWrite}

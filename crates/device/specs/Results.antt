@@ -4,7 +4,7 @@ use mathlib.Core.List.{List}
 use Prim.Native.Nat.{ℕ}
 use lib.Dec.{leb}
 use Rattle.status.specs.Status.{silence, errorByte}
-use Rattle.reactions.specs.declared.Reacted.{Reacted}
+use Rattle.reply_rules.specs.declared.Reacted.{Reacted}
 use Rattle.device.specs.Device.{Carried, hardwareErrorIn}
 use Rattle.device.specs.declared.CarriedOut.{CarriedOut}
 use Rattle.device.specs.declared.Replied.the-variants.{Sent}

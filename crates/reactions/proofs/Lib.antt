@@ -1,4 +1,1 @@
-mod Lists
 pub mod Reactions
-pub mod Every
-pub mod Theorems

@@ -1,3 +1,1 @@
 pub mod Reactions
-pub mod Results
-pub mod Refused

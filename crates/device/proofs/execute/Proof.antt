@@ -4,13 +4,13 @@ use Prim.Native.Nat.{ℕ}
 use native.Mathlib.Omega.{arith}
 use lib.ListN.{getD}
 use Rattle.instructions.specs.declared.Done.{Done}
-use Rattle.reactions.specs.declared.Reacted.{Reacted}
+use Rattle.reply_rules.specs.declared.Reacted.{Reacted}
 use Rattle.status.specs.declared.Reply.{Reply}
 use Rattle.reactions.specs.Reactions.{Reaction, reaction}
-use Rattle.reactions.specs.Results.{reactedOf}
+use Rattle.reply_rules.specs.Results.{reactedOf}
 use Rattle.device.specs.Device.{replyBy}
 use Rattle.device.specs.Results.{replyTo}
-use Rattle.reactions.proofs.Reactions.{reaction-of-size, reacted-done}
+use Rattle.reply_rules.proofs.Sized.{reaction-of-size, reacted-done}
 use Rattle.device.specs.declared.Replied.the-variants.{Sent}
 use Rattle.device.proofs.Bounds.{reaction-small}
 use Rattle.device.proofs.Replies.{reply-of}

@@ -4,7 +4,8 @@ use native.Mathlib.Omega.{arith}
 use lib.ListN.{length, drop, length-drop}
 use lib.Seq.{take-all}
 use Rattle.reactions.specs.Reactions.{reaction}
-use Rattle.reactions.proofs.Reactions.{bad-checksum, empty-body, some-body, reacted-of-size, not-reacted}
+use Rattle.reply_rules.proofs.Sized.{reacted-of-size, not-reacted}
+use Rattle.reactions.proofs.Reactions.{bad-checksum, empty-body, some-body}
 use borrow.Author.Needs.{needs}
 use Rattle.reactions.proofs.reaction.Statement.{statement}
 use Rattle.reactions.proofs.reaction.Tie as tie

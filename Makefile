@@ -10,12 +10,11 @@ SHELL := /bin/sh
 
 comma := ,
 
-# Each crate listed here becomes an archive for C: capi is libmednukals.a, capi_NAME is libmednukals_NAME.a.
-EXPORT_CRATES := capi capi_test
+# Each crate of crates.txt whose name begins with capi is an object of libmednukals.a; capi_test alone is libmednukals_test.a.
+EXPORT_CRATES := $(shell sed -n 's/^\(capi[a-z0-9_]*\):.*/\1/p' crates.txt)
 PROGRAMS := checksum line
 
-archive = build/lib/$(patsubst capi%,libmednukals%,$(1)).a
-LIBS := $(foreach crate,$(EXPORT_CRATES),$(call archive,$(crate)))
+LIBS := build/lib/libmednukals.a build/lib/libmednukals_test.a
 # The same over another checksum function, crc16_LEAF: its exports, and those of the tests beside them.
 LEAVES := small fold
 leaf_libs = build/lib/libmednukals_$(1).a build/$(1)/libmednukals_test.a
@@ -128,7 +127,7 @@ lib: $(MADE_LIBS)
 
 # The callers of the checksum function are proved over another one in a copy of the tree, so that this may run beside rt.
 define leaf_rule
-build/lib/libmednukals_$(1).a: $(SOURCES) KIT tests/other_leaf.py
+build/lib/libmednukals_$(1).a: $(SOURCES) KIT tests/other_leaf.py tests/archives.py tools/join.sh
 	@$$(call need,rt)
 	@$$(call need,python3)
 	@$$(call step,archive-$(1),proving the exports over crc16_$(1) and building $$@) python3 tests/other_leaf.py crc16_$(1) build/$(1)
@@ -156,13 +155,16 @@ build/c/dxl: $(CLI_SOURCES) cli/files.h include/mednukals.h build/lib/libmednuka
 	@mkdir -p $(@D)
 	@$(CC) $(WARNINGS) $(POSIX) -O2 -Iinclude -o $@ $(CLI_SOURCES) build/lib/libmednukals.a || $(call failed,compiling the tool dxl)
 
+# $(call archive_rule,ARCHIVE,CRATES)
 define archive_rule
-$(call archive,$(1)): $(SOURCES)
+build/lib/$(1): $(SOURCES) tools/join.sh
 	@$$(call need,rt)
-	@$$(call step,archive-$(1),proving the exports and building $$@) rt staticlib $(1)
-	@mkdir -p $$(@D) && cp target/staticlib/lib$(1).a $$@
+	@$$(call need,ar)
+	@$(foreach crate,$(2),$$(call step,archive-$(crate),proving the exports of $(crate)) rt staticlib $(crate) &&) true
+	@mkdir -p $$(@D) && sh tools/join.sh $$@ $(2:%=target/staticlib/lib%.a) || $$(call failed,building $$@)
 endef
-$(foreach crate,$(EXPORT_CRATES),$(eval $(call archive_rule,$(crate))))
+$(eval $(call archive_rule,libmednukals.a,$(filter-out capi_test,$(EXPORT_CRATES))))
+$(eval $(call archive_rule,libmednukals_test.a,capi_test))
 
 # rt ci comes last: it removes target/, and its count is the last line. The tests that link the archives run beside it.
 test: kit format promises_test constants_test vectors_test make_test

@@ -20,14 +20,15 @@ import threading
 import time
 from pathlib import Path
 
+from archives import FIRMWARE, TESTS as FOR_TESTS, archives, join
+
 LOG = Path("build/log/rt-ci.log")
 KEPT = ["rlib", "obj", "bin", "log", "stamp"]  # of target/: what rt goes by to see that a crate is proved
-ARCHIVES = {"capi": "libmednukals.a", "capi_test": "libmednukals_test.a"}
 PROGRAMS = ["line", "checksum"]
 TESTS = ["c_test", "header_test", "install_test", "docs_test", "programs_test", "cli_test", "demo_test", "counts_test",
          "rust_test", "leaf_test"]
 # what the tests link is there: make must not call rt in this tree beside the command
-MADE = [f"build/lib/{archive}" for archive in ARCHIVES.values()] + [f"build/bin/{program}" for program in PROGRAMS]
+MADE = [f"build/lib/{archive}" for archive in (FIRMWARE, FOR_TESTS)] + [f"build/bin/{program}" for program in PROGRAMS]
 OTHERS = [Path(f"build/lib/libmednukals_{leaf}.a") for leaf in ("small", "fold")]  # those of an earlier run say nothing of this tree
 LINKED = Path("build/c")  # likewise, and make would not link them anew: to it the archives are old
 MOST_LINES, MOST_CHARACTERS = 40, 500  # of what a failed proof says
@@ -38,7 +39,7 @@ def say(label, seconds):
     print(f"{label:<64}{seconds:>6} s", flush=True)
 
 
-def archives(room):
+def linked(room):
     """Archives and programs under build/, from what is proved."""
     shutil.copytree("crates", room / "crates")
     shutil.copy("crates.txt", room)
@@ -46,12 +47,13 @@ def archives(room):
         shutil.copytree(Path("target") / part, room / "target" / part)
     Path("build/lib").mkdir(parents=True, exist_ok=True)
     Path("build/bin").mkdir(parents=True, exist_ok=True)
-    for crate, archive in ARCHIVES.items():
+    for archive, crates in archives((room / "crates.txt").read_text(encoding="utf-8")).items():
         began = time.monotonic()
-        made = subprocess.run(["rt", "staticlib", crate], cwd=room, capture_output=True, text=True, check=False)
-        if made.returncode != 0:
-            return f"the archive of {crate}: {made.stdout[-2000:]}{made.stderr[-2000:]}"
-        shutil.copy(room / "target" / "staticlib" / f"lib{crate}.a", Path("build/lib") / archive)
+        for crate in crates:
+            made = subprocess.run(["rt", "staticlib", crate], cwd=room, capture_output=True, text=True, check=False)
+            if made.returncode != 0:
+                return f"the archive of {crate}: {made.stdout[-2000:]}{made.stderr[-2000:]}"
+        join(Path("build/lib") / archive, [room / "target" / "staticlib" / f"lib{crate}.a" for crate in crates])
         say(f"build/lib/{archive}", round(time.monotonic() - began))
     for program in PROGRAMS:
         shutil.copy(room / "target" / "bin" / program, Path("build/bin") / program)
@@ -67,7 +69,7 @@ class Tests(threading.Thread):
 
     def run(self):
         with tempfile.TemporaryDirectory(prefix="mednukals-") as room:
-            self.fault = archives(Path(room))
+            self.fault = linked(Path(room))
         if not self.fault:
             self.fault = self.targets()
         if self.fault:

@@ -88,6 +88,28 @@ class Install(unittest.TestCase):
             self.assertIn(f'"{Path.cwd() / folder}/lib"', fields(Path(folder, "lib/pkgconfig/mednukals.pc"))["Libs"])
 
 
+class Linked(unittest.TestCase):
+    """A program has the objects whose exports it calls, and no other."""
+
+    def exports(self, *calls):
+        """The exports in a program that names these."""
+        with tempfile.TemporaryDirectory() as folder:
+            source, program = Path(folder, "program.c"), str(Path(folder, "program"))
+            names = ", ".join(f"(void (*)(void)){name}" for name in calls)
+            source.write_text('#include "mednukals.h"\n'
+                              f"void (*volatile const called[])(void) = {{{names}}};\n"
+                              "int main(void) { return called[0] == 0; }\n", encoding="utf-8")
+            run(CC, "-std=c99", "-Iinclude", "-o", program, str(source), ARCHIVE)
+            run(program)
+            return set(re.findall(r"\bT (dxl_\w+)$", run("nm", program), flags=re.M))
+
+    def test_only_what_is_called(self):
+        new, old, both = self.exports("dxl_crc16"), self.exports("dxl_p1_encode"), self.exports("dxl_crc16", "dxl_p1_encode")
+        self.assertIn("dxl_reader_feed", new)
+        self.assertIn("dxl_mercury_encode", old)
+        self.assertEqual((new & old, new | old), (set(), both))
+
+
 class Version(unittest.TestCase):
     def test_one_version(self):
         text = HEADER.read_text(encoding="utf-8")

@@ -115,13 +115,14 @@ class Gate(unittest.TestCase):
     """gate.py with stand-ins for rt and make, in a folder of its own."""
 
     def gate(self, text, status=0, make="[ -e build/c ] || echo all tests",
-             rt="mkdir -p target/staticlib && : >target/staticlib/lib$2.a"):
+             rt="mkdir -p target/staticlib && : >$2.o && ar qc target/staticlib/lib$2.a $2.o"):
         with tempfile.TemporaryDirectory() as folder:
             made = [f"target/{part}" for part in ("rlib", "obj", "bin", "log", "stamp")]
             for part in ["crates", "bin", "build/c/of_an_earlier_run", *made]:
                 Path(folder, part).mkdir(parents=True)
-            for file in ["crates.txt", "target/bin/line", "target/bin/checksum"]:
+            for file in ["target/bin/line", "target/bin/checksum"]:
                 Path(folder, file).touch()
+            Path(folder, "crates.txt").write_text("capi: lists\ncapi_other: lists\ncapi_test: lists\n", encoding="utf-8")
             Path(folder, "said").write_text(text, encoding="utf-8")
             for name, does in {"rt": rt, "make": make, "ci": f"cat said; sleep 0.2; exit {status}"}.items():
                 path = Path(folder, "bin", name)
@@ -130,6 +131,8 @@ class Gate(unittest.TestCase):
             places = {**os.environ, "PATH": f"{folder}/bin:{os.environ['PATH']}"}
             code, output, errors = run(sys.executable, str(ROOT / "tests/gate.py"), "ci", cwd=folder, env=places)
             self.assertEqual(Path(folder, "build/log/rt-ci.log").read_text(encoding="utf-8"), text)
+            if code == 0:
+                self.assertEqual(run("ar", "t", f"{folder}/build/lib/libmednukals.a")[1], "capi.o\ncapi_other.o\n")
             return code, untimed(output), errors
 
     def test_good(self):

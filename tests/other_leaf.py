@@ -18,8 +18,9 @@ import sys
 import tempfile
 from pathlib import Path
 
+from archives import archives, join
+
 LEAF = "crc16"
-ARCHIVES = {"capi": "libmednukals.a", "capi_test": "libmednukals_test.a"}
 KEPT = ["rlib", "stamp"]  # of target/: what rt goes by to see that a crate is proved
 NAMED = re.compile(rf"(?<![\w-]){LEAF}(?=::|\.)")  # as a source calls it and a proof cites it
 
@@ -92,20 +93,24 @@ def main(leaf, folder):
         for part in KEPT:
             if (Path("target") / part).exists():
                 shutil.copytree(Path("target") / part, room / "target" / part)
-        first = dependencies((room / "crates.txt").read_text(encoding="utf-8"))
-        run(["rt", "check", *sorted(set().union(*(first[crate] for crate in ARCHIVES)))], room)  # what target/ lacks
+        table = (room / "crates.txt").read_text(encoding="utf-8")
+        first, made = dependencies(table), archives(table)
+        exports = set().union(*made.values())
+        run(["rt", "check", *sorted(set().union(*(first[crate] for crate in exports)))], room)  # what target/ lacks
         changed = change_over(room, leaf)
         stands_on = dependencies((room / "crates.txt").read_text(encoding="utf-8"))
-        said = run(["rt", "check", *sorted(set(changed) - set(ARCHIVES))], room)
+        said = run(["rt", "check", *sorted(set(changed) - exports)], room)
         proved = set(re.findall(r"^rt: (\w+) proved \(\d+ s\)", said, flags=re.M))
         modules = {"loaded": 0, "checked": 0}
-        for crate, archive in ARCHIVES.items():
-            said = build(room, crate, stands_on, folder / archive)
+        for crate in sorted(exports):
+            said = build(room, crate, stands_on, room / f"lib{crate}.a")
             if re.search(r"^logic=proved ", said, flags=re.M):
                 proved.add(crate)
             for library in re.findall(r"^library \w+: modules loaded=(\d+) checked=(\d+)", said, flags=re.M):
                 modules = {what: modules[what] + int(count) for what, count in zip(modules, library)}
-        missing = (set(changed) | set(ARCHIVES)) - proved
+        for archive, crates in made.items():
+            join(folder / archive, [room / f"lib{crate}.a" for crate in crates])
+        missing = (set(changed) | exports) - proved
         if missing or not all(changed.values()):
             sys.exit(f"other_leaf: not proved over {leaf}: {sorted(missing)}; lines changed: {changed}")
     lines = ", ".join(f"{crate} {count}" for crate, count in changed.items())

@@ -18,9 +18,6 @@ ghost use Rattle.crc.specs.Flips.{flippedSum, Flipped};
 ghost use Rattle.stuffing.specs.Answers.{removalAnswer, removalOut};
 ghost use Rattle.encoder.specs.Encoding.{encodeAnswer, encodeOut};
 ghost use Rattle.encoder.specs.RoundTrip.{RoundTrip};
-ghost use Rattle.packet_v1.specs.Packet.{upTo, lastOfP1, lastOfMercury};
-ghost use Rattle.encoder_v1.specs.Encoding.{encodeAnswer as encodeV1Answer, encodeOut as encodeV1Out};
-ghost use Rattle.encoder_v1.specs.RoundTrip.{RoundTrip as RoundTripV1};
 ghost use Rattle.table_rules.specs.Outcomes.{inTable};
 ghost use Rattle.table_rules.specs.Fence.{Fence};
 ghost use Rattle.control_table.specs.Answers.{freshOut, measureOut};
@@ -82,45 +79,6 @@ pub extern "C" fn dxl_encode(
     ensures { λ _. ⌜ RoundTrip ⌝ }
 {
     numbers::encoded(encoder::encode(id, instruction, params, out, at))
-}
-
-// The encoder of Protocol 1.0, likewise. [G5 N1 N2 N4 O9-O11]
-#[no_mangle]
-pub extern "C" fn dxl_p1_encode(
-    id: u8,
-    instruction: u8,
-    params: &[u8],
-    out: &mut [u8],
-    at: usize,
-) -> i64
-    ensures { λ r. ⌜ r ≡ exported (encodeV1Answer (upTo lastOfP1) id (instruction ∷ now (params .entry)) (now (out .entry)) at) ⌝ }
-    ensures { λ _. ⌜ now (out .exit) ≡ encodeV1Out (upTo lastOfP1) id (instruction ∷ now (params .entry)) (now (out .entry)) at ⌝ }
-    ensures { λ _. ⌜ RoundTripV1 (upTo lastOfP1) ⌝ }
-{
-    numbers::encoded(encoder_v1::encode(packet_v1::LAST_OF_P1, id, instruction, params, out, at))
-}
-
-// The encoder of Mercury, likewise. [G5 N1 N2 N4 O9-O11]
-#[no_mangle]
-pub extern "C" fn dxl_mercury_encode(
-    id: u8,
-    instruction: u8,
-    params: &[u8],
-    out: &mut [u8],
-    at: usize,
-) -> i64
-    ensures { λ r. ⌜ r ≡ exported (encodeV1Answer (upTo lastOfMercury) id (instruction ∷ now (params .entry)) (now (out .entry)) at) ⌝ }
-    ensures { λ _. ⌜ now (out .exit) ≡ encodeV1Out (upTo lastOfMercury) id (instruction ∷ now (params .entry)) (now (out .entry)) at ⌝ }
-    ensures { λ _. ⌜ RoundTripV1 (upTo lastOfMercury) ⌝ }
-{
-    numbers::encoded(encoder_v1::encode(
-        packet_v1::LAST_OF_MERCURY,
-        id,
-        instruction,
-        params,
-        out,
-        at,
-    ))
 }
 
 // Removal of stuffing: the count of the unstuffed bytes, or minus a refusal number. [G5 N3 N4 S8-S11]

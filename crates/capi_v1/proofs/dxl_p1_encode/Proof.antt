@@ -1,12 +1,12 @@
 use mathlib.Core.Path.{ap, _∙_}
 use mir.Facts.{toZ-ofZ}
 use mir.Syntax.{w64}
-use Rattle.packet_v1.specs.Packet.{upTo, lastOfMercury}
+use Rattle.packet_v1.specs.Packet.{upTo, lastOfP1}
 use Rattle.encoder_v1.proofs.RoundTrip.{round-trip}
 use Rattle.numbers.specs.Exported.{exported}
 use borrow.Author.Needs.{needs}
-use Rattle.capi.proofs.dxl_mercury_encode.Statement.{statement}
-use Rattle.capi.proofs.dxl_mercury_encode.Tie as tie
+use Rattle.capi_v1.proofs.dxl_p1_encode.Statement.{statement}
+use Rattle.capi_v1.proofs.dxl_p1_encode.Tie as tie
 
 encode-requires : tie.Need-encode-requires
 encode-requires c κs = search needs
@@ -21,8 +21,8 @@ returns : tie.Need-returns
 returns c =
     let e = c .before .before .before .encode in (
       toZ-ofZ {w = w64} (record { sfits = c .encoded .ok }) ∙ c .encoded .ensures ∙ ap exported (e .ensures .0),
-      (e .ensures .1, round-trip (upTo lastOfMercury)),
+      (e .ensures .1, round-trip (upTo lastOfP1)),
     )
 
-pub dxl-mercury-encode-spec : {M : Type 1} → statement M
-dxl-mercury-encode-spec = tie.close (tie.spec encode-requires encoded-requires same-length returns)
+pub dxl-p1-encode-spec : {M : Type 1} → statement M
+dxl-p1-encode-spec = tie.close (tie.spec encode-requires encoded-requires same-length returns)

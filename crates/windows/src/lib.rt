@@ -47,6 +47,18 @@ pub enum Stop {
     },
 }
 
+fn wanting(seen: Scanned, lacks: usize) -> Live
+    ensures { λ r. ⌜ r ≡ record { seen = seen; lacks = lacks } ⌝ }
+{
+    Live { seen, lacks }
+}
+
+fn ending(seen: Scanned, end: usize) -> Window
+    ensures { λ r. ⌜ r ≡ record { seen = seen; end = end } ⌝ }
+{
+    Window { seen, end }
+}
+
 fn least(a: usize, b: usize) -> usize
     ensures { λ r. ⌜ r ≡ min a b ⌝ }
 {
@@ -68,31 +80,19 @@ fn scan(s: &[u8], from: usize) -> Live
     loop {
         let at = packet_front::next_ff(s, next);
         if s.len() <= at {
-            return Live {
-                seen: Scanned::Waiting { at },
-                lacks: 0,
-            };
+            return wanting(Scanned::Waiting { at }, 0);
         }
         match packet_front::look(&s[at..]) {
             Begun::Nothing => {}
             Begun::Waiting(lacks) => {
-                return Live {
-                    seen: Scanned::Waiting { at },
-                    lacks,
-                };
+                return wanting(Scanned::Waiting { at }, lacks);
             }
             Begun::Whole(size) => match packet::judge_whole(&s[at..at + size]) {
                 Judgement::Packet(count) => {
-                    return Live {
-                        seen: Scanned::Packet { at, count },
-                        lacks: 0,
-                    };
+                    return wanting(Scanned::Packet { at, count }, 0);
                 }
                 Judgement::BadChecksum(id) => {
-                    return Live {
-                        seen: Scanned::BadChecksum { at, id },
-                        lacks: 0,
-                    };
+                    return wanting(Scanned::BadChecksum { at, id }, 0);
                 }
                 _ => {}
             },
@@ -137,33 +137,21 @@ pub fn advance(chunk: &[u8]) -> Window
     loop {
         let at = packet_front::next_ff(chunk, past);
         if chunk.len() <= at {
-            return Window {
-                seen: Scanned::Waiting { at },
-                end: chunk.len(),
-            };
+            return ending(Scanned::Waiting { at }, chunk.len());
         }
         match packet_front::look(&chunk[at..]) {
             Begun::Nothing => {}
             Begun::Waiting(_) => {
-                return Window {
-                    seen: Scanned::Waiting { at },
-                    end: chunk.len(),
-                };
+                return ending(Scanned::Waiting { at }, chunk.len());
             }
             Begun::Whole(size) => {
                 end = greatest(end, at + size);
                 match packet::judge_whole(&chunk[at..at + size]) {
                     Judgement::Packet(count) => {
-                        return Window {
-                            seen: Scanned::Packet { at, count },
-                            end,
-                        };
+                        return ending(Scanned::Packet { at, count }, end);
                     }
                     Judgement::BadChecksum(id) => {
-                        return Window {
-                            seen: Scanned::BadChecksum { at, id },
-                            end,
-                        };
+                        return ending(Scanned::BadChecksum { at, id }, end);
                     }
                     _ => {}
                 }

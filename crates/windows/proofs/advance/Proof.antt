@@ -43,10 +43,15 @@ module _ (f : tie.After-next-ff Inv-loop μ-loop) where
   sought : Sought protocol2 settledBy s here so-far
   sought = next-sought s (f .before .loop .past) here (f .next-ff .ensures) so-far (f .before .loop .inv)
 
+ending-requires : tie.Need-ending-requires Inv-loop μ-loop
+ending-requires c κs = search needs
+
 returns : tie.Need-returns Inv-loop μ-loop
 returns c =
-    let f = c .before in
-    sought-end protocol2 laws settledBy settles (s f) (here f) (so-far f) (sought f) (inr (c .if1 .taken))
+    let d = c .before in
+    let f = d .before in
+    rw (c .ending .ensures)
+    (sought-end protocol2 laws settledBy settles (s f) (here f) (so-far f) (sought f) (inr (d .if1 .taken)))
 
 sub-look : tie.Need-sub-look Inv-loop μ-loop
 sub-look c = search needs
@@ -77,11 +82,16 @@ module _ (l : tie.After-look Inv-loop μ-loop) where
   told : (b : Begun) → l .look .result ≡ b → Looked protocol2 settledBy (drop (here f) (s f)) b
   told b e = look-at (s f) (here f) (l .look .result) (l .look .ensures) b e
 
+ending-requires-2 : tie.Need-ending-requires-2 Inv-loop μ-loop
+ending-requires-2 c κs = search needs
+
 returns-2 : tie.Need-returns-2 Inv-loop μ-loop
 returns-2 c =
-    let l = c .before .before in
+    let d = c .before in
+    let l = d .before .before in
     let g = f l in
-    sought-end protocol2 laws settledBy settles (s g) (here g) (so-far g) (sought g) (inl (told l _ (c .enum-told2 .given .1) .0))
+    rw (c .ending2 .ensures)
+    (sought-end protocol2 laws settledBy settles (s g) (here g) (so-far g) (sought g) (inl (told l _ (d .enum-told2 .given .1) .0)))
 
 enum-known-size : tie.Need-enum-known-size Inv-loop μ-loop
 enum-known-size c = search needs
@@ -149,22 +159,32 @@ module _ (j : tie.After-judge-whole Inv-loop μ-loop) where
       judge-at (s o) (here o) (l y .look .result) (l y .look .ensures) (size y) (y .size .given .1) (j .judge-whole .result) v
       (j .judge-whole .ensures) e
 
+ending-requires-3 : tie.Need-ending-requires-3 Inv-loop μ-loop
+ending-requires-3 c κs = search needs
+
 returns-3 : tie.Need-returns-3 Inv-loop μ-loop
 returns-3 c =
-    let j = c .before .before .before in
+    let d = c .before in
+    let j = d .before .before .before in
     let a = o j in
-    sought-packet protocol2 laws settledBy settles (s a) (here a) (so-far a) (sought a) (last j) (some (l (y j))) (g j .greatest .ensures .0)
-    (behind j) (one-of j) _ (omega (arith, none-lacks)) (judgement j _ (c .before .count .given .1))
+    rw (c .ending3 .ensures)
+    (sought-packet protocol2 laws settledBy settles (s a) (here a) (so-far a) (sought a) (last j) (some (l (y j))) (g j .greatest .ensures .0)
+    (behind j) (one-of j) _ (omega (arith, none-lacks)) (judgement j _ (d .before .count .given .1)))
 
 enum-known-id : tie.Need-enum-known-id Inv-loop μ-loop
 enum-known-id c = search needs
 
+ending-requires-4 : tie.Need-ending-requires-4 Inv-loop μ-loop
+ending-requires-4 c κs = search needs
+
 returns-4 : tie.Need-returns-4 Inv-loop μ-loop
 returns-4 c =
-    let j = c .before .before .before in
+    let d = c .before in
+    let j = d .before .before .before in
     let a = o j in
-    sought-bad protocol2 laws settledBy settles (s a) (here a) (so-far a) (sought a) (last j) (some (l (y j))) (g j .greatest .ensures .0)
-    (behind j) (one-of j) _ (omega arith) (omega (arith, none-lacks)) (judgement j _ (c .before .id .given .1))
+    rw (c .ending4 .ensures)
+    (sought-bad protocol2 laws settledBy settles (s a) (here a) (so-far a) (sought a) (last j) (some (l (y j))) (g j .greatest .ensures .0)
+    (behind j) (one-of j) _ (omega arith) (omega (arith, none-lacks)) (judgement j _ (d .before .id .given .1)))
 
 add-past : tie.Need-add-past Inv-loop μ-loop
 add-past c = search needs
@@ -214,6 +234,7 @@ advance-spec =
     μ-loop
     loop-holds
     next-ff-requires
+    ending-requires
     returns
     sub-look
     part-look-start
@@ -221,6 +242,7 @@ advance-spec =
     look-requires
     enum-told
     enum-told-2
+    ending-requires-2
     returns-2
     enum-known-size
     add-greatest
@@ -231,8 +253,10 @@ advance-spec =
     part-judge-whole-end
     judge-whole-requires
     enum-known-count
+    ending-requires-3
     returns-3
     enum-known-id
+    ending-requires-4
     returns-4
     add-past
     loop-less

@@ -51,11 +51,16 @@ module _ (f : tie.After-next-ff Inv-loop μ-loop) where
       let n = next-start s (f .before .loop .next) here (f .next-ff .ensures) open′ (i .1) in
       (omega (arith, i .0, n .0), n .0, n .1, i .2 ∙ n .2)
 
+wanting-requires : tie.Need-wanting-requires Inv-loop μ-loop
+wanting-requires c κs = search needs
+
 returns : tie.Need-returns Inv-loop μ-loop
 returns c =
-    let f = c .before in
+    let d = c .before in
+    let f = d .before in
     let i = start f in
-    let l = c .if1 .taken in
+    let l = d .if1 .taken in
+    rw (c .wanting .ensures)
     (scan-end protocol2 laws _ (s f) _ (here f) (i .0) (i .3) l (i .2), λ h. absurd (omega arith))
 
 sub-look : tie.Need-sub-look Inv-loop μ-loop
@@ -84,11 +89,16 @@ module _ (l : tie.After-look Inv-loop μ-loop) where
   told : (b : Begun) → l .look .result ≡ b → Looked protocol2 settledBy (drop (here f) (s f)) b
   told b e = look-at (s f) (here f) (l .look .result) (l .look .ensures) b e
 
+wanting-requires-2 : tie.Need-wanting-requires-2 Inv-loop μ-loop
+wanting-requires-2 c κs = search needs
+
 returns-2 : tie.Need-returns-2 Inv-loop μ-loop
 returns-2 c =
-    let l = c .before .before .before in
+    let d = c .before in
+    let l = d .before .before .before in
     let i = start (f l) in
-    let w = told l _ (c .before .lacks .given .1) in (
+    let w = told l _ (d .before .lacks .given .1) in
+    rw (c .wanting2 .ensures) (
       scan-waits protocol2 laws (s (f l)) _ (here (f l)) (i .0) (l .before .before .if1 .left) (w .0) (i .3),
       λ _. scan-wants protocol2 laws (s (f l)) _ (here (f l)) (i .0) (l .before .before .if1 .left) (w .0) _ (w .1),
     )
@@ -133,22 +143,32 @@ module _ (j : tie.After-judge-whole Inv-loop μ-loop) where
       judge-at (s (f l)) (here (f l)) (l .look .result) (l .look .ensures) (z .size .given .0 .0) (z .size .given .1) (j .judge-whole .result) v
       (j .judge-whole .ensures) e
 
+wanting-requires-3 : tie.Need-wanting-requires-3 Inv-loop μ-loop
+wanting-requires-3 c κs = search needs
+
 returns-3 : tie.Need-returns-3 Inv-loop μ-loop
 returns-3 c =
-    let j = c .before .before .before in
+    let d = c .before in
+    let j = d .before .before .before in
     let g = f (l j) in
     let i = start g in
-    (scan-packet protocol2 laws _ (s g) _ (here g) (i .0) (i .3) _ (l j .before .before .if1 .left) (judgement j _ (c .before .count .given .1)), refl)
+    rw (c .wanting3 .ensures)
+    (scan-packet protocol2 laws _ (s g) _ (here g) (i .0) (i .3) _ (l j .before .before .if1 .left) (judgement j _ (d .before .count .given .1)), refl)
 
 enum-known-id : tie.Need-enum-known-id Inv-loop μ-loop
 enum-known-id c = search needs
 
+wanting-requires-4 : tie.Need-wanting-requires-4 Inv-loop μ-loop
+wanting-requires-4 c κs = search needs
+
 returns-4 : tie.Need-returns-4 Inv-loop μ-loop
 returns-4 c =
-    let j = c .before .before .before in
+    let d = c .before in
+    let j = d .before .before .before in
     let g = f (l j) in
     let i = start g in
-    (scan-bad protocol2 laws _ (s g) _ (here g) (i .0) (i .3) _ (omega arith) (l j .before .before .if1 .left) (judgement j _ (c .before .id .given .1)), refl)
+    rw (c .wanting4 .ensures)
+    (scan-bad protocol2 laws _ (s g) _ (here g) (i .0) (i .3) _ (omega arith) (l j .before .before .if1 .left) (judgement j _ (d .before .id .given .1)), refl)
 
 add-next : tie.Need-add-next Inv-loop μ-loop
 add-next c = search needs
@@ -183,6 +203,7 @@ scan-spec =
     μ-loop
     loop-holds
     next-ff-requires
+    wanting-requires
     returns
     sub-look
     part-look-start
@@ -190,6 +211,7 @@ scan-spec =
     look-requires
     enum-told
     enum-known-lacks
+    wanting-requires-2
     returns-2
     enum-known-size
     add-judge-whole
@@ -198,8 +220,10 @@ scan-spec =
     part-judge-whole-end
     judge-whole-requires
     enum-known-count
+    wanting-requires-3
     returns-3
     enum-known-id
+    wanting-requires-4
     returns-4
     add-next
     loop-less

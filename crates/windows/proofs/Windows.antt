@@ -26,6 +26,10 @@ pub not-none : (n : ℕ) → (n ≡ 0 → ⊥) → 0 < n
 not-none zero h = absurd (h refl)
 not-none (suc n) h = omega arith
 
+-- the least of three is within the first
+pub least-first : (a b c n m : ℕ) → n ≡ min a b → m ≡ min n c → m ≤ a
+least-first a b c n m e f = omega (arith, e, f)
+
 -- bytes that are not given back to the chunk are some
 pub not-back : (k n : ℕ) → (leb k n && ltb k 10) ≡ false → k ≡ 0 → ⊥
 not-back k n e z =

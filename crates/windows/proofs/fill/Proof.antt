@@ -9,7 +9,7 @@ use Rattle.packet.proofs.Laws.{laws, undecided}
 use Rattle.windows.specs.Scan.{Waits}
 use Rattle.windows.proofs.Windows.{not-none, Filling, filling-start, filling-none, filling-fits, filling-ordered}
 use Rattle.windows.proofs.Windows.{filling-decided, window-fits, window-end}
-use Rattle.windows.proofs.Windows.{not-back, window-back, window-full, window-waits, window-room, window-more, room-behind}
+use Rattle.windows.proofs.Windows.{least-first, not-back, window-back, window-full, window-waits, window-room, window-more, room-behind}
 use mathlib.Core.Path.{_≡_, refl, sym, _∙_}
 use Prim.Native.Nat.{ℕ, _+_, _-_, _≤_, _<_}
 use native.Mathlib.Omega.{arith}
@@ -156,7 +156,7 @@ module _ (l : tie.After-least3 Inv-loop μ-loop) where
       )
 
   within : m ≤ lacks g
-  within = omega (arith, l .least3 .ensures, l .before .least2 .ensures)
+  within = least-first (lacks g) _ _ _ _ (l .before .least2 .ensures) (l .least3 .ensures)
 
   taken-fits : p g .loop .taken + m ≤ length (w .args .chunk .now)
   taken-fits = omega (arith, l .least3 .ensures, p g .loop .inv .taken-within)

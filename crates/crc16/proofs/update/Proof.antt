@@ -1,57 +1,58 @@
--- The loop keeps: the table keeps its rule, and the pass has come to the byte at i.
-use mathlib.Core.Path.{refl}
-use Prim.Native.Nat.{ℕ, _-_, _/_, _^_, _<_}
-use native.Mathlib.Nat.{lt-of-lt-of-le}
+-- The loop keeps: the pass has come to the byte at i, with a register that is kept as two numbers of the table.
+use mathlib.Core.Path.{_≡_, sym, ap, _∙_}
+use Prim.Native.Nat.{ℕ, _-_, _*_, _/_, _%_, _^_, _<_}
+use native.Mathlib.Nat.{mod-lt}
 use native.Mathlib.Omega.{arith}
-use lib.Pow.{pow-mono}
-use lib.Bits.{bitXor}
+use lib.Pow.{pow-pos}
+use lib.Bits.{bitXor, xor-lt, xor-zero-r}
 use lib.ListN.{length, getD}
 use borrow.Author.Needs.{needs}
-use Rattle.crc.specs.Crc.{reduceIf, shift, shifts, crcFrom}
-use Rattle.crc.proofs.Lookup.{Rule, rule, entry-lt, by-byte, index-lt}
+use Rattle.lists.proofs.Xor.{xor-twice}
+use Rattle.crc.specs.Crc.{shifts, crcFrom}
+use Rattle.crc.proofs.Lookup.{kept, met, by-byte}
 use Rattle.crc.proofs.Laws.{sum-laws, Passed, pass-byte, pass-end}
 use Rattle.crc16.proofs.update.Statement.{statement}
 use Rattle.crc16.proofs.update.Tie as tie
 
 abbrev Inv-loop : tie.InvT-loop
-Inv-loop start bytes table crc₀ i₀ crc i = Rule 8 8 table × Passed (crcFrom start bytes) bytes i crc
+Inv-loop start bytes last₀ before₀ i₀ last before i = (last < 2 ^ 16) × Passed (crcFrom start bytes) bytes i (kept last before)
 
 abbrev μ-loop : tie.MeasureT-loop
-μ-loop start bytes table crc₀ i₀ crc i = length bytes - i
+μ-loop start bytes last₀ before₀ i₀ last before i = length bytes - i
 
--- the test of all 256 entries is computed here
 loop-holds : tie.Need-loop-holds Inv-loop μ-loop
-unfolding reduceIf shift shifts
-loop-holds c = (rule 8 8 _ tt, (search needs, search needs))
+loop-holds c =
+    let s = c .before .args .start in
+    let small : s < 2 ^ 16 = c .before .fits .start .fits in
+    let same : kept s 0 ≡ s = xor-zero-r s in
+    (small, (rw same small, ap (λ (x : ℕ). crcFrom x (c .before .args .bytes .now)) same))
 
-mul-crc : tie.Need-mul-crc Inv-loop μ-loop
-mul-crc c = omega arith
+shared-slice-read-met : tie.Need-shared-slice-read-met Inv-loop μ-loop
+shared-slice-read-met c = omega arith
 
-shared-slice-read-crc : tie.Need-shared-slice-read-crc Inv-loop μ-loop
-shared-slice-read-crc c = omega arith
+cast-met : tie.Need-cast-met Inv-loop μ-loop
+cast-met c = omega (arith, c .shared-slice-known2 .given (c .before .before .loop .i))
 
-cast-crc : tie.Need-cast-crc Inv-loop μ-loop
-cast-crc c = omega (arith, c .shared-slice-known .given (c .before .before .loop .i))
+module _ (c : tie.After-shared-slice-known2 Inv-loop μ-loop) where
+  abbrev h : tie.At-loop Inv-loop μ-loop
+  h = c .before .before
 
-module _ (c : tie.After-shared-slice-known Inv-loop μ-loop) where
   abbrev byte : ℕ
-  byte = getD (c .before .before .before .args .bytes .now) (c .before .before .loop .i) 0
+  byte = getD (c .before .before .before .before .args .bytes .now) (h .loop .i) 0
 
   small : byte < 2 ^ 8
-  small = c .shared-slice-known .given (c .before .before .loop .i) .fits
+  small = c .shared-slice-known2 .given (h .loop .i) .fits
 
-  index : bitXor (c .before .before .loop .crc / 2 ^ 8) byte < 2 ^ 8
-  index = index-lt 8 8 refl _ _ (c .before .before .loop .inv .1 .0) small
+  -- the register with the byte in it has 16 bits too
+  met-small : met (h .loop .last) (h .loop .before) byte < 2 ^ 16
+  met-small =
+      xor-lt 16 (h .loop .last) (bitXor (h .loop .before) byte * 2 ^ 8 % 2 ^ 16) (h .loop .inv .0) (mod-lt _ (pow-pos 16))
 
-mul-crc-2 : tie.Need-mul-crc-2 Inv-loop μ-loop
-mul-crc-2 c = omega (arith, index c)
+cast-entry : tie.Need-cast-entry Inv-loop μ-loop
+cast-entry c = omega (arith, met-small c)
 
-array-read-crc : tie.Need-array-read-crc Inv-loop μ-loop
-array-read-crc c = index c
-
-cast-crc-2 : tie.Need-cast-crc-2 Inv-loop μ-loop
-cast-crc-2 c =
-    record { fits = lt-of-lt-of-le (entry-lt _ (c .before .before .loop .inv .0) _ (index c)) (pow-mono {i = 16} {j = 64} (omega arith)) }
+entry-requires : tie.Need-entry-requires Inv-loop μ-loop
+entry-requires c κs = search needs
 
 add-i : tie.Need-add-i Inv-loop μ-loop
 add-i c = omega arith
@@ -61,18 +62,16 @@ loop-less c = omega arith
 
 loop-again : tie.Need-loop-again Inv-loop μ-loop
 loop-again c =
-    let h = c .before .before .loop in (
-      h .inv .0,
-      pass-byte _ _ (h .i) (h .crc) (h .inv .1) _ (c .before .loop-test .taken)
-          (by-byte _ (h .inv .0) (h .crc) (byte c) (h .inv .1 .0) (small c)),
-    )
-
-cast-result : tie.Need-cast-result Inv-loop μ-loop
-cast-result c = omega arith
+    let b = c .before in
+    let l = h b .loop in
+    let e : c .entry .result ≡ shifts 8 (met (l .last) (l .before) (byte b) / 2 ^ 8 * 2 ^ 8) =
+    c .entry .ensures ∙ ap (λ (x : ℕ). shifts 8 (x * 2 ^ 8)) (xor-twice 128 _) in
+    let next = ap (λ (x : ℕ). kept x (l .last)) e ∙ by-byte (l .last) (l .before) (byte b) (small b) in
+    (omega (arith, c .entry .ok), pass-byte _ _ (l .i) (kept (l .last) (l .before)) (l .inv .1) _ (b .before .loop-test .taken) next)
 
 returns : tie.Need-returns Inv-loop μ-loop
 returns c =
-    let h = c .before .loop in (pass-end _ _ (h .i) (h .crc) (h .inv .1) (c .loop-test .left), sum-laws)
+    let h = c .before .loop in (pass-end _ _ (h .i) (kept (h .last) (h .before)) (h .inv .1) (c .loop-test .left), sum-laws)
 
 pub update-spec : {M : Type 1} → statement M
 update-spec =
@@ -81,14 +80,11 @@ update-spec =
     Inv-loop
     μ-loop
     loop-holds
-    mul-crc
-    shared-slice-read-crc
-    cast-crc
-    mul-crc-2
-    array-read-crc
-    cast-crc-2
+    shared-slice-read-met
+    cast-met
+    cast-entry
+    entry-requires
     add-i
     loop-less
     loop-again
-    cast-result
     returns)

@@ -1,5 +1,6 @@
 -- The loop keeps: the pass has come to the byte at i, with a register that is kept as two numbers of the table.
 use mathlib.Core.Path.{_≡_, sym, ap, _∙_}
+use mathlib.Core.List.{List}
 use Prim.Native.Nat.{ℕ, _-_, _*_, _/_, _%_, _^_, _<_}
 use native.Mathlib.Nat.{mod-lt}
 use native.Mathlib.Omega.{arith}
@@ -20,12 +21,14 @@ Inv-loop start bytes last₀ before₀ i₀ last before i = (last < 2 ^ 16) × P
 abbrev μ-loop : tie.MeasureT-loop
 μ-loop start bytes last₀ before₀ i₀ last before i = length bytes - i
 
+-- a start is kept as itself and 0
+from-start : (start : ℕ) (s : List ℕ) → start < 2 ^ 16 → (start < 2 ^ 16) × Passed (crcFrom start s) s 0 (kept start 0)
+from-start start s h =
+    let same : kept start 0 ≡ start = xor-zero-r start in
+    (h, (rw same h, ap (λ (x : ℕ). crcFrom x s) same))
+
 loop-holds : tie.Need-loop-holds Inv-loop μ-loop
-loop-holds c =
-    let s = c .before .args .start in
-    let small : s < 2 ^ 16 = c .before .fits .start .fits in
-    let same : kept s 0 ≡ s = xor-zero-r s in
-    (small, (rw same small, ap (λ (x : ℕ). crcFrom x (c .before .args .bytes .now)) same))
+loop-holds c = from-start _ _ (omega arith)
 
 shared-slice-read-met : tie.Need-shared-slice-read-met Inv-loop μ-loop
 shared-slice-read-met c = omega arith

@@ -74,7 +74,12 @@ module _ (j k : ℕ) (sixteen : j + k ≡ 16) where
 
 -- ---- a byte
 
--- by the numbers of a table of 256: a register is kept as the last number and the low half, moved up, of the one before
+-- by a table of 256: its entries have 16 bits
+pub entry-lt : (table : List ℕ) → Rule 8 8 table → (i : ℕ) → i < 2 ^ 8 → getD table i 0 < 2 ^ 16
+unfolding Rule
+entry-lt table r i h = subst (λ (x : ℕ). x < 2 ^ 16) (sym (r i h)) (shifts-some-lt 7 (i * 2 ^ 8))
+
+-- a register is kept as the last entry and the low half, moved up, of the one before
 abbrev pub kept : ℕ → ℕ → ℕ
 kept last before = bitXor last (before * 2 ^ 8 % 2 ^ 16)
 
@@ -82,30 +87,35 @@ kept last before = bitXor last (before * 2 ^ 8 % 2 ^ 16)
 abbrev pub met : ℕ → ℕ → ℕ → ℕ
 met last before b = bitXor last (bitXor before b * 2 ^ 8 % 2 ^ 16)
 
-module _ (last before b : ℕ) (small : b < 2 ^ 8) where
-  met-byte : met last before b ≡ bitXor (kept last before) (b * 2 ^ 8)
-  met-byte =
-      ap (bitXor last)
-      (ap (λ (x : ℕ). x % 2 ^ 16) (xor-shl 8 before b)
-      ∙ xor-mod (before * 2 ^ 8) (b * 2 ^ 8) 16
-      ∙ ap (bitXor (before * 2 ^ 8 % 2 ^ 16)) (mod-eq-of-lt (omega arith)))
-      ∙ sym (xor-assoc last (before * 2 ^ 8 % 2 ^ 16) (b * 2 ^ 8))
+module _ (last before b : ℕ) (hl : last < 2 ^ 16) where
+  pub met-lt : met last before b < 2 ^ 16
+  met-lt = xor-lt 16 last (bitXor before b * 2 ^ 8 % 2 ^ 16) hl (mod-lt _ (pow-pos 16))
 
   met-low : met last before b % 2 ^ 8 ≡ last % 2 ^ 8
   met-low =
       let none : bitXor before b * 2 ^ 8 % 2 ^ 16 % 2 ^ 8 ≡ 0 = omega arith in
       xor-mod last (bitXor before b * 2 ^ 8 % 2 ^ 16) 8 ∙ ap (bitXor (last % 2 ^ 8)) none ∙ xor-zero-r (last % 2 ^ 8)
 
-  pub by-byte : kept (shifts 8 (met last before b / 2 ^ 8 * 2 ^ 8)) last ≡ crcByte (kept last before) b
+  met-byte : b < 2 ^ 8 → met last before b ≡ bitXor (kept last before) (b * 2 ^ 8)
+  met-byte small =
+      ap (bitXor last)
+      (ap (λ (x : ℕ). x % 2 ^ 16) (xor-shl 8 before b)
+      ∙ xor-mod (before * 2 ^ 8) (b * 2 ^ 8) 16
+      ∙ ap (bitXor (before * 2 ^ 8 % 2 ^ 16)) (mod-eq-of-lt (omega arith)))
+      ∙ sym (xor-assoc last (before * 2 ^ 8 % 2 ^ 16) (b * 2 ^ 8))
+
+  -- and after the byte, by the entry for the high half
+  pub by-byte : (table : List ℕ) → Rule 8 8 table → b < 2 ^ 8
+      → kept (getD table (met last before b / 2 ^ 8) 0) last ≡ crcByte (kept last before) b
   unfolding crcByte
-  by-byte =
+  by-byte table r small =
       let c : ℕ = met last before b in
       let up : last * 2 ^ 8 % 2 ^ 16 ≡ c * 2 ^ 8 % 2 ^ 16 = low 8 8 refl last ∙ ap (shifts 8) (sym met-low) ∙ sym (low 8 8 refl c) in
-      ap (bitXor (shifts 8 (c / 2 ^ 8 * 2 ^ 8))) up
-      ∙ xor-comm (shifts 8 (c / 2 ^ 8 * 2 ^ 8)) (c * 2 ^ 8 % 2 ^ 16)
-      ∙ ap (λ (x : ℕ). bitXor (c * 2 ^ 8 % 2 ^ 16) (shifts 8 (x * 2 ^ 8))) (sym (xor-zero-r (c / 2 ^ 8)))
-      ∙ table-step 8 8 refl c 0
-      ∙ ap (shifts 8) (xor-zero-r c ∙ met-byte)
+      ap (bitXor (getD table (c / 2 ^ 8) 0)) up
+      ∙ xor-comm (getD table (c / 2 ^ 8) 0) (c * 2 ^ 8 % 2 ^ 16)
+      ∙ ap (λ (x : ℕ). bitXor (c * 2 ^ 8 % 2 ^ 16) (getD table x 0)) (sym (xor-zero-r (c / 2 ^ 8)))
+      ∙ looked-up 8 8 refl table r c 0 met-lt (pow-pos 8)
+      ∙ ap (shifts 8) (xor-zero-r c ∙ met-byte small)
 
 -- four shifts with the high half of a byte, then four with the low one
 two-halves : (c b : ℕ) → shifts 4 (bitXor (shifts 4 (bitXor c (b / 16 * 2 ^ 12))) (b % 16 * 2 ^ 12)) ≡ crcByte c b

@@ -4,10 +4,10 @@ use mathlib.Core.Path.{_≡_, refl, sym, ap, subst, _∙_}
 use mathlib.Core.Bool.{Bool}
 use mathlib.Core.List.{List}
 use Prim.Native.Nat.{ℕ, _+_, _*_, _/_, _%_, _^_, _<_}
-use native.Mathlib.Nat.{mod-lt, add-comm, mul-mod-left, add-zero}
+use native.Mathlib.Nat.{mod-lt, mod-eq-of-lt, add-comm, mul-mod-left, add-zero}
 use native.Mathlib.Omega.{arith}
 use lib.Pow.{pow-pos, split, shl-lt, shr-lt, shl-shr, mod-pow-add}
-use lib.Bits.{bitXor, xor-comm, xor-shifted, xor-lt}
+use lib.Bits.{bitXor, xor-comm, xor-zero-r, xor-mod, xor-shifted, xor-lt}
 use lib.Dec.{T, eqb, eqb→eq}
 use lib.ListN.{getD}
 use Rattle.lists.proofs.Below.{allBelow, below}
@@ -74,17 +74,48 @@ module _ (j k : ℕ) (sixteen : j + k ≡ 16) where
 
 -- ---- a byte
 
--- by a table of 256: its entries have 16 bits, and the low half of the register moves up
+-- by a table of 256: its entries have 16 bits
 pub entry-lt : (table : List ℕ) → Rule 8 8 table → (i : ℕ) → i < 2 ^ 8 → getD table i 0 < 2 ^ 16
 unfolding Rule
 entry-lt table r i h = subst (λ (x : ℕ). x < 2 ^ 16) (sym (r i h)) (shifts-some-lt 7 (i * 2 ^ 8))
 
-pub by-byte : (table : List ℕ) → Rule 8 8 table → (c b : ℕ) → c < 2 ^ 16 → b < 2 ^ 8
-    → bitXor (c % 2 ^ 8 * 2 ^ 8) (getD table (bitXor (c / 2 ^ 8) b) 0) ≡ crcByte c b
-unfolding crcByte
-by-byte table r c b hc hb =
-    let up : c % 2 ^ 8 * 2 ^ 8 ≡ c * 2 ^ 8 % 2 ^ 16 = omega arith in
-    ap (λ (x : ℕ). bitXor x (getD table (bitXor (c / 2 ^ 8) b) 0)) up ∙ looked-up 8 8 refl table r c b hc hb
+-- a register is kept as the last entry and the low half, moved up, of the one before
+abbrev pub kept : ℕ → ℕ → ℕ
+kept last before = bitXor last (before * 2 ^ 8 % 2 ^ 16)
+
+-- the register where it has met a byte
+abbrev pub met : ℕ → ℕ → ℕ → ℕ
+met last before b = bitXor last (bitXor before b * 2 ^ 8 % 2 ^ 16)
+
+module _ (last before b : ℕ) (hl : last < 2 ^ 16) where
+  pub met-lt : met last before b < 2 ^ 16
+  met-lt = xor-lt 16 last (bitXor before b * 2 ^ 8 % 2 ^ 16) hl (mod-lt _ (pow-pos 16))
+
+  met-low : met last before b % 2 ^ 8 ≡ last % 2 ^ 8
+  met-low =
+      let none : bitXor before b * 2 ^ 8 % 2 ^ 16 % 2 ^ 8 ≡ 0 = omega arith in
+      xor-mod last (bitXor before b * 2 ^ 8 % 2 ^ 16) 8 ∙ ap (bitXor (last % 2 ^ 8)) none ∙ xor-zero-r (last % 2 ^ 8)
+
+  met-byte : b < 2 ^ 8 → met last before b ≡ bitXor (kept last before) (b * 2 ^ 8)
+  met-byte small =
+      ap (bitXor last)
+      (ap (λ (x : ℕ). x % 2 ^ 16) (xor-shl 8 before b)
+      ∙ xor-mod (before * 2 ^ 8) (b * 2 ^ 8) 16
+      ∙ ap (bitXor (before * 2 ^ 8 % 2 ^ 16)) (mod-eq-of-lt (omega arith)))
+      ∙ sym (xor-assoc last (before * 2 ^ 8 % 2 ^ 16) (b * 2 ^ 8))
+
+  -- and after the byte, by the entry for the high half
+  pub by-byte : (table : List ℕ) → Rule 8 8 table → b < 2 ^ 8
+      → kept (getD table (met last before b / 2 ^ 8) 0) last ≡ crcByte (kept last before) b
+  unfolding crcByte
+  by-byte table r small =
+      let c : ℕ = met last before b in
+      let up : last * 2 ^ 8 % 2 ^ 16 ≡ c * 2 ^ 8 % 2 ^ 16 = low 8 8 refl last ∙ ap (shifts 8) (sym met-low) ∙ sym (low 8 8 refl c) in
+      ap (bitXor (getD table (c / 2 ^ 8) 0)) up
+      ∙ xor-comm (getD table (c / 2 ^ 8) 0) (c * 2 ^ 8 % 2 ^ 16)
+      ∙ ap (λ (x : ℕ). bitXor (c * 2 ^ 8 % 2 ^ 16) (getD table x 0)) (sym (xor-zero-r (c / 2 ^ 8)))
+      ∙ looked-up 8 8 refl table r c 0 met-lt (pow-pos 8)
+      ∙ ap (shifts 8) (xor-zero-r c ∙ met-byte small)
 
 -- four shifts with the high half of a byte, then four with the low one
 two-halves : (c b : ℕ) → shifts 4 (bitXor (shifts 4 (bitXor c (b / 16 * 2 ^ 12))) (b % 16 * 2 ^ 12)) ≡ crcByte c b

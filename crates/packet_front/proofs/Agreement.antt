@@ -52,15 +52,15 @@ front-tests s e =
     let c = soFar s 2 (eqb 0xFD) in
     let d = soFar s 3 (eqb 0x00) in
     let f = soFar s 4 goodId in
-    let r₁ = and-right a (b && (c && (d && f))) e in
-    let r₂ = and-right b (c && (d && f)) r₁ in
-    let r₃ = and-right c (d && f) r₂ in
+    let h = and-left (a && (b && (c && d))) f e in
+    let r₁ = and-right a (b && (c && d)) h in
+    let r₂ = and-right b (c && d) r₁ in
     record {
-      first = and-left a (b && (c && (d && f))) e;
-      second = and-left b (c && (d && f)) r₁;
-      third = and-left c (d && f) r₂;
-      fourth = and-left d f r₃;
-      fifth = and-right d f r₃;
+      first = and-left a (b && (c && d)) h;
+      second = and-left b (c && d) r₁;
+      third = and-left c d r₂;
+      fourth = and-right c d r₂;
+      fifth = and-right (a && (b && (c && d))) f e;
     }
 
 pub front-agrees : (s : List ℕ) → Front s → frontAgrees s ≡ true

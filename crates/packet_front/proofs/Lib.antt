@@ -1,4 +1,5 @@
 pub mod Lists
+pub mod Header
 pub mod Agreement
 pub mod Tests
 pub mod Starts

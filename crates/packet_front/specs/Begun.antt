@@ -12,10 +12,13 @@ use Rattle.packet_front.specs.declared.Begun.the-variants.{Nothing, Wait
 abbrev pub soFar : List ℕ → ℕ → (ℕ → Bool) → Bool
 soFar s i test = leb (length s) i || test (getD s i 0)
 
--- the bytes that are there agree with header and ID [V8]
+-- the bytes that are there agree with the header [V8]
+abbrev pub headerAgrees : List ℕ → Bool
+headerAgrees s = soFar s 0 (eqb 0xFF) && (soFar s 1 (eqb 0xFF) && (soFar s 2 (eqb 0xFD) && soFar s 3 (eqb 0x00)))
+
+-- and with the ID [V8]
 unfoldable pub frontAgrees : List ℕ → Bool
-frontAgrees s =
-    soFar s 0 (eqb 0xFF) && (soFar s 1 (eqb 0xFF) && (soFar s 2 (eqb 0xFD) && (soFar s 3 (eqb 0x00) && soFar s 4 goodId)))
+frontAgrees s = headerAgrees s && soFar s 4 goodId
 
 -- the length field, tested when its second byte is there, is 3 to 1,024 [P5 V8 V9]
 unfoldable pub lengthAgrees : List ℕ → Bool
@@ -43,7 +46,16 @@ begunAs true true k n = Whole n
 abbrev pub begunBy : List ℕ → Begun
 begunBy s = begunAs (frontAgrees s && lengthAgrees s) (complete s) (lacks s) (sizeOf s)
 
--- how many bytes stand before the first FF: a packet begins with it [P1 V8]
+-- all of the header is there [P1]
+unfoldable pub headed : List ℕ → Bool
+headed s =
+    leb 4 (length s) && (eqb 0xFF (getD s 0 0) && (eqb 0xFF (getD s 1 0) && (eqb 0xFD (getD s 2 0) && eqb 0x00 (getD s 3 0))))
+
+-- a packet may begin here: FF is there, and all of the header where four bytes are [P1 V8]
+unfoldable pub mayBegin : List ℕ → Bool
+mayBegin s = ltb 0 (length s) && (eqb 0xFF (getD s 0 0) && (ltb (length s) 4 || headed s))
+
+-- how many bytes stand before the first FF at which a packet may begin [P1 V8]
 unfoldable pub beforeFF : List ℕ → ℕ
 beforeFF [] = 0
-beforeFF (b ∷ s) = cond (eqb 0xFF b) 0 (suc (beforeFF s))
+beforeFF (b ∷ s) = cond (mayBegin (b ∷ s)) 0 (suc (beforeFF s))

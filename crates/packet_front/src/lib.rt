@@ -5,7 +5,7 @@ ghost use lib.Dec.{eqb};
 ghost use lib.ListN.{drop};
 ghost use Rattle.packet_front.specs.Front.{goodId};
 ghost use Rattle.packet_front.specs.Front.{word as Front·word};
-ghost use Rattle.packet_front.specs.Begun.{soFar, frontAgrees, begunBy, beforeFF};
+ghost use Rattle.packet_front.specs.Begun.{soFar, headerAgrees, frontAgrees, begunBy, headed, mayBegin, beforeFF};
 
 // The largest ID of a device, and the one that addresses all.
 pub const MAX_ID: u8 = 252;
@@ -52,20 +52,40 @@ fn id_agrees(s: &[u8]) -> bool
     good_id(s[4])
 }
 
-// Whether the bytes that are there agree with header and ID.
-fn front_agrees(s: &[u8]) -> bool
-    ensures { λ r. ⌜ r ≡ frontAgrees (now (s .entry)) ⌝ }
+// The header as a number, low byte first.
+const HEADER: u32 = 0x00FDFFFF;
+
+// Whether all of the header is there: its four bytes in one comparison.
+fn has_header(s: &[u8]) -> bool
+    ensures { λ r. ⌜ r ≡ headed (now (s .entry)) ⌝ }
 {
+    if s.len() < 4 {
+        return false;
+    }
+    (s[0] as u32) + (s[1] as u32) * 256 + (s[2] as u32) * 65536 + (s[3] as u32) * 16777216 == HEADER
+}
+
+// Whether the bytes that are there agree with the header.
+fn header_agrees(s: &[u8]) -> bool
+    ensures { λ r. ⌜ r ≡ headerAgrees (now (s .entry)) ⌝ }
+{
+    if 4 <= s.len() {
+        return has_header(s);
+    }
     if !byte_agrees(s, 0, 0xFF) {
         return false;
     }
     if !byte_agrees(s, 1, 0xFF) {
         return false;
     }
-    if !byte_agrees(s, 2, 0xFD) {
-        return false;
-    }
-    if !byte_agrees(s, 3, 0x00) {
+    byte_agrees(s, 2, 0xFD)
+}
+
+// And with the ID.
+fn front_agrees(s: &[u8]) -> bool
+    ensures { λ r. ⌜ r ≡ frontAgrees (now (s .entry)) ⌝ }
+{
+    if !header_agrees(s) {
         return false;
     }
     id_agrees(s)
@@ -96,14 +116,30 @@ pub fn look(s: &[u8]) -> Begun
     Begun::Whole(size)
 }
 
-// The first FF at the offset or behind it; the end where there is none, and the offset itself where it is past the end. No packet
-// begins before. [V8]
+// Whether a packet may begin with these bytes.
+fn may_begin(s: &[u8]) -> bool
+    ensures { λ r. ⌜ r ≡ mayBegin (now (s .entry)) ⌝ }
+{
+    if s.len() == 0 {
+        return false;
+    }
+    if s[0] != 0xFF {
+        return false;
+    }
+    if s.len() < 4 {
+        return true;
+    }
+    has_header(s)
+}
+
+// The first FF at the offset or behind it at which a packet may begin; the end where there is none, and the offset itself where it
+// is past the end. No packet begins before. [V8]
 pub fn next_ff(segment: &[u8], from: usize) -> usize
     ensures { λ r. ⌜ r ≡ from + beforeFF (drop from (now (segment .entry))) ⌝ }
 {
     let mut at = from;
     while at < segment.len() {
-        if segment[at] == 0xFF {
+        if may_begin(&segment[at..]) {
             return at;
         }
         at += 1;

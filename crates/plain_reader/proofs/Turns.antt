@@ -84,6 +84,9 @@ pub next-start : (s : List ℕ) (p r : ℕ) → r ≡ p + beforeFF (drop p s) �
 next-start s p r e =
     passes s p (beforeFF (drop p s)) (λ q h. none-before-ff (drop p s) q h .0) (before-fits (drop p s)) ∙ ap (nextEvent s) (sym e)
 
+pub ff-within : (s : List ℕ) (p r : ℕ) → p ≤ length s → r ≡ p + beforeFF (drop p s) → r ≤ length s
+ff-within s p r h e = omega (arith, h, e, before-fits (drop p s), length-drop p s)
+
 -- fewer bytes than the shortest packet has are left
 pub next-few : (s : List ℕ) (n p : ℕ) → length s ≤ p + n → n < 10 → nextEvent s p ≡ Nothing
 next-few s zero p h l = next-end s p (omega arith)

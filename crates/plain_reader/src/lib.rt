@@ -27,11 +27,11 @@ pub enum Next {
 pub fn next_event(segment: &[u8], from: usize) -> Next
     ensures { λ r. ⌜ r ≡ nextEvent (now (segment .entry)) from ⌝ }
 {
+    if segment.len() < from {
+        return Next::Nothing;
+    }
     let mut offset = packet_front::next_ff(segment, from);
-    while offset < segment.len() {
-        if segment.len() - offset < 10 {
-            return Next::Nothing;
-        }
+    while 10 <= segment.len() - offset {
         if let Begun::Whole(size) = packet_front::look(&segment[offset..]) {
             match packet::judge_whole(&segment[offset..offset + size]) {
                 Judgement::Packet(count) => {

@@ -53,6 +53,17 @@ module _ (R : Rules) where
       by (inl w) later = first-at closed (b ∷ t) isWaiting (omega arith) w ∙ later
       by (inr w) later = first-at closed (b ∷ t) isNothing (omega arith) w ∙ later
 
+  -- while others may follow they are silent
+  pub silent-few : (n : ℕ) → ((u : List ℕ) → length u < n → Undecided (R .verdict u)) → (t : List ℕ) → length t < n
+      → (u : List ℕ) × (first R open′ t ≡ silent u)
+  silent-few n q [] h = ([], first-none open′)
+  silent-few n q (b ∷ t) h = by (q (b ∷ t) h) (silent-few n q t (omega arith))
+    where
+      by : Undecided (R .verdict (b ∷ t)) → (u : List ℕ) × (first R open′ t ≡ silent u)
+          → (u : List ℕ) × (first R open′ (b ∷ t) ≡ silent u)
+      by (inl w) later = (b ∷ t, first-waits (b ∷ t) w)
+      by (inr w) later = (later .0, first-at open′ (b ∷ t) isNothing (omega arith) w ∙ later .1)
+
   -- ---- how far a feeding call has come
 
   pub reached-start : (h s : List ℕ) → Reached R h s h 0
@@ -221,3 +232,21 @@ module _ (R : Rules) where
       reached-more R h s t (t ++ take m (drop n s)) n m a
       (reached-silent t (drop n s) m (simp length-drop (omega arith))
       (λ j i. p .silent-while (take j (drop n s)) (simp (length-take, length-drop) (omega arith))))
+
+  -- and so few that none of them decides an event may be given back to the chunk
+  pub reached-back : (m : ℕ) → ((u : List ℕ) → length u < m → Undecided (R .verdict u)) → (h s t : List ℕ) (n k : ℕ) → Reached R h s t n
+      → k ≤ n → k < m → t ≡ take k (drop (n - k) s) → Reached R h s [] (n - k)
+  reached-back m q h s t n k a l f e =
+      let z : n - k + k ≡ n = omega arith in
+      let i = a .within in
+      let b = reached-silent [] (drop (n - k) s) k (simp length-drop (omega arith)) (λ j p. silent-few R m q (take j (drop (n - k) s)) (simp length-take (omega arith))) in
+      record {
+        within = omega arith;
+        same =
+            a .same
+            ∙ sym
+            (ap (afterTaking (n - k)) (b .same) ∙ taking-more (n - k) k (fed R (take k (drop (n - k) s)) (drop k (drop (n - k) s)))
+            ∙ ap (λ (l : List ℕ). afterTaking (n - k + k) (fed R (take k (drop (n - k) s)) l)) (drop-drop k (n - k) s)
+            ∙ ap (λ (j : ℕ). afterTaking j (fed R (take k (drop (n - k) s)) (drop j s))) z
+            ∙ ap (λ (u : List ℕ). afterTaking n (fed R u (drop n s))) (sym e));
+      }

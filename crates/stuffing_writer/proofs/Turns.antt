@@ -28,10 +28,6 @@ module _ (before : ℕ) (s : List ℕ) (i : ℕ) where
   pub stuff-marked : markAt before s i ≡ true → i < length s → stuffedAt before s i ≡ getD s i 0 ∷ 0xFD ∷ stuffedAt before s (i + 1)
   stuff-marked e h = stuff-turn h ∙ rw e refl
 
-  -- a byte more makes the stuffed form longer
-  pub stuff-some : i < length s → 0 < length (stuffedAt before s i)
-  stuff-some h = omega (arith, ap length (stuff-turn h))
-
   pub stuff-end : length s ≤ i → stuffedAt before s i ≡ []
   unfolding stuffAfter
   stuff-end h = ap (stuffAfter (getD (0 ∷ before ∷ s) i 0) (getD (before ∷ s) i 0)) (drop-of-length-le s h)

@@ -13,22 +13,18 @@ pub enum Length {
     Past,
 }
 
-// The stuffed length of the body `first` followed by `rest`, if it is at most `most`. It stops counting as soon as it is past.
-// [E6 S1 S2]
+// The stuffed length of the body `first` followed by `rest`, if it is at most `most`. Bytes that are too many even without stuffing
+// are not read. [E6 S1 S2]
 pub fn stuffed_len(first: u8, rest: &[u8], most: usize) -> Length
     ensures { λ r. ⌜ r ≡ lengthWithin most (length (stuff (first ∷ now (rest .entry)))) ⌝ }
 {
-    let mut n = 1;
+    if most <= rest.len() {
+        return Length::Past;
+    }
+    let mut n = rest.len() + 1;
     let mut i = 0;
     while i < rest.len() {
-        if most <= n {
-            return Length::Past;
-        }
-        n += 1;
         if stuffing::ends_mark(first, rest, i) {
-            if most <= n {
-                return Length::Past;
-            }
             n += 1;
         }
         i += 1;

@@ -1,18 +1,23 @@
 -- How far a feeding call has come, by what was seen of its window: one turn of the loops that take bytes, and their end.
 use mathlib.Core.Path.{_≡_, refl, sym, ap, _∙_}
-use mathlib.Core.List.{List, [], _++_}
+use mathlib.Core.Bool.{true, false, _&&_}
+use mathlib.Core.List.{List, [], _++_, append-nil, append-assoc}
 use mathlib.Core.Option.{some}
 use Prim.Native.Nat.{ℕ, zero, suc, _+_, _-_, _≤_, _<_, min}
 use native.Mathlib.Omega.{arith}
-use lib.ListN.{length, take, drop, length-take, length-drop, drop-of-length-le}
-use lib.Seq.{length-take-le, take-all}
+use lib.Dec.{leb, ltb}
+use lib.ListN.{length, take, drop, length-append, length-take, length-drop}
+use lib.Seq.{length-take-le, take-all, take-add, drop-drop, drop-append-le, drop-append-add}
+use borrow.Author.Tests.{leb-true, ltb-true, le-leb, lt-ltb}
+use Rattle.lists.proofs.Bools.{and-left, and-right, both-ways}
 use Rattle.lists.proofs.Parts.{take-least}
-use Rattle.reading.specs.Rules.{Rules, Laws}
+use Rattle.reading.specs.Rules.{Rules, Laws, Undecided}
 use Rattle.reading.specs.Reading.{Event, packet, badChecksum, open′}
 use Rattle.reading.specs.Calls.{fed}
 use Rattle.reading.specs.Progress.{Reached, Patient}
 use Rattle.reading.proofs.Progress.{silent-again, reached-start, reached-past, reached-event, reached-end}
-use Rattle.reading.proofs.Progress.{reached-take}
+use Rattle.reading.proofs.Progress.{reached-take, reached-back}
+use Rattle.reading.proofs.Ahead.{part}
 use Rattle.windows.specs.declared.Scanned.{Scanned}
 use Rattle.windows.specs.declared.Scanned.the-variants.{Packet, BadChecksum, Waiting}
 use Rattle.windows.specs.Scan.{Decides, Waits, Seen, Ends, Stops}
@@ -20,6 +25,17 @@ use Rattle.windows.specs.Scan.{Decides, Waits, Seen, Ends, Stops}
 pub not-none : (n : ℕ) → (n ≡ 0 → ⊥) → 0 < n
 not-none zero h = absurd (h refl)
 not-none (suc n) h = omega arith
+
+-- the least of three is within the first
+pub least-first : (a b c n m : ℕ) → n ≡ min a b → m ≡ min n c → m ≤ a
+least-first a b c n m e f = omega (arith, e, f)
+
+-- bytes that are not given back to the chunk are some
+pub not-back : (k n : ℕ) → (leb k n && ltb k 10) ≡ false → k ≡ 0 → ⊥
+not-back k n e z =
+    let l = le-leb k n (omega arith) in
+    let s = lt-ltb k 10 (omega arith) in
+    both-ways (leb k n && ltb k 10) (rw (l, s)) e
 
 -- ---- the call's way
 
@@ -72,6 +88,9 @@ pub record Filling (R : Rules) (h chunk : List ℕ) (most : ℕ) (held : List �
   pub within : end ≤ most
   pub size : length held ≡ most
   pub reached : Reached R h chunk (drop at (take end held)) taken
+  -- they are the last of the bytes that were held and those taken
+  pub fewer : end - at ≤ length h + taken
+  pub last : drop at (take end held) ≡ drop (length h + taken - (end - at)) (h ++ take taken chunk)
 
 module _ (R : Rules) (L : Laws R) (chunk : List ℕ) (most : ℕ) where
   -- of those that count as held, as many as there are
@@ -84,6 +103,10 @@ module _ (R : Rules) (L : Laws R) (chunk : List ℕ) (most : ℕ) where
           within = omega arith;
           size = s;
           reached = rw (take-least count n held e) (reached-start R (take count held) chunk);
+          fewer = simp length-take (omega (arith, e));
+          last =
+              let z : length (take count held) + 0 - (n - 0) ≡ 0 = simp length-take (omega (arith, e)) in
+              rw z (take-least count n held e ∙ sym (append-nil (take count held)));
         }
 
     pub filling-none : n ≡ 0 → Reached R (take count held) chunk [] 0
@@ -131,11 +154,37 @@ module _ (R : Rules) (L : Laws R) (chunk : List ℕ) (most : ℕ) where
           let i = w .taken-within in
           ends-stopped R L h chunk (take end held) taken start window (omega arith)
 
-      pub window-passed : end - start ≡ 0 → Reached R h chunk [] taken
-      window-passed l =
-          let z : drop start (take end held) ≡ [] =
-          drop-of-length-le (take end held) {i = start} (omega (arith, whole, window-fits)) in
-          rw z at (window .reached)
+      window-fewer : end - start ≤ length h + taken
+      window-fewer =
+          let i = v .begins in
+          omega (arith, w .fewer)
+
+      window-last : drop start (take end held) ≡ drop (length h + taken - (end - start)) (h ++ take taken chunk)
+      window-last =
+          let i = v .begins in
+          let o = w .ordered in
+          let y : at + (start - at) ≡ start = omega arith in
+          let z : length h + taken - (end - at) + (start - at) ≡ length h + taken - (end - start) = omega (arith, w .fewer, window-fits) in
+          ap (λ (k : ℕ). drop k (take end held)) (sym y) ∙ sym (drop-drop (start - at) at (take end held))
+          ∙ ap (drop (start - at)) (w .last)
+          ∙ drop-drop (start - at) (length h + taken - (end - at)) (h ++ take taken chunk)
+          ∙ ap (λ (k : ℕ). drop k (h ++ take taken chunk)) z
+
+      -- the bytes that were held are passed, and those that wait are few: they are read in the chunk
+      pub window-back : ((u : List ℕ) → length u < 10 → Undecided (R .verdict u)) → (leb (end - start) taken && ltb (end - start) 10) ≡ true
+          → (end - start ≤ taken) × Reached R h chunk [] (taken - (end - start))
+      window-back q e =
+          let k = end - start in
+          let l = leb-true k taken (and-left (leb k taken) (ltb k 10) e) in
+          let f = ltb-true k 10 (and-right (leb k taken) (ltb k 10) e) in
+          let y : length h + taken - k ≡ length h + (taken - k) = omega arith in
+          let z : taken - (taken - k) ≡ k = omega arith in (
+            l,
+            reached-back R 10 q h chunk (drop start (take end held)) taken k (window .reached) l f
+                (window-last ∙ ap (λ (n : ℕ). drop n (h ++ take taken chunk)) y ∙ drop-append-add h (take taken chunk) (taken - k)
+                ∙ part (taken - k) taken chunk
+                ∙ ap (λ (n : ℕ). take n (drop (taken - k) chunk)) z),
+          )
 
       pub window-full : length held - (end - start) ≡ 0 → 0 < length chunk - taken
           → (taken < length chunk) × Stops R h chunk held taken 0
@@ -168,13 +217,21 @@ module _ (R : Rules) (L : Laws R) (chunk : List ℕ) (most : ℕ) where
       window-more held′ k m r p l t fits same is =
           let n = w .size in
           let i : taken + m - taken ≡ m = omega arith in
+          let q = length h + taken - (end - start) in
+          let z : length h + (taken + m) - (r + (end - start) + m - r) ≡ q = omega (arith, window-fewer) in
+          let j : drop r (take (r + (end - start) + m) held′) ≡ drop start (take end held) ++ take m (drop taken chunk) =
+          ap (λ (n : ℕ). drop r (take (r + (end - start) + n) held′)) (sym (part-length taken m t)) ∙ is
+          ∙ ap (λ (n : ℕ). drop start (take end held) ++ take n (drop taken chunk)) i in
           record {
             taken-within = t;
             ordered = omega arith;
             within = fits;
             size = omega arith;
-            reached =
-                stops-take R L h chunk (take end held) (take (r + (end - start) + m) held′) taken start k m r window p l t
-                (ap (λ (n : ℕ). drop r (take (r + (end - start) + n) held′)) (sym (part-length taken m t)) ∙ is
-                ∙ ap (λ (n : ℕ). drop start (take end held) ++ take n (drop taken chunk)) i);
+            reached = stops-take R L h chunk (take end held) (take (r + (end - start) + m) held′) taken start k m r window p l t j;
+            fewer = omega (arith, window-fewer);
+            last =
+                rw z
+                (j ∙ ap (λ (u : List ℕ). u ++ take m (drop taken chunk)) window-last
+                ∙ sym (drop-append-le q (h ++ take taken chunk) (take m (drop taken chunk)) (simp (length-append, length-take) (omega (arith, w .taken-within))))
+                ∙ ap (drop q) (append-assoc h (take taken chunk) (take m (drop taken chunk)) ∙ ap (λ (u : List ℕ). h ++ u) (sym (take-add taken m chunk))));
           }

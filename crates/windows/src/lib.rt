@@ -2,9 +2,11 @@
 use packet::Judgement;
 use packet_front::Begun;
 ghost use mathlib.Core.Path.{_≡_};
+ghost use mathlib.Core.Bool.{_&&_};
 ghost use mathlib.Core.List.{[], _++_};
 ghost use mathlib.Core.Logic.{_⊎_};
 ghost use Prim.Native.Nat.{_+_, _-_, _≤_, min};
+ghost use lib.Dec.{leb, ltb};
 ghost use lib.ListN.{length, take, drop};
 ghost use Rattle.reading.specs.Reading.{open′, closed};
 ghost use Rattle.packet.specs.Verdict.{protocol2};
@@ -45,6 +47,18 @@ pub enum Stop {
     },
 }
 
+fn wanting(seen: Scanned, lacks: usize) -> Live
+    ensures { λ r. ⌜ r ≡ record { seen = seen; lacks = lacks } ⌝ }
+{
+    Live { seen, lacks }
+}
+
+fn ending(seen: Scanned, end: usize) -> Window
+    ensures { λ r. ⌜ r ≡ record { seen = seen; end = end } ⌝ }
+{
+    Window { seen, end }
+}
+
 fn least(a: usize, b: usize) -> usize
     ensures { λ r. ⌜ r ≡ min a b ⌝ }
 {
@@ -57,42 +71,33 @@ fn greatest(a: usize, b: usize) -> usize
     if a < b { b } else { a }
 }
 
-// The bytes of s from `from` on, offset by offset; those before the next FF say nothing.
+// The bytes of s from `from` on, offset by offset; those before the next FF at which a packet may begin say nothing.
 fn scan(s: &[u8], from: usize) -> Live
     requires { ⌜ from ≤ length (now s) ⌝ }
     ensures { λ r. ⌜ Seen protocol2 open′ (now (s .entry)) from (r .seen) × Wants protocol2 (now (s .entry)) (r .seen) (r .lacks) ⌝ }
 {
-    let mut at = packet_front::next_ff(s, from);
-    while at < s.len() {
+    let mut next = from;
+    loop {
+        let at = packet_front::next_ff(s, next);
+        if s.len() <= at {
+            return wanting(Scanned::Waiting { at }, 0);
+        }
         match packet_front::look(&s[at..]) {
             Begun::Nothing => {}
             Begun::Waiting(lacks) => {
-                return Live {
-                    seen: Scanned::Waiting { at },
-                    lacks,
-                };
+                return wanting(Scanned::Waiting { at }, lacks);
             }
             Begun::Whole(size) => match packet::judge_whole(&s[at..at + size]) {
                 Judgement::Packet(count) => {
-                    return Live {
-                        seen: Scanned::Packet { at, count },
-                        lacks: 0,
-                    };
+                    return wanting(Scanned::Packet { at, count }, 0);
                 }
                 Judgement::BadChecksum(id) => {
-                    return Live {
-                        seen: Scanned::BadChecksum { at, id },
-                        lacks: 0,
-                    };
+                    return wanting(Scanned::BadChecksum { at, id }, 0);
                 }
                 _ => {}
             },
         }
-        at = packet_front::next_ff(s, at + 1);
-    }
-    Live {
-        seen: Scanned::Waiting { at },
-        lacks: 0,
+        next = at + 1;
     }
 }
 
@@ -101,8 +106,12 @@ fn scan(s: &[u8], from: usize) -> Live
 pub fn scan_closed(segment: &[u8]) -> Scanned
     ensures { λ r. ⌜ Seen protocol2 closed (now (segment .entry)) 0 r ⌝ }
 {
-    let mut at = packet_front::next_ff(segment, 0);
-    while at < segment.len() {
+    let mut from = 0;
+    loop {
+        let at = packet_front::next_ff(segment, from);
+        if segment.len() <= at {
+            return Scanned::Waiting { at };
+        }
         if segment.len() - at < 10 {
             return Scanned::Waiting { at: segment.len() };
         }
@@ -113,9 +122,8 @@ pub fn scan_closed(segment: &[u8]) -> Scanned
                 _ => {}
             }
         }
-        at = packet_front::next_ff(segment, at + 1);
+        from = at + 1;
     }
-    Scanned::Waiting { at }
 }
 
 // The chunk, where no bytes are held. Each offset is looked at once, by all the bytes that follow; what is taken are those that
@@ -124,41 +132,32 @@ pub fn advance(chunk: &[u8]) -> Window
     ensures { λ r. ⌜ (r .end ≤ length (now (chunk .entry)))
         × Ends protocol2 [] (now (chunk .entry)) (take (r .end) (now (chunk .entry))) (r .end) (r .seen) ⌝ }
 {
-    let mut at = packet_front::next_ff(chunk, 0);
+    let mut past = 0;
     let mut end = 0;
-    while at < chunk.len() {
+    loop {
+        let at = packet_front::next_ff(chunk, past);
+        if chunk.len() <= at {
+            return ending(Scanned::Waiting { at }, chunk.len());
+        }
         match packet_front::look(&chunk[at..]) {
             Begun::Nothing => {}
             Begun::Waiting(_) => {
-                return Window {
-                    seen: Scanned::Waiting { at },
-                    end: chunk.len(),
-                };
+                return ending(Scanned::Waiting { at }, chunk.len());
             }
             Begun::Whole(size) => {
                 end = greatest(end, at + size);
                 match packet::judge_whole(&chunk[at..at + size]) {
                     Judgement::Packet(count) => {
-                        return Window {
-                            seen: Scanned::Packet { at, count },
-                            end,
-                        };
+                        return ending(Scanned::Packet { at, count }, end);
                     }
                     Judgement::BadChecksum(id) => {
-                        return Window {
-                            seen: Scanned::BadChecksum { at, id },
-                            end,
-                        };
+                        return ending(Scanned::BadChecksum { at, id }, end);
                     }
                     _ => {}
                 }
             }
         }
-        at = packet_front::next_ff(chunk, at + 1);
-    }
-    Window {
-        seen: Scanned::Waiting { at },
-        end: chunk.len(),
+        past = at + 1;
     }
 }
 
@@ -179,7 +178,15 @@ fn append(held: &mut [u8], at: usize, end: usize, bytes: &[u8]) -> usize
     0
 }
 
-// The held bytes, and where they wait as many of the chunk's as they wait for, as far as there is room. [K2 K4]
+// Whether the bytes that wait were all taken from the chunk, and are fewer than the shortest packet has: they can be read there.
+fn back_in_chunk(waiting: usize, taken: usize) -> bool
+    ensures { λ r. ⌜ r ≡ (leb waiting taken && ltb waiting 10) ⌝ }
+{
+    waiting <= taken && waiting < 10
+}
+
+// The held bytes, and where they wait as many of the chunk's as they wait for, as far as there is room. Once those that were held
+// are passed, the few that wait go back to the chunk, and reading goes on there. [K2 K4]
 pub fn fill(held: &mut [u8], count: usize, chunk: &[u8]) -> Stop
     ensures { λ r. ⌜ Filled protocol2 (take count (now (held .entry))) (now (chunk .entry)) (now (held .entry)) (now (held .exit)) r ⌝ }
 {
@@ -200,8 +207,10 @@ pub fn fill(held: &mut [u8], count: usize, chunk: &[u8]) -> Stop
             return Stop::Done { seen, end, taken };
         }
         let waiting = end - start;
-        if waiting == 0 {
-            return Stop::Passed { taken };
+        if back_in_chunk(waiting, taken) {
+            return Stop::Passed {
+                taken: taken - waiting,
+            };
         }
         let room = held.len() - waiting;
         if room == 0 {

@@ -1,57 +1,64 @@
--- The loop keeps: the table keeps its rule, and the pass has come to the byte at i.
-use mathlib.Core.Path.{refl}
+-- The loop keeps: the table keeps its rule, and the pass has come to the byte at i, with a register that is kept in two parts.
+use mathlib.Core.Path.{_≡_, ap}
+use mathlib.Core.List.{List}
 use Prim.Native.Nat.{ℕ, _-_, _/_, _^_, _<_}
-use native.Mathlib.Nat.{lt-of-lt-of-le}
 use native.Mathlib.Omega.{arith}
-use lib.Pow.{pow-mono}
-use lib.Bits.{bitXor}
+use lib.Bits.{xor-zero-r}
 use lib.ListN.{length, getD}
-use borrow.Author.Needs.{needs}
 use Rattle.crc.specs.Crc.{reduceIf, shift, shifts, crcFrom}
-use Rattle.crc.proofs.Lookup.{Rule, rule, entry-lt, by-byte, index-lt}
+use Rattle.crc.proofs.Lookup.{Rule, rule, entry-lt, kept, met, met-lt, by-byte}
 use Rattle.crc.proofs.Laws.{sum-laws, Passed, pass-byte, pass-end}
 use Rattle.crc16.proofs.update.Statement.{statement}
 use Rattle.crc16.proofs.update.Tie as tie
 
 abbrev Inv-loop : tie.InvT-loop
-Inv-loop start bytes table crc₀ i₀ crc i = Rule 8 8 table × Passed (crcFrom start bytes) bytes i crc
+Inv-loop start bytes table last₀ before₀ i₀ last before i =
+    Rule 8 8 table × (last < 2 ^ 16) × Passed (crcFrom start bytes) bytes i (kept last before)
 
 abbrev μ-loop : tie.MeasureT-loop
-μ-loop start bytes table crc₀ i₀ crc i = length bytes - i
+μ-loop start bytes table last₀ before₀ i₀ last before i = length bytes - i
+
+-- a start is kept as itself and 0
+from-start : (start : ℕ) (s : List ℕ) → start < 2 ^ 16 → Passed (crcFrom start s) s 0 (kept start 0)
+from-start start s h =
+    let same : kept start 0 ≡ start = xor-zero-r start in
+    (rw same h, ap (λ (x : ℕ). crcFrom x s) same)
 
 -- the test of all 256 entries is computed here
 loop-holds : tie.Need-loop-holds Inv-loop μ-loop
 unfolding reduceIf shift shifts
-loop-holds c = (rule 8 8 _ tt, (search needs, search needs))
+loop-holds c = (rule 8 8 _ tt, omega arith, from-start _ _ (omega arith))
 
-mul-crc : tie.Need-mul-crc Inv-loop μ-loop
-mul-crc c = omega arith
+shared-slice-read-met : tie.Need-shared-slice-read-met Inv-loop μ-loop
+shared-slice-read-met c = omega arith
 
-shared-slice-read-crc : tie.Need-shared-slice-read-crc Inv-loop μ-loop
-shared-slice-read-crc c = omega arith
-
-cast-crc : tie.Need-cast-crc Inv-loop μ-loop
-cast-crc c = omega (arith, c .shared-slice-known .given (c .before .before .loop .i))
+cast-met : tie.Need-cast-met Inv-loop μ-loop
+cast-met c = omega (arith, c .shared-slice-known .given (c .before .before .loop .i))
 
 module _ (c : tie.After-shared-slice-known Inv-loop μ-loop) where
+  abbrev h : tie.At-loop Inv-loop μ-loop
+  h = c .before .before
+
   abbrev byte : ℕ
-  byte = getD (c .before .before .before .args .bytes .now) (c .before .before .loop .i) 0
+  byte = getD (c .before .before .before .args .bytes .now) (h .loop .i) 0
 
   small : byte < 2 ^ 8
-  small = c .shared-slice-known .given (c .before .before .loop .i) .fits
+  small = c .shared-slice-known .given (h .loop .i) .fits
 
-  index : bitXor (c .before .before .loop .crc / 2 ^ 8) byte < 2 ^ 8
-  index = index-lt 8 8 refl _ _ (c .before .before .loop .inv .1 .0) small
+  met-small : met (h .loop .last) (h .loop .before) byte < 2 ^ 16
+  met-small = met-lt (h .loop .last) (h .loop .before) byte (h .loop .inv .1)
 
-mul-crc-2 : tie.Need-mul-crc-2 Inv-loop μ-loop
-mul-crc-2 c = omega (arith, index c)
+  index : met (h .loop .last) (h .loop .before) byte / 2 ^ 8 < 2 ^ 8
+  index = omega (arith, met-small)
 
-array-read-crc : tie.Need-array-read-crc Inv-loop μ-loop
-array-read-crc c = index c
+cast-last : tie.Need-cast-last Inv-loop μ-loop
+cast-last c = omega (arith, index c)
 
-cast-crc-2 : tie.Need-cast-crc-2 Inv-loop μ-loop
-cast-crc-2 c =
-    record { fits = lt-of-lt-of-le (entry-lt _ (c .before .before .loop .inv .0) _ (index c)) (pow-mono {i = 16} {j = 64} (omega arith)) }
+mul-last : tie.Need-mul-last Inv-loop μ-loop
+mul-last c = omega (arith, index c)
+
+array-read-last : tie.Need-array-read-last Inv-loop μ-loop
+array-read-last c = index c
 
 add-i : tie.Need-add-i Inv-loop μ-loop
 add-i c = omega arith
@@ -61,18 +68,16 @@ loop-less c = omega arith
 
 loop-again : tie.Need-loop-again Inv-loop μ-loop
 loop-again c =
-    let h = c .before .before .loop in (
-      h .inv .0,
-      pass-byte _ _ (h .i) (h .crc) (h .inv .1) _ (c .before .loop-test .taken)
-          (by-byte _ (h .inv .0) (h .crc) (byte c) (h .inv .1 .0) (small c)),
+    let l = h c .loop in (
+      l .inv .0,
+      entry-lt _ (l .inv .0) _ (index c),
+      pass-byte _ _ (l .i) (kept (l .last) (l .before)) (l .inv .2) _ (c .before .loop-test .taken)
+          (by-byte (l .last) (l .before) (byte c) (l .inv .1) _ (l .inv .0) (small c)),
     )
-
-cast-result : tie.Need-cast-result Inv-loop μ-loop
-cast-result c = omega arith
 
 returns : tie.Need-returns Inv-loop μ-loop
 returns c =
-    let h = c .before .loop in (pass-end _ _ (h .i) (h .crc) (h .inv .1) (c .loop-test .left), sum-laws)
+    let h = c .before .loop in (pass-end _ _ (h .i) (kept (h .last) (h .before)) (h .inv .2) (c .loop-test .left), sum-laws)
 
 pub update-spec : {M : Type 1} → statement M
 update-spec =
@@ -81,14 +86,12 @@ update-spec =
     Inv-loop
     μ-loop
     loop-holds
-    mul-crc
-    shared-slice-read-crc
-    cast-crc
-    mul-crc-2
-    array-read-crc
-    cast-crc-2
+    shared-slice-read-met
+    cast-met
+    cast-last
+    mul-last
+    array-read-last
     add-i
     loop-less
     loop-again
-    cast-result
     returns)

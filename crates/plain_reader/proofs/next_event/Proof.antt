@@ -1,38 +1,35 @@
 use mathlib.Core.Path.{_≡_, refl, sym, _∙_}
 use mathlib.Core.List.{List, [], _∷_}
 use mathlib.Core.Logic.{⊎-elim}
-use Prim.Native.Nat.{ℕ, _+_, _-_, _≤_}
+use Prim.Native.Nat.{ℕ, _+_, _-_, _≤_, _<_}
 use native.Mathlib.Omega.{arith}
 use types.Run.{miss}
 use lib.ListN.{length}
 use Rattle.plain_reader.specs.Next.{nextEvent}
 use Rattle.packet.specs.declared.Judgement.{Judgement}
 use Rattle.packet.specs.declared.Judgement.the-variants.{Packet}
-use Rattle.plain_reader.proofs.Turns.{Turn, fits, judged-turn, look-turn, passed-turn, next-start, next-few, next-end}
+use Rattle.plain_reader.proofs.Turns.{Turn, fits, judged-turn, look-turn, passed-turn, next-start, ff-within, next-few, next-end}
 use borrow.Author.Needs.{needs}
 use Rattle.plain_reader.proofs.next_event.Statement.{statement}
 use Rattle.plain_reader.proofs.next_event.Tie as tie
 
 abbrev Inv-loop : tie.InvT-loop
-Inv-loop segment from offset₀ offset = nextEvent segment from ≡ nextEvent segment offset
+Inv-loop segment from offset₀ offset = (offset ≤ length segment) × (nextEvent segment from ≡ nextEvent segment offset)
 
 abbrev μ-loop : tie.MeasureT-loop
 μ-loop segment from offset₀ offset = length segment - offset
+
+returns : tie.Need-returns Inv-loop μ-loop
+returns c = sym (next-end _ _ (omega arith))
 
 next-ff-requires : tie.Need-next-ff-requires Inv-loop μ-loop
 next-ff-requires c κs = search needs
 
 loop-holds : tie.Need-loop-holds Inv-loop μ-loop
-loop-holds c = next-start _ _ _ (c .next-ff .ensures)
+loop-holds c = (ff-within _ _ _ (omega arith) (c .next-ff .ensures), next-start _ _ _ (c .next-ff .ensures))
 
-sub-if1 : tie.Need-sub-if1 Inv-loop μ-loop
-sub-if1 c = search needs
-
-returns : tie.Need-returns Inv-loop μ-loop
-returns c =
-    let p = c .before .before in
-    let s = p .before .before .before .args .segment .now in
-    sym (p .loop .inv ∙ next-few s (length s - p .loop .offset) (p .loop .offset) (omega arith) (c .if1 .taken))
+sub-loop : tie.Need-sub-loop Inv-loop μ-loop
+sub-loop c = c .loop .inv .0
 
 sub-look : tie.Need-sub-look Inv-loop μ-loop
 sub-look c = search needs
@@ -55,13 +52,16 @@ module _ (l : tie.After-look Inv-loop μ-loop) where
   s = l .before .before .before .before .before .before .before .args .segment .now
 
   abbrev here : ℕ
-  here = l .before .before .before .before .loop .offset
+  here = l .before .before .before .loop .offset
+
+  inside : here < length s
+  inside = omega (arith, l .before .before .loop-test .taken)
 
 -- all bytes of a packet are there
 whole : (z : tie.After-size Inv-loop μ-loop) → here (z .before .before) + z .size .given .0 .0 ≤ length (s (z .before .before))
 whole z =
     let l = z .before .before in
-    fits (s l) (here l) (l .before .before .before .loop-test .taken) (l .look .result) (l .look .ensures) _ (z .size .given .1)
+    fits (s l) (here l) (inside l) (l .look .result) (l .look .ensures) _ (z .size .given .1)
 
 add-judge-whole : tie.Need-add-judge-whole Inv-loop μ-loop
 add-judge-whole c = omega (arith, whole (c .before))
@@ -91,37 +91,37 @@ module _ (j : tie.After-judge-whole Inv-loop μ-loop) where
 
   comes-to : (r : Judgement) → j .judge-whole .result ≡ r → Turn (s l) (here l) r
   comes-to r e =
-      judged-turn (s l) (here l) (l .before .before .before .loop-test .taken) (l .look .result) (l .look .ensures) (z .size .given .0 .0)
+      judged-turn (s l) (here l) (inside l) (l .look .result) (l .look .ensures) (z .size .given .0 .0)
       (z .size .given .1) (j .judge-whole .result) r (j .judge-whole .ensures) e
 
 abbrev found : (k : tie.After-known-told2 Inv-loop μ-loop)
     → Turn (s (l (k .before .before .before))) (here (l (k .before .before .before))) (Packet (k .before .count .given .0 .0))
 found k = comes-to (k .before .before .before) _ (k .before .count .given .1)
 
-add-t20 : tie.Need-add-t20 Inv-loop μ-loop
-add-t20 c = omega (arith, found c .1)
+add-t22 : tie.Need-add-t22 Inv-loop μ-loop
+add-t22 c = omega (arith, found c .1)
 
-add-t21 : tie.Need-add-t21 Inv-loop μ-loop
-add-t21 c = omega (arith, found c .0)
+add-t23 : tie.Need-add-t23 Inv-loop μ-loop
+add-t23 c = omega (arith, found c .0)
 
-shared-slice-read-t23 : tie.Need-shared-slice-read-t23 Inv-loop μ-loop
-shared-slice-read-t23 c = found (c .before) .0
+shared-slice-read-t25 : tie.Need-shared-slice-read-t25 Inv-loop μ-loop
+shared-slice-read-t25 c = found (c .before) .0
 
 returns-2 : tie.Need-returns-2 Inv-loop μ-loop
 returns-2 c =
     let l = l (c .before .before .before .before) in
-    sym (l .before .before .before .before .loop .inv ∙ found (c .before) .2)
+    sym (l .before .before .before .loop .inv .1 ∙ found (c .before) .2)
 
 enum-known-id : tie.Need-enum-known-id Inv-loop μ-loop
 enum-known-id c = search needs
 
-add-t24 : tie.Need-add-t24 Inv-loop μ-loop
-add-t24 c = search needs
+add-t26 : tie.Need-add-t26 Inv-loop μ-loop
+add-t26 c = search needs
 
 returns-3 : tie.Need-returns-3 Inv-loop μ-loop
 returns-3 c =
     let j = c .before .before .before in
-    sym (l j .before .before .before .before .loop .inv ∙ comes-to j _ (c .before .id .given .1))
+    sym (l j .before .before .before .loop .inv .1 ∙ comes-to j _ (c .before .id .given .1))
 
 add-next-ff : tie.Need-add-next-ff Inv-loop μ-loop
 add-next-ff c = search needs
@@ -136,7 +136,7 @@ loop-less c = search needs
 passed : (k : tie.At-match-came Inv-loop μ-loop) → nextEvent (s (k .before)) (here (k .before)) ≡ nextEvent (s (k .before)) (here (k .before) + 1)
 passed k =
     let a = k .before in
-    let t = a .before .before .before .loop-test .taken in
+    let t = inside a in
     ⊎-elim
     (λ w.
     passed-turn (s a) (here a) t (a .look .result) (a .look .ensures) (w .4 .result)
@@ -151,10 +151,16 @@ passed k =
 loop-again : tie.Need-loop-again Inv-loop μ-loop
 loop-again c =
     let k = c .before in
-    k .before .before .before .before .before .loop .inv ∙ passed k ∙ next-start _ _ _ (c .next-ff2 .ensures)
+    let i = inside (k .before) in (
+      ff-within _ _ _ (omega (arith, i)) (c .next-ff2 .ensures),
+      k .before .before .before .before .loop .inv .1 ∙ passed k ∙ next-start _ _ _ (c .next-ff2 .ensures),
+    )
 
 returns-4 : tie.Need-returns-4 Inv-loop μ-loop
-returns-4 c = sym (c .before .loop .inv ∙ next-end _ _ (c .loop-test .left))
+returns-4 c =
+    let p = c .before in
+    let s = p .before .before .before .before .args .segment .now in
+    sym (p .loop .inv .1 ∙ next-few s (length s - p .loop .offset) (p .loop .offset) (omega arith) (omega (arith, c .loop-test .left)))
 
 pub next-event-spec : {M : Type 1} → statement M
 next-event-spec =
@@ -162,10 +168,10 @@ next-event-spec =
     (tie.spec
     Inv-loop
     μ-loop
+    returns
     next-ff-requires
     loop-holds
-    sub-if1
-    returns
+    sub-loop
     sub-look
     part-look-start
     part-look-end
@@ -177,12 +183,12 @@ next-event-spec =
     part-judge-whole-end
     judge-whole-requires
     enum-known-count
-    add-t20
-    add-t21
-    shared-slice-read-t23
+    add-t22
+    add-t23
+    shared-slice-read-t25
     returns-2
     enum-known-id
-    add-t24
+    add-t26
     returns-3
     add-next-ff
     next-ff-requires-2

@@ -1,7 +1,7 @@
 use mathlib.Core.Path.{_≡_, refl}
 use mathlib.Core.List.{List, [], _∷_}
 use mathlib.Core.Logic.{_⊎_, ⊎-elim, inl, inr}
-use Prim.Native.Nat.{ℕ, _+_, _-_, _≤_}
+use Prim.Native.Nat.{ℕ, _+_, _-_, _≤_, _<_}
 use native.Mathlib.Omega.{arith}
 use types.Run.{miss}
 use lib.ListN.{length, drop}
@@ -18,18 +18,40 @@ use Rattle.windows.proofs.advance.Statement.{statement}
 use Rattle.windows.proofs.advance.Tie as tie
 
 abbrev Inv-loop : tie.InvT-loop
-Inv-loop chunk at₀ end₀ at end = Sought protocol2 settledBy chunk at end
+Inv-loop chunk past₀ end₀ past end = Sought protocol2 settledBy chunk past end
 
 abbrev μ-loop : tie.MeasureT-loop
-μ-loop chunk at₀ end₀ at end = length chunk - at
+μ-loop chunk past₀ end₀ past end = length chunk - past
+
+loop-holds : tie.Need-loop-holds Inv-loop μ-loop
+loop-holds c = sought-start protocol2 laws settledBy settles _
 
 next-ff-requires : tie.Need-next-ff-requires Inv-loop μ-loop
 next-ff-requires c κs = search needs
 
-loop-holds : tie.Need-loop-holds Inv-loop μ-loop
-loop-holds c =
-    next-sought (c .before .before .args .chunk .now) 0 (c .next-ff .result) (c .next-ff .ensures) 0
-    (sought-start protocol2 laws settledBy settles _)
+-- the offset that is looked at
+module _ (f : tie.After-next-ff Inv-loop μ-loop) where
+  abbrev s : List ℕ
+  s = f .before .before .before .args .chunk .now
+
+  abbrev here : ℕ
+  here = f .next-ff .result
+
+  abbrev so-far : ℕ
+  so-far = f .before .loop .end
+
+  sought : Sought protocol2 settledBy s here so-far
+  sought = next-sought s (f .before .loop .past) here (f .next-ff .ensures) so-far (f .before .loop .inv)
+
+ending-requires : tie.Need-ending-requires Inv-loop μ-loop
+ending-requires c κs = search needs
+
+returns : tie.Need-returns Inv-loop μ-loop
+returns c =
+    let d = c .before in
+    let f = d .before in
+    rw (c .ending .ensures)
+    (sought-end protocol2 laws settledBy settles (s f) (here f) (so-far f) (sought f) (inr (d .if1 .taken)))
 
 sub-look : tie.Need-sub-look Inv-loop μ-loop
 sub-look c = search needs
@@ -51,25 +73,25 @@ enum-told-2 c = search needs
 
 -- what the look at the offset tells
 module _ (l : tie.After-look Inv-loop μ-loop) where
-  abbrev s : List ℕ
-  s = l .before .before .before .before .before .before .args .chunk .now
+  abbrev f : tie.After-next-ff Inv-loop μ-loop
+  f = l .before .before .before
 
-  abbrev here : ℕ
-  here = l .before .before .before .loop .at
+  some : here f < length (s f)
+  some = l .before .before .if1 .left
 
-  abbrev so-far : ℕ
-  so-far = l .before .before .before .loop .end
+  told : (b : Begun) → l .look .result ≡ b → Looked protocol2 settledBy (drop (here f) (s f)) b
+  told b e = look-at (s f) (here f) (l .look .result) (l .look .ensures) b e
 
-  abbrev sought : Sought protocol2 settledBy s here so-far
-  sought = l .before .before .before .loop .inv
+ending-requires-2 : tie.Need-ending-requires-2 Inv-loop μ-loop
+ending-requires-2 c κs = search needs
 
-  told : (b : Begun) → l .look .result ≡ b → Looked protocol2 settledBy (drop here s) b
-  told b e = look-at s here (l .look .result) (l .look .ensures) b e
-
-returns : tie.Need-returns Inv-loop μ-loop
-returns c =
-    let l = c .before .before in
-    sought-end protocol2 laws settledBy settles (s l) (here l) (so-far l) (sought l) (inl (told l _ (c .enum-told2 .given .1) .0))
+returns-2 : tie.Need-returns-2 Inv-loop μ-loop
+returns-2 c =
+    let d = c .before in
+    let l = d .before .before in
+    let g = f l in
+    rw (c .ending2 .ensures)
+    (sought-end protocol2 laws settledBy settles (s g) (here g) (so-far g) (sought g) (inl (told l _ (d .enum-told2 .given .1) .0)))
 
 enum-known-size : tie.Need-enum-known-size Inv-loop μ-loop
 enum-known-size c = search needs
@@ -82,11 +104,11 @@ module _ (z : tie.After-size Inv-loop μ-loop) where
   abbrev size : ℕ
   size = z .size .given .0 .0
 
-  settled-here : settledBy (drop (here l) (s l)) ≡ size
+  settled-here : settledBy (drop (here (f l)) (s (f l))) ≡ size
   settled-here = told l (Whole size) (z .size .given .1)
 
-  whole : here l + size ≤ length (s l)
-  whole = fits-at (s l) (here l) (l .look .result) (l .look .ensures) size (z .size .given .1)
+  whole : here (f l) + size ≤ length (s (f l))
+  whole = fits-at (s (f l)) (here (f l)) (l .look .result) (l .look .ensures) size (z .size .given .1)
 
 add-greatest : tie.Need-add-greatest Inv-loop μ-loop
 add-greatest c = omega (arith, whole (c .before))
@@ -120,54 +142,62 @@ module _ (j : tie.After-judge-whole Inv-loop μ-loop) where
   abbrev y : tie.After-size Inv-loop μ-loop
   y = g .before .before
 
+  abbrev o : tie.After-next-ff Inv-loop μ-loop
+  o = f (l y)
+
   abbrev last : ℕ
   last = g .greatest .result
 
-  behind : here (l y) + settledBy (drop (here (l y)) (s (l y))) ≤ last
+  behind : here o + settledBy (drop (here o) (s o)) ≤ last
   behind = rw (settled-here y) (g .greatest .ensures .1)
 
-  one-of : (last ≡ so-far (l y)) ⊎ (last ≡ here (l y) + settledBy (drop (here (l y)) (s (l y))))
+  one-of : (last ≡ so-far o) ⊎ (last ≡ here o + settledBy (drop (here o) (s o)))
   one-of = rw (settled-here y) (g .greatest .ensures .2)
 
-  judgement : (v : Judgement) → j .judge-whole .result ≡ v → Judged protocol2 (drop (here (l y)) (s (l y))) v
+  judgement : (v : Judgement) → j .judge-whole .result ≡ v → Judged protocol2 (drop (here o) (s o)) v
   judgement v e =
-      judge-at (s (l y)) (here (l y)) (l y .look .result) (l y .look .ensures) (size y) (y .size .given .1) (j .judge-whole .result) v
+      judge-at (s o) (here o) (l y .look .result) (l y .look .ensures) (size y) (y .size .given .1) (j .judge-whole .result) v
       (j .judge-whole .ensures) e
 
-returns-2 : tie.Need-returns-2 Inv-loop μ-loop
-returns-2 c =
-    let j = c .before .before .before in
-    let a = l (y j) in
-    sought-packet protocol2 laws settledBy settles (s a) (here a) (so-far a) (sought a) (last j) (search needs) (g j .greatest .ensures .0)
-    (behind j) (one-of j) _ (omega (arith, none-lacks)) (judgement j _ (c .before .count .given .1))
+ending-requires-3 : tie.Need-ending-requires-3 Inv-loop μ-loop
+ending-requires-3 c κs = search needs
+
+returns-3 : tie.Need-returns-3 Inv-loop μ-loop
+returns-3 c =
+    let d = c .before in
+    let j = d .before .before .before in
+    let a = o j in
+    rw (c .ending3 .ensures)
+    (sought-packet protocol2 laws settledBy settles (s a) (here a) (so-far a) (sought a) (last j) (some (l (y j))) (g j .greatest .ensures .0)
+    (behind j) (one-of j) _ (omega (arith, none-lacks)) (judgement j _ (d .before .count .given .1)))
 
 enum-known-id : tie.Need-enum-known-id Inv-loop μ-loop
 enum-known-id c = search needs
 
-returns-3 : tie.Need-returns-3 Inv-loop μ-loop
-returns-3 c =
-    let j = c .before .before .before in
-    let a = l (y j) in
-    sought-bad protocol2 laws settledBy settles (s a) (here a) (so-far a) (sought a) (last j) (search needs) (g j .greatest .ensures .0)
-    (behind j) (one-of j) _ (omega arith) (omega (arith, none-lacks)) (judgement j _ (c .before .id .given .1))
+ending-requires-4 : tie.Need-ending-requires-4 Inv-loop μ-loop
+ending-requires-4 c κs = search needs
 
-add-next-ff : tie.Need-add-next-ff Inv-loop μ-loop
-add-next-ff c = search needs
+returns-4 : tie.Need-returns-4 Inv-loop μ-loop
+returns-4 c =
+    let d = c .before in
+    let j = d .before .before .before in
+    let a = o j in
+    rw (c .ending4 .ensures)
+    (sought-bad protocol2 laws settledBy settles (s a) (here a) (so-far a) (sought a) (last j) (some (l (y j))) (g j .greatest .ensures .0)
+    (behind j) (one-of j) _ (omega arith) (omega (arith, none-lacks)) (judgement j _ (d .before .id .given .1)))
 
-next-ff-requires-2 : tie.Need-next-ff-requires-2 Inv-loop μ-loop
-next-ff-requires-2 c κs = search needs
-
-loop-less : tie.Need-loop-less Inv-loop μ-loop
-loop-less c = search needs
+add-past : tie.Need-add-past Inv-loop μ-loop
+add-past c = search needs
 
 -- an offset that is passed: no packet begins, or its bytes are all there and say nothing
-passed : (k : tie.At-match-came Inv-loop μ-loop) → Sought protocol2 settledBy (s (k .before)) (here (k .before) + 1) (k .match .end)
+passed : (k : tie.At-match-came Inv-loop μ-loop)
+    → Sought protocol2 settledBy (s (f (k .before))) (here (f (k .before)) + 1) (k .match .end)
 passed k =
+    let a = f (k .before) in
     ⊎-elim
     (λ w.
     rw (w .2)
-    (sought-none protocol2 laws settledBy settles (s (k .before)) (here (k .before)) (so-far (k .before)) (sought (k .before))
-    (k .before .before .before .loop-test .taken) (told (k .before) Nothing (w .1 .given .1))))
+    (sought-none protocol2 laws settledBy settles (s a) (here a) (so-far a) (sought a) (some (k .before)) (told (k .before) Nothing (w .1 .given .1))))
     (λ w.
     let j : tie.After-judge-whole Inv-loop μ-loop =
     record {
@@ -183,22 +213,18 @@ passed k =
       judge-whole = w .5;
     } in
     rw (w .7)
-    (sought-next protocol2 laws settledBy settles (s (k .before)) (here (k .before)) (so-far (k .before)) (sought (k .before)) (last j)
-    (k .before .before .before .loop-test .taken) (g j .greatest .ensures .0) (behind j) (one-of j)
-    (judged-nothing protocol2 (drop (here (k .before)) (s (k .before))) (j .judge-whole .result) (judgement j _ refl)
+    (sought-next protocol2 laws settledBy settles (s a) (here a) (so-far a) (sought a) (last j) (some (k .before)) (g j .greatest .ensures .0)
+    (behind j) (one-of j)
+    (judged-nothing protocol2 (drop (here a) (s a)) (j .judge-whole .result) (judgement j _ refl)
     (λ n e. miss (2 ∷ 3 ∷ []) 0 tt (rw e at (w .6 .keys3)))
     (λ id e. miss (2 ∷ 3 ∷ []) 1 tt (rw e at (w .6 .keys3))))))
     (k .match .came)
 
-loop-again : tie.Need-loop-again Inv-loop μ-loop
-loop-again c =
-    next-sought (s (c .before .before)) (here (c .before .before) + 1) (c .next-ff2 .result) (c .next-ff2 .ensures) (c .before .match .end)
-    (passed (c .before))
+loop-less : tie.Need-loop-less Inv-loop μ-loop
+loop-less c = omega (arith, f (c .before) .next-ff .ensures, some (c .before))
 
-returns-4 : tie.Need-returns-4 Inv-loop μ-loop
-returns-4 c =
-    let h = c .before .loop in
-    sought-end protocol2 laws settledBy settles _ (h .at) (h .end) (h .inv) (inr (c .loop-test .left))
+loop-again : tie.Need-loop-again Inv-loop μ-loop
+loop-again c = passed c
 
 pub advance-spec : {M : Type 1} → statement M
 advance-spec =
@@ -206,15 +232,18 @@ advance-spec =
     (tie.spec
     Inv-loop
     μ-loop
-    next-ff-requires
     loop-holds
+    next-ff-requires
+    ending-requires
+    returns
     sub-look
     part-look-start
     part-look-end
     look-requires
     enum-told
     enum-told-2
-    returns
+    ending-requires-2
+    returns-2
     enum-known-size
     add-greatest
     greatest-requires
@@ -224,11 +253,11 @@ advance-spec =
     part-judge-whole-end
     judge-whole-requires
     enum-known-count
-    returns-2
-    enum-known-id
+    ending-requires-3
     returns-3
-    add-next-ff
-    next-ff-requires-2
+    enum-known-id
+    ending-requires-4
+    returns-4
+    add-past
     loop-less
-    loop-again
-    returns-4)
+    loop-again)

@@ -5,12 +5,12 @@ use lib.Seq.{length-take-le}
 use Rattle.reading.specs.Reading.{open′}
 use Rattle.reading.specs.Progress.{Patient}
 use Rattle.packet.specs.Verdict.{protocol2}
-use Rattle.packet.proofs.Laws.{laws}
+use Rattle.packet.proofs.Laws.{laws, undecided}
 use Rattle.windows.specs.Scan.{Waits}
 use Rattle.windows.proofs.Windows.{not-none, Filling, filling-start, filling-none, filling-fits, filling-ordered}
 use Rattle.windows.proofs.Windows.{filling-decided, window-fits, window-end}
-use Rattle.windows.proofs.Windows.{window-passed, window-full, window-waits, window-room, window-more, room-behind}
-use mathlib.Core.Path.{refl, sym}
+use Rattle.windows.proofs.Windows.{least-first, not-back, window-back, window-full, window-waits, window-room, window-more, room-behind}
+use mathlib.Core.Path.{_≡_, refl, sym, _∙_}
 use Prim.Native.Nat.{ℕ, _+_, _-_, _≤_, _<_}
 use native.Mathlib.Omega.{arith}
 use lib.ListN.{length, take, drop}
@@ -90,26 +90,37 @@ returns-3 c =
 sub-waiting : tie.Need-sub-waiting Inv-loop μ-loop
 sub-waiting c = window-fits protocol2 laws _ _ _ _ _ _ _ (p (c .before) .loop .inv) _ (waits (c .before))
 
+back-in-chunk-requires : tie.Need-back-in-chunk-requires Inv-loop μ-loop
+back-in-chunk-requires c κs = search needs
+
 same-length-3 : tie.Need-same-length-3 Inv-loop μ-loop
 same-length-3 c = search needs
 
+sub-t21 : tie.Need-sub-t21 Inv-loop μ-loop
+sub-t21 c =
+    let g = c .before .before .before in
+    window-back protocol2 laws _ _ _ _ _ _ _ (p g .loop .inv) _ (waits g) undecided (sym (c .before .back-in-chunk .ensures) ∙ c .if3 .taken) .0
+
 returns-4 : tie.Need-returns-4 Inv-loop μ-loop
 returns-4 c =
-    let g = c .before .before in
-    let w = p g .loop .inv in
-    (w .size, w .taken-within, window-passed protocol2 laws _ _ _ _ _ _ _ w _ (waits g) (c .if3 .taken))
+    let g = c .before .before .before in
+    let w = p g .loop .inv in (
+      w .size,
+      omega (arith, w .taken-within),
+      window-back protocol2 laws _ _ _ _ _ _ _ w _ (waits g) undecided (sym (c .before .back-in-chunk .ensures) ∙ c .if3 .taken) .1,
+    )
 
 sub-room : tie.Need-sub-room Inv-loop μ-loop
-sub-room c = omega (arith, filling-fits protocol2 laws _ _ _ _ _ _ _ (p (c .before .before) .loop .inv))
+sub-room c = omega (arith, filling-fits protocol2 laws _ _ _ _ _ _ _ (p (c .before .before .before) .loop .inv))
 
 same-length-4 : tie.Need-same-length-4 Inv-loop μ-loop
 same-length-4 c = search needs
 
 returns-5 : tie.Need-returns-5 Inv-loop μ-loop
 returns-5 c =
-    let g = c .before .before .before in
+    let g = c .before .before .before .before in
     let w = p g .loop .inv in
-    let f = window-full protocol2 laws _ _ _ _ _ _ _ w _ (waits g) (c .if4 .taken) (not-none _ (c .before .before .if2 .left)) in
+    let f = window-full protocol2 laws _ _ _ _ _ _ _ w _ (waits g) (c .if4 .taken) (not-none _ (c .before .before .before .if2 .left)) in
     (w .size, f .0, f .1)
 
 least-requires-2 : tie.Need-least-requires-2 Inv-loop μ-loop
@@ -121,7 +132,7 @@ least-requires-3 c κs = search needs
 -- it takes m bytes more
 module _ (l : tie.After-least3 Inv-loop μ-loop) where
   abbrev g : tie.After-known-told Inv-loop μ-loop
-  g = l .before .before .before .before .before
+  g = l .before .before .before .before .before .before
 
   abbrev w : tie.Start Inv-loop μ-loop
   w = p g .before .before .before .before .before
@@ -130,7 +141,8 @@ module _ (l : tie.After-least3 Inv-loop μ-loop) where
   m = l .least3 .result
 
   patient : Patient protocol2 (drop (start g) (take (p g .loop .end) (p g .loop .held))) (lacks g)
-  patient = wants g (window-waits protocol2 laws _ _ _ _ _ _ _ (p g .loop .inv) _ (waits g) (l .before .before .before .if3 .left))
+  patient = wants g (window-waits protocol2 laws _ _ _ _ _ _ _ (p g .loop .inv) _ (waits g)
+      (not-back _ _ (sym (l .before .before .before .before .back-in-chunk .ensures) ∙ l .before .before .before .if3 .left)))
 
   some : 0 < m
   some =
@@ -140,11 +152,11 @@ module _ (l : tie.After-least3 Inv-loop μ-loop) where
         l .before .least2 .ensures,
         patient .some,
         not-none _ (l .before .before .if4 .left),
-        not-none _ (l .before .before .before .before .if2 .left),
+        not-none _ (l .before .before .before .before .before .if2 .left),
       )
 
   within : m ≤ lacks g
-  within = omega (arith, l .least3 .ensures, l .before .least2 .ensures)
+  within = least-first (lacks g) _ _ _ _ (l .before .least2 .ensures) (l .least3 .ensures)
 
   taken-fits : p g .loop .taken + m ≤ length (w .args .chunk .now)
   taken-fits = omega (arith, l .least3 .ensures, p g .loop .inv .taken-within)
@@ -215,6 +227,8 @@ fill-spec =
     same-length-2
     returns-3
     sub-waiting
+    back-in-chunk-requires
+    sub-t21
     same-length-3
     returns-4
     sub-room

@@ -21,17 +21,47 @@ use Rattle.windows.proofs.scan.Statement.{statement}
 use Rattle.windows.proofs.scan.Tie as tie
 
 abbrev Inv-loop : tie.InvT-loop
-Inv-loop s from at₀ at = (from ≤ at) × (at ≤ length s) × (first protocol2 open′ (drop from s) ≡ first protocol2 open′ (drop at s))
+Inv-loop s from next₀ next =
+    (from ≤ next) × (next ≤ length s) × (first protocol2 open′ (drop from s) ≡ first protocol2 open′ (drop next s))
 
 abbrev μ-loop : tie.MeasureT-loop
-μ-loop s from at₀ at = length s - at
+μ-loop s from next₀ next = length s - next
+
+loop-holds : tie.Need-loop-holds Inv-loop μ-loop
+loop-holds c = (omega arith, search needs, refl)
 
 next-ff-requires : tie.Need-next-ff-requires Inv-loop μ-loop
 next-ff-requires c κs = search needs
 
-loop-holds : tie.Need-loop-holds Inv-loop μ-loop
-loop-holds c =
-    next-start (c .before .before .args .s .now) (c .before .before .args .from) (c .next-ff .result) (c .next-ff .ensures) open′ (search needs)
+-- the offset that is looked at
+module _ (f : tie.After-next-ff Inv-loop μ-loop) where
+  abbrev s : List ℕ
+  s = f .before .before .before .args .s .now
+
+  abbrev here : ℕ
+  here = f .next-ff .result
+
+  abbrev from : ℕ
+  from = f .before .before .before .args .from
+
+  start : (from ≤ here) × (f .before .loop .next ≤ here) × (here ≤ length s)
+      × (first protocol2 open′ (drop from s) ≡ first protocol2 open′ (drop here s))
+  start =
+      let i = f .before .loop .inv in
+      let n = next-start s (f .before .loop .next) here (f .next-ff .ensures) open′ (i .1) in
+      (omega (arith, i .0, n .0), n .0, n .1, i .2 ∙ n .2)
+
+wanting-requires : tie.Need-wanting-requires Inv-loop μ-loop
+wanting-requires c κs = search needs
+
+returns : tie.Need-returns Inv-loop μ-loop
+returns c =
+    let d = c .before in
+    let f = d .before in
+    let i = start f in
+    let l = d .if1 .taken in
+    rw (c .wanting .ensures)
+    (scan-end protocol2 laws _ (s f) _ (here f) (i .0) (i .3) l (i .2), λ h. absurd (omega arith))
 
 sub-look : tie.Need-sub-look Inv-loop μ-loop
 sub-look c = search needs
@@ -53,32 +83,34 @@ enum-known-lacks c = search needs
 
 -- what the look at the offset tells
 module _ (l : tie.After-look Inv-loop μ-loop) where
-  abbrev s : List ℕ
-  s = l .before .before .before .before .before .before .args .s .now
+  abbrev f : tie.After-next-ff Inv-loop μ-loop
+  f = l .before .before .before
 
-  abbrev here : ℕ
-  here = l .before .before .before .loop .at
+  told : (b : Begun) → l .look .result ≡ b → Looked protocol2 settledBy (drop (here f) (s f)) b
+  told b e = look-at (s f) (here f) (l .look .result) (l .look .ensures) b e
 
-  told : (b : Begun) → l .look .result ≡ b → Looked protocol2 settledBy (drop here s) b
-  told b e = look-at s here (l .look .result) (l .look .ensures) b e
+wanting-requires-2 : tie.Need-wanting-requires-2 Inv-loop μ-loop
+wanting-requires-2 c κs = search needs
 
-returns : tie.Need-returns Inv-loop μ-loop
-returns c =
-    let l = c .before .before .before in
-    let i = l .before .before .before .loop .inv in
-    let w = told l _ (c .before .lacks .given .1) in (
-      scan-waits protocol2 laws (s l) _ (here l) (i .0) (search needs) (w .0) (i .2),
-      λ _. scan-wants protocol2 laws (s l) _ (here l) (i .0) (search needs) (w .0) _ (w .1),
+returns-2 : tie.Need-returns-2 Inv-loop μ-loop
+returns-2 c =
+    let d = c .before in
+    let l = d .before .before .before in
+    let i = start (f l) in
+    let w = told l _ (d .before .lacks .given .1) in
+    rw (c .wanting2 .ensures) (
+      scan-waits protocol2 laws (s (f l)) _ (here (f l)) (i .0) (l .before .before .if1 .left) (w .0) (i .3),
+      λ _. scan-wants protocol2 laws (s (f l)) _ (here (f l)) (i .0) (l .before .before .if1 .left) (w .0) _ (w .1),
     )
 
 enum-known-size : tie.Need-enum-known-size Inv-loop μ-loop
 enum-known-size c = search needs
 
 -- all bytes of a packet are there
-whole : (z : tie.After-size Inv-loop μ-loop) → here (z .before .before) + z .size .given .0 .0 ≤ length (s (z .before .before))
+whole : (z : tie.After-size Inv-loop μ-loop) → here (f (z .before .before)) + z .size .given .0 .0 ≤ length (s (f (z .before .before)))
 whole z =
     let l = z .before .before in
-    fits-at (s l) (here l) (l .look .result) (l .look .ensures) (z .size .given .0 .0) (z .size .given .1)
+    fits-at (s (f l)) (here (f l)) (l .look .result) (l .look .ensures) (z .size .given .0 .0) (z .size .given .1)
 
 add-judge-whole : tie.Need-add-judge-whole Inv-loop μ-loop
 add-judge-whole c = omega (arith, whole (c .before))
@@ -106,58 +138,62 @@ module _ (j : tie.After-judge-whole Inv-loop μ-loop) where
   abbrev l : tie.After-look Inv-loop μ-loop
   l = z .before .before
 
-  judgement : (v : Judgement) → j .judge-whole .result ≡ v → Judged protocol2 (drop (here l) (s l)) v
+  judgement : (v : Judgement) → j .judge-whole .result ≡ v → Judged protocol2 (drop (here (f l)) (s (f l))) v
   judgement v e =
-      judge-at (s l) (here l) (l .look .result) (l .look .ensures) (z .size .given .0 .0) (z .size .given .1) (j .judge-whole .result) v
+      judge-at (s (f l)) (here (f l)) (l .look .result) (l .look .ensures) (z .size .given .0 .0) (z .size .given .1) (j .judge-whole .result) v
       (j .judge-whole .ensures) e
 
-returns-2 : tie.Need-returns-2 Inv-loop μ-loop
-returns-2 c =
-    let j = c .before .before .before in
-    let i = l j .before .before .before .loop .inv in
-    (scan-packet protocol2 laws _ (s (l j)) _ (here (l j)) (i .0) (i .2) _ (search needs) (judgement j _ (c .before .count .given .1)), refl)
+wanting-requires-3 : tie.Need-wanting-requires-3 Inv-loop μ-loop
+wanting-requires-3 c κs = search needs
+
+returns-3 : tie.Need-returns-3 Inv-loop μ-loop
+returns-3 c =
+    let d = c .before in
+    let j = d .before .before .before in
+    let g = f (l j) in
+    let i = start g in
+    rw (c .wanting3 .ensures)
+    (scan-packet protocol2 laws _ (s g) _ (here g) (i .0) (i .3) _ (l j .before .before .if1 .left) (judgement j _ (d .before .count .given .1)), refl)
 
 enum-known-id : tie.Need-enum-known-id Inv-loop μ-loop
 enum-known-id c = search needs
 
-returns-3 : tie.Need-returns-3 Inv-loop μ-loop
-returns-3 c =
-    let j = c .before .before .before in
-    let i = l j .before .before .before .loop .inv in
-    (scan-bad protocol2 laws _ (s (l j)) _ (here (l j)) (i .0) (i .2) _ (omega arith) (search needs) (judgement j _ (c .before .id .given .1)), refl)
+wanting-requires-4 : tie.Need-wanting-requires-4 Inv-loop μ-loop
+wanting-requires-4 c κs = search needs
 
-add-next-ff : tie.Need-add-next-ff Inv-loop μ-loop
-add-next-ff c = search needs
+returns-4 : tie.Need-returns-4 Inv-loop μ-loop
+returns-4 c =
+    let d = c .before in
+    let j = d .before .before .before in
+    let g = f (l j) in
+    let i = start g in
+    rw (c .wanting4 .ensures)
+    (scan-bad protocol2 laws _ (s g) _ (here g) (i .0) (i .3) _ (omega arith) (l j .before .before .if1 .left) (judgement j _ (d .before .id .given .1)), refl)
 
-next-ff-requires-2 : tie.Need-next-ff-requires-2 Inv-loop μ-loop
-next-ff-requires-2 c κs = search needs
+add-next : tie.Need-add-next Inv-loop μ-loop
+add-next c = search needs
 
 loop-less : tie.Need-loop-less Inv-loop μ-loop
-loop-less c = search needs
+loop-less c = omega (arith, start (f (c .before)) .1, start (f (c .before)) .2)
 
 -- an offset that is passed says nothing
-passed : (k : tie.At-match-came Inv-loop μ-loop) → protocol2 .verdict (drop (here (k .before)) (s (k .before))) ≡ isNothing
+passed : (k : tie.At-match-came Inv-loop μ-loop) → protocol2 .verdict (drop (here (f (k .before))) (s (f (k .before)))) ≡ isNothing
 passed k =
+    let g = f (k .before) in
     ⊎-elim (λ w. told (k .before) Nothing (w .1 .given .1) .0)
     (λ w.
-    judged-nothing protocol2 (drop (here (k .before)) (s (k .before))) (w .4 .result)
-    (judge-at (s (k .before)) (here (k .before)) _ (k .before .look .ensures) (w .1 .given .0 .0) (w .1 .given .1) (w .4 .result) (w .4 .result) (w .4 .ensures) refl)
+    judged-nothing protocol2 (drop (here g) (s g)) (w .4 .result)
+    (judge-at (s g) (here g) _ (k .before .look .ensures) (w .1 .given .0 .0) (w .1 .given .1) (w .4 .result) (w .4 .result) (w .4 .ensures) refl)
     (λ n e. miss (2 ∷ 3 ∷ []) 0 tt (rw e at (w .5 .keys3)))
     (λ id e. miss (2 ∷ 3 ∷ []) 1 tt (rw e at (w .5 .keys3))))
     (k .match .came)
 
 loop-again : tie.Need-loop-again Inv-loop μ-loop
 loop-again c =
-    let k = c .before in
-    let i = k .before .before .before .before .loop .inv in
-    let n = next-start (s (k .before)) (here (k .before) + 1) (c .next-ff2 .result) (c .next-ff2 .ensures) open′ (search needs) in
-    (omega (arith, i .0, n .0), n .1, scan-nothing protocol2 laws open′ (s (k .before)) _ (here (k .before)) (i .0) (i .2) (search needs) (passed k) ∙ n .2)
-
-returns-4 : tie.Need-returns-4 Inv-loop μ-loop
-returns-4 c =
-    let i = c .before .loop .inv in
-    let l = c .loop-test .left in
-    (scan-end protocol2 laws _ _ _ _ (i .0) (i .2) l (i .1), λ h. absurd (omega arith))
+    let g = f (c .before) in
+    let i = start g in
+    let h = c .before .before .before .if1 .left in
+    (omega (arith, i .0), omega arith, scan-nothing protocol2 laws open′ (s g) _ (here g) (i .0) (i .3) h (passed c))
 
 pub scan-spec : {M : Type 1} → statement M
 scan-spec =
@@ -165,15 +201,18 @@ scan-spec =
     (tie.spec
     Inv-loop
     μ-loop
-    next-ff-requires
     loop-holds
+    next-ff-requires
+    wanting-requires
+    returns
     sub-look
     part-look-start
     part-look-end
     look-requires
     enum-told
     enum-known-lacks
-    returns
+    wanting-requires-2
+    returns-2
     enum-known-size
     add-judge-whole
     sub-judge-whole
@@ -181,11 +220,11 @@ scan-spec =
     part-judge-whole-end
     judge-whole-requires
     enum-known-count
-    returns-2
-    enum-known-id
+    wanting-requires-3
     returns-3
-    add-next-ff
-    next-ff-requires-2
+    enum-known-id
+    wanting-requires-4
+    returns-4
+    add-next
     loop-less
-    loop-again
-    returns-4)
+    loop-again)

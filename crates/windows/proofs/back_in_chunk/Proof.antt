@@ -1,0 +1,12 @@
+use borrow.Author.Tests.{le-leb, lt-leb}
+use Rattle.windows.proofs.back_in_chunk.Statement.{statement}
+use Rattle.windows.proofs.back_in_chunk.Tie as tie
+
+returns : tie.Need-returns
+returns c = simp (le-leb _ _ (c .if1 .taken))
+
+returns-2 : tie.Need-returns-2
+returns-2 c = simp (lt-leb _ _ (c .if1 .left))
+
+pub back-in-chunk-spec : {M : Type 1} → statement M
+back-in-chunk-spec = tie.close (tie.spec returns returns-2)

@@ -5,19 +5,26 @@ use native.Mathlib.Omega.{arith}
 use lib.ListN.{length, take, drop, getD}
 use Rattle.lists.proofs.Filling.{Filling, fill-from, fill-length}
 use Rattle.log_layout.specs.Log.{laid}
-use Rattle.log_writer.proofs.Turns.{numbers-end, fill-index, filled-end}
+use Rattle.log_parts.proofs.Numbers.{numbers-end, fill-index, filled-end}
 use borrow.Author.Needs.{needs}
-use Rattle.log_writer.proofs.put_index.Statement.{statement}
-use Rattle.log_writer.proofs.put_index.Tie as tie
+use Rattle.log_parts.proofs.index_in.Statement.{statement}
+use Rattle.log_parts.proofs.index_in.Tie as tie
 
 abbrev Inv-loop : tie.InvT-loop
-Inv-loop out₀ at index i₀ out i = (i ≤ 254) × (length out ≡ length out₀) × Filling (take at out₀ ++ laid index []) out₀ out (at + 4 * i) (laid (drop i index) [])
+Inv-loop out₀ segments index at i₀ out i = (i ≤ 254) × (length out ≡ length out₀) × Filling (take at out₀ ++ laid index []) out₀ out (at + 4 * i) (laid (drop i index) [])
 
 abbrev μ-loop : tie.MeasureT-loop
-μ-loop out₀ at index i₀ out i = 254 - i
+μ-loop out₀ segments index at i₀ out i = 254 - i
+
+mul-place : tie.Need-mul-place Inv-loop μ-loop
+mul-place c = search needs
+
+add-place : tie.Need-add-place Inv-loop μ-loop
+add-place c = search needs
 
 loop-holds : tie.Need-loop-holds Inv-loop μ-loop
-loop-holds c = (search needs, refl, let e : c .before .args .at + 0 ≡ c .before .args .at = omega arith in rw e (fill-from _ _ _ (search needs)))
+loop-holds c = (search needs, refl, let p = 16 + 8 * c .before .args .segments in
+    let e : p + 0 ≡ p = omega arith in rw e (fill-from _ _ _ (search needs)))
 
 mul-put-number : tie.Need-mul-put-number Inv-loop μ-loop
 mul-put-number c = search needs
@@ -44,7 +51,7 @@ loop-again : tie.Need-loop-again Inv-loop μ-loop
 loop-again c = let l = c .before .before .before .before .before .loop in
     let a = c .before .before .before .before .before .before .before .args in
     let n : length (a .t3) ≡ 254 = search needs in
-    let f = fill-index _ _ (l .out) _ (a .t3) (a .at) (l .i) (search needs) (l .inv .2) (search needs) (c .before .before .put-number .ensures) in
+    let f = fill-index _ _ (l .out) _ (a .t3) (16 + 8 * a .segments) (l .i) (search needs) (l .inv .2) (search needs) (c .before .before .put-number .ensures) in
     (search needs, fill-length _ _ _ _ _ f, f)
 
 same-length : tie.Need-same-length Inv-loop μ-loop
@@ -54,14 +61,16 @@ returns : tie.Need-returns Inv-loop μ-loop
 returns c = let l = c .before .loop in
     let a = c .before .before .before .args in
     let n : length (a .t3) ≡ 254 = search needs in
-    filled-end (a .out .now) _ (l .out) (a .at) _ _ (search needs) (numbers-end (a .t3) (l .i) (search needs)) (l .inv .2)
+    filled-end (a .out .now) _ (l .out) (16 + 8 * a .segments) _ _ (search needs) (numbers-end (a .t3) (l .i) (search needs)) (l .inv .2)
 
-pub put-index-spec : {M : Type 1} → statement M
-put-index-spec =
+pub index-in-spec : {M : Type 1} → statement M
+index-in-spec =
     tie.close
     (tie.spec
     Inv-loop
     μ-loop
+    mul-place
+    add-place
     loop-holds
     mul-put-number
     add-put-number

@@ -92,7 +92,7 @@ fn a_dropped_end_does_not_count() {
 fn damaged_logs() {
     let mut rng = Rng::new(130);
     let mut counts = [0; 4];
-    for _ in 0..3_000 {
+    for _ in 0..1_200 {
         let segments = some_segments(&mut rng, 5);
         let log = cut_log(&mut rng, &as_parts(&segments));
         let places = if log.len() < 1_032 { 0 } else { entries(&log) };
@@ -100,7 +100,7 @@ fn damaged_logs() {
         let answer = salvage(&mut rng, &log, log.len() + slack, 2 * places + slack);
         counts[if answer.count < 0 { 0 } else { 1 + answer.dropped.min(2) }] += 1;
     }
-    assert!(counts.iter().all(|&count| count > 100), "{counts:?}");
+    assert!(counts.iter().all(|&count| count > 80), "{counts:?}");
 }
 
 /// Each room around the exact ones; 33 comes first, and a refusal leaves both buffers. [I31 N18]

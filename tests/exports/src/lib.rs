@@ -93,7 +93,7 @@ pub struct Reader {
 
 mod raw {
     use super::test::Fed;
-    use super::{Answer, Carried, Event, Found, Reader, Registered, Reply, Step};
+    use super::{Answer, Carried, Event, Found, Reader, Registered, Reply, Salvaged, Step};
 
     #[repr(C)]
     pub struct Verdict {

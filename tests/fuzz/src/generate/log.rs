@@ -53,9 +53,9 @@ pub fn salvage(rng: &mut Rng) -> Operation {
     let segments = segments(rng);
     let parts: Vec<&[u8]> = segments.iter().map(|segment| &segment[..]).collect();
     let log = cut_log(rng, &parts);
-    let room = if rng.one_in(5) { some_room(rng, log.len()) } else { log.len() + rng.between(0, 9) };
+    let room = if rng.one_in(3) { some_room(rng, log.len()) } else { log.len() + rng.between(0, 9) };
     let told = log.get(..4).map_or(0, |four| u32::from_le_bytes([four[0], four[1], four[2], four[3]]) as usize);
     let entries = told.min(log.len().saturating_sub(1_032) / 8);
-    let report = if rng.one_in(5) { some_room(rng, 2 * entries) } else { 2 * entries + rng.between(0, 4) };
+    let report = if rng.one_in(3) { some_room(rng, 2 * entries) } else { 2 * entries + rng.between(0, 4) };
     Operation::Salvage { room, report, log }
 }

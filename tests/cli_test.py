@@ -329,6 +329,9 @@ class Words(Folder):
         sample = ("$ dxl log write shift.log examples/capture.bin examples/ping.bin\n$ dxl log check shift.log\n" + check
                   + "$ dxl log last shift.log 2\n" + last)
         self.assertIn(sample, Path("README.md").read_text(encoding="utf-8"))
+        cut, whole = self.file("cut.log", self.out.read_bytes()[:-1]), self.file("whole.log")
+        report = run("log", "salvage", cut, whole)[1].replace(f"{self.folder.name}/", "")
+        self.assertIn("$ dxl log salvage cut.log whole.log\n" + report, Path("README.md").read_text(encoding="utf-8"))
 
 
 class Progress(Folder):

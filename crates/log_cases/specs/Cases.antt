@@ -61,6 +61,6 @@ abbrev pub Hold : List Case → Type 0
 Hold [] = Unit {0}
 Hold (c ∷ cs) = (reportOf (c .file) ≡ c .report) × Hold cs
 
--- each file of the table has its report [I25-I29]
+-- each file of the table has its report [I25-I28 X29-X33]
 abbrev pub SalvageCases : Type 0
 SalvageCases = Hold table

@@ -278,7 +278,11 @@ pub extern "C" fn dxl_log_last(file: &[u8], id: u8) -> FoundNumbers
 // kept segments, and that a sound log comes out as it was, are promised too, with worked examples.
 // [G5 I21-I31 N4 N10-N12 N14 N18]
 #[no_mangle]
-pub extern "C" fn dxl_log_salvage(file: &[u8], out: &mut [u8], report: &mut [u32]) -> SalvagedNumbers
+pub extern "C" fn dxl_log_salvage(
+    file: &[u8],
+    out: &mut [u8],
+    report: &mut [u32],
+) -> SalvagedNumbers
     ensures { λ r. ⌜ r ≡ salvagedNumbers (salvageAnswer (now (file .entry)) (now (out .entry)) (now (report .entry))) ⌝ }
     ensures { λ _. ⌜ now (out .exit) ≡ salvageOut (now (file .entry)) (now (out .entry)) (now (report .entry)) ⌝ }
     ensures { λ _. ⌜ now (report .exit) ≡ salvageReport (now (file .entry)) (now (out .entry)) (now (report .entry)) ⌝ }

@@ -11,6 +11,11 @@ ghost use Rattle.log_layout.specs.Layout.{entryOf};
 ghost use Rattle.log_kept.specs.Kept.{entryCount, fault, droppedOf};
 ghost use Rattle.log_kept.specs.Sorting.{judged, counts, sortAnswer, sortReport};
 
+// Why an entry is dropped.
+pub const BAD_START: u32 = 1;
+
+pub const BAD_END: u32 = 2;
+
 pub enum Judged {
     // Start and length.
     Kept(usize, usize),
@@ -55,10 +60,10 @@ pub fn judge(file: &[u8], number: u32, limit: usize) -> Judged
     let start = log_layout::number_at(file, place) as usize;
     let n = log_layout::number_at(file, place + 4) as usize;
     if start < limit {
-        return Judged::Dropped(1);
+        return Judged::Dropped(BAD_START);
     }
     if file.len() < start + n {
-        return Judged::Dropped(2);
+        return Judged::Dropped(BAD_END);
     }
     Judged::Kept(start, n)
 }

@@ -53,18 +53,6 @@ fn entry_in(out: &mut [u8], number: usize, start: usize, count: usize)
     put_number(out, place + 4, count);
 }
 
-fn index_in(out: &mut [u8], segments: usize, index: [usize; 254])
-    requires { ⌜ segmentsPlace segments ≤ length (now out) ⌝ }
-    ensures { λ _. ⌜ now (out .exit) ≡ placed (now (out .entry)) (indexPlace segments) (laid index []) ⌝ }
-{
-    let place = DIRECTORY + LOG_ENTRY * segments;
-    let mut i = 0;
-    while i < INDEX_COUNT {
-        put_number(out, place + 4 * i, index[i]);
-        i += 1;
-    }
-}
-
 // The header, where there is room for header and directory. [I2]
 pub fn put_header(out: &mut [u8], segments: usize)
     ensures { λ _. ⌜ now (out .exit) ≡ put (indexPlace segments) (now (out .entry)) 0 (header segments) ⌝ }
@@ -87,7 +75,13 @@ pub fn put_entry(out: &mut [u8], number: usize, start: usize, count: usize)
 pub fn put_index(out: &mut [u8], segments: usize, index: [usize; 254])
     ensures { λ _. ⌜ now (out .exit) ≡ put (segmentsPlace segments) (now (out .entry)) (indexPlace segments) index ⌝ }
 {
-    if has_room(out.len(), LOG_FRONT, segments) {
-        index_in(out, segments, index);
+    if !has_room(out.len(), LOG_FRONT, segments) {
+        return;
+    }
+    let place = DIRECTORY + LOG_ENTRY * segments;
+    let mut i = 0;
+    while i < INDEX_COUNT {
+        put_number(out, place + 4 * i, index[i]);
+        i += 1;
     }
 }

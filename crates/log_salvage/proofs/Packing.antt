@@ -31,9 +31,6 @@ directoryBytes start ss = laid (numbersOf (directory start ss)) []
 abbrev pub packed : List ℕ → ℕ → ℕ → List (List ℕ) → List ℕ
 packed out k start ss = placed (placed out (16 + 8 * k) (directoryBytes start ss)) start (joined ss)
 
-abbrev keptBy : List ℕ → List Entry → List (List ℕ)
-keptBy file es = segmentsBy file es
-
 directory-size : (start : ℕ) (ss : List (List ℕ)) → length (directoryBytes start ss) ≡ 8 * length ss
 directory-size start ss =
     laid-alone (numbersOf (directory start ss)) ∙ omega (arith, length-numbersOf (directory start ss), directory-length start ss)

@@ -14,6 +14,7 @@ static const char HELP[] =
     "usage: dxl log write OUT CAPTURE...   write a log of captures, each of them one segment\n"
     "       dxl log check LOG              say whether a log is sound\n"
     "       dxl log last LOG ID            say where the last packet for an ID stands\n"
+    "       dxl log salvage LOG OUT        write a sound log of what is whole in a cut one\n"
     "       dxl log COMMAND --help         say more of a command\n"
     "       dxl --version\n"
     "\n"
@@ -41,6 +42,16 @@ static const char HELP_LAST[] =
     "252, or 254 for packets to all devices. The log is taken at its word: which segments its index names is not checked, and only\n"
     "the one for this ID is read. 'dxl log check' tells whether the index is right.\n";
 
+static const char HELP_SALVAGE[] =
+    "usage: dxl log salvage LOG OUT\n"
+    "\n"
+    "Writes to OUT a sound log of what is whole in LOG, whose tail may be cut off or whose directory may be wrong, and prints what was\n"
+    "altered: each segment of LOG that was dropped, from 0, with the reason (1, it starts before the end of the index or of the last\n"
+    "segment kept; 2, it ends behind the end of the file), whether the header changed, how many of the 254 index numbers did, and how\n"
+    "many bytes behind the old index lie in no segment that was kept. LOG is only read, and OUT must not be the same file. An OUT that\n"
+    "is there is replaced once the new log is complete; until then it stays. A file of fewer than 1032 or of more than 4294967295\n"
+    "bytes is refused, 33.\n";
+
 static int help(const char *text)
 {
     fputs(text, stdout);
@@ -61,6 +72,8 @@ static const char *reason(int64_t refusal)
         return "31, not laid out as a log";
     case DXL_BAD_LOG_ID:
         return "32, an ID of 253 or 255 is never valid";
+    case DXL_BAD_LOG_SIZE:
+        return "33, a log has 1032 to 4294967295 bytes";
     case DXL_WRONG_INDEX:
         return "34, the index is not that of the segments";
     default:
@@ -223,13 +236,98 @@ static int log_last(int n, char **words)
     return printed(DONE);
 }
 
+/* ---- dxl log salvage */
+
+/* A file that is to be salvaged, and the places for the numbers of its dropped segments. */
+struct cut_log {
+    const char *name;
+    struct mapped file;
+    uint32_t *report;
+    size_t numbers;
+};
+
+/* Without room the call tells whether the file has a size that is accepted at all: it refuses that first. */
+static int has_log_size(const struct cut_log *log)
+{
+    uint8_t byte;
+    uint32_t number;
+    int64_t refusal = dxl_log_salvage(log->file.bytes, log->file.count, &byte, 0, &number, 0).count;
+    return refusal != -DXL_BAD_LOG_SIZE || say_failure(log->name, reason(refusal));
+}
+
+/* Two numbers for each segment that the file may have. */
+static int make_report(struct cut_log *log)
+{
+    size_t entries = (log->file.count - DXL_LOG_FRONT) / DXL_LOG_ENTRY, told = number_at(log->file.bytes);
+    log->numbers = 2 * (told < entries ? told : entries);
+    log->report = calloc(log->numbers + 1, sizeof *log->report);
+    return log->report != NULL || say_failure(log->name, "no memory");
+}
+
+static void print_count(size_t n, const char *what, const char *after)
+{
+    printf("%zu %s%s%s\n", n, what, n == 1 ? "" : "s", after);
+}
+
+static void print_report(const struct cut_log *log, const char *out, const struct dxl_salvaged *salvaged, unsigned kept)
+{
+    printf("%s: %u of %zu segments kept, %lld bytes written to %s\n", log->name, kept, kept + salvaged->dropped,
+           (long long)salvaged->count, out);
+    for (size_t i = 0; i < salvaged->dropped; i++)
+        printf("segment %u dropped: %s\n", (unsigned)log->report[2 * i],
+               log->report[2 * i + 1] == DXL_BAD_START ? "1, it starts before the end of the index or of the last segment kept"
+                                                       : "2, it ends behind the end of the file");
+    printf("header %s\n", salvaged->header_changed ? "changed" : "unchanged");
+    print_count(salvaged->index_changed, "index number", " changed");
+    print_count(salvaged->leftover, "byte", " left over");
+}
+
+static int write_salvaged(struct cut_log *log, const char *out)
+{
+    struct output output;
+    if (!may_be_written(out) || !map_file(log->name, &log->file))
+        return FAILED;
+    if (same_file(out, &log->file)) {
+        say_failure(log->name, "the log that is read and the one to be written are one file");
+        return FAILED;
+    }
+    if (!has_log_size(log) || !make_report(log) || !begin_output(out, log->file.count, &output))
+        return FAILED;
+    struct dxl_salvaged salvaged =
+        dxl_log_salvage(log->file.bytes, log->file.count, output.bytes, output.count, log->report, log->numbers);
+    if (salvaged.count < 0) /* not expected: the size was tested, and there is room */
+        return give_up(&output, reason(salvaged.count)) ? DONE : FAILED;
+    unsigned kept = number_at(output.bytes);
+    output.length = (size_t)salvaged.count;
+    if (!finish_output(&output))
+        return FAILED;
+    end_work();
+    print_report(log, out, &salvaged, kept);
+    return printed(DONE);
+}
+
+static int log_salvage(int n, char **words)
+{
+    if (n != 2)
+        return usage(HELP_SALVAGE);
+    struct cut_log log = {.name = words[0]};
+    begin_work("salvaging the log");
+    int status = write_salvaged(&log, words[1]);
+    end_work();
+    free(log.report);
+    return status;
+}
+
 /* ---- words */
 
 static const struct command {
     const char *name;
     const char *help;
     int (*run)(int n, char **words);
-} COMMANDS[] = {{"write", HELP_WRITE, log_write}, {"check", HELP_CHECK, log_check}, {"last", HELP_LAST, log_last}};
+} COMMANDS[] = {{"write", HELP_WRITE, log_write},
+                {"check", HELP_CHECK, log_check},
+                {"last", HELP_LAST, log_last},
+                {"salvage", HELP_SALVAGE, log_salvage}};
 
 static int asks_for_help(const char *word)
 {

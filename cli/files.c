@@ -281,7 +281,7 @@ static int take_room(int file, size_t count)
 int begin_output(const char *name, size_t count, struct output *output)
 {
     output->name = name;
-    output->count = count;
+    output->count = output->length = count;
     output->temporary = with_ending(name, ".XXXXXX");
     if (output->temporary == NULL)
         return say_failure(name, "no memory");
@@ -328,8 +328,8 @@ int finish_output(struct output *output)
 {
     int kept = fchmod(output->file, mode_for(output->name)); /* some file systems have no modes: the log is whole all the same */
     (void)kept;
-    if (munmap(output->bytes, output->count) != 0 || fsync(output->file) != 0 || close(output->file) != 0
-        || rename(output->temporary, output->name) != 0)
+    if (munmap(output->bytes, output->count) != 0 || ftruncate(output->file, (off_t)output->length) != 0
+        || fsync(output->file) != 0 || close(output->file) != 0 || rename(output->temporary, output->name) != 0)
         return give_up(output, strerror(errno));
     unfinished = NULL;
     free(output->temporary);

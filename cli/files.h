@@ -26,6 +26,7 @@ struct mapped {
 struct output {
     uint8_t *bytes;
     size_t count;
+    size_t length; /* of the file when it is finished: as many bytes as are mapped, or fewer */
     int file;
     const char *name;
     char *temporary; /* null where the file has no name of its own */

@@ -90,6 +90,7 @@ enum {
     DXL_BAD_READER = 25,     /* the reader's count is above 1,030 */
     DXL_BAD_LOG = 31,        /* a file that is not laid out as a log, or segments of which no log can be made */
     DXL_BAD_LOG_ID = 32,     /* an ID of 253 or 255, asked of a log */
+    DXL_BAD_LOG_SIZE = 33,   /* a file to be salvaged that is shorter than a log can be, or longer */
     DXL_WRONG_INDEX = 34,    /* a log whose index is not that of its segments */
     DXL_NOT_GOALS = 41,      /* the list of wanted goals is not 253 long */
     DXL_BAD_GOAL = 42        /* a wanted goal is below -1 or above 4,095 */
@@ -432,7 +433,7 @@ struct dxl_event dxl_next_event(const uint8_t *segment, size_t n, size_t from);
  * A packet is what dxl_next_event finds; a bad checksum is none. A segment may be empty, and so may the log. A sound log is exactly
  * this, and has at most 4,294,967,295 bytes.
  *
- * The program dxl of `make install` does what these three calls do, on files.
+ * The program dxl of `make install` does what these calls do, on files.
  */
 
 /*
@@ -485,6 +486,44 @@ struct dxl_found {
  * index numbers. It writes no memory.
  */
 struct dxl_found dxl_log_last(const uint8_t *log, size_t n, uint8_t id);
+
+/* The answer of dxl_log_salvage. All but count is 0 where that is a refusal. */
+struct dxl_salvaged {
+    int64_t count;          /* the bytes of the log that was written, or minus the number of a refusal */
+    size_t dropped;         /* how many entries of the directory were dropped: so many places of the report are used */
+    size_t index_changed;   /* how many of the 254 index numbers are not what stood in their place */
+    size_t leftover;        /* how many bytes behind the old index lie in no kept segment */
+    uint8_t header_changed; /* 1 if the first 16 bytes are not those of the file, else 0 */
+};
+
+/* Why an entry was dropped. */
+enum {
+    DXL_BAD_START = 1, /* it starts before the end of the old index, or before the end of the last one that was kept */
+    DXL_BAD_END = 2    /* it ends behind the end of the file */
+};
+
+/*
+ * Writes a sound log of what is whole in a log whose tail was cut off, or whose directory is wrong, and reports what was altered.
+ *
+ * log, n             the file, any bytes
+ * out, n_out         the buffer for the new log: as long as the file, which is always enough
+ * report, n_report   two numbers for each dropped entry, in the directory's order: its number from 0, and why. n_report counts
+ *                    numbers, and has to be twice the count of entries: 2 * ((n - DXL_LOG_FRONT) / DXL_LOG_ENTRY) is always enough
+ *
+ * The entries are as many as the header says, or as there is room for where that is less. The directory is looked for at 16 and the
+ * index right behind it, whatever the header says. In the directory's order an entry is kept that starts at the end of this index
+ * or behind it, and at the end of the last kept one or behind it, and ends within the file. The kept segments are written side by
+ * side, as they are; header, directory and index are made anew.
+ *
+ * Returns the count of bytes and the report, or with count
+ *   -33  n is below 1,032 or above 4,294,967,295
+ *   -13  n_out is below n, or n_report below twice the count of entries
+ *
+ * A sound log comes out byte for byte, with all of the report 0, and so does whatever this call has written. The bytes of out after
+ * the log stay as they were, and so do the places of the report that are not used; if the call is refused, all of both do. None of
+ * the three may overlap.
+ */
+struct dxl_salvaged dxl_log_salvage(const uint8_t *log, size_t n, uint8_t *out, size_t n_out, uint32_t *report, size_t n_report);
 
 /*
  * Fills a control table as it comes from the factory: every register has its fresh value, undefined bytes are 0.

@@ -19,6 +19,7 @@ import suite
 PROGRAM = sys.argv[1] if len(sys.argv) == 2 else ""
 PATIENCE = 120  # seconds for one command
 PING = bytes.fromhex("FF FF FD 00 01 03 00 01 19 4E")
+PING_2 = bytes.fromhex("FF FF FD 00 02 03 00 01 19 72")
 TO_ALL = bytes.fromhex("FF FF FD 00 FE 03 00 01 31 42")
 DONE, NO, USAGE, FAILED = 0, 1, 2, 3
 LONG = 200_000_000  # bytes of a capture that takes some seconds
@@ -31,6 +32,25 @@ def run(*words, **more):
 
 def numbers(log, at, count):
     return list(struct.unpack_from(f"<{count}I", log, at))
+
+
+def heard_until(program, heard, wanted, listens):
+    """What comes from the file, up to the words wanted; then the program is ended. It counts the signals of its timer, so that some
+    more of them make seconds pass, as soon as it listens to them."""
+    text = b""
+    os.set_blocking(heard, False)
+    ends = time.monotonic() + PATIENCE
+    while wanted not in text and program.poll() is None and time.monotonic() < ends:
+        if listens():
+            program.send_signal(signal.SIGALRM)
+        time.sleep(0.01)
+        try:
+            text += os.read(heard, 1000)
+        except BlockingIOError:
+            pass
+    program.send_signal(signal.SIGTERM)
+    program.wait(PATIENCE)
+    return text
 
 
 class Folder(unittest.TestCase):
@@ -174,12 +194,116 @@ class Ask(Folder):
         self.assertEqual((ended.returncode, ended.stderr.startswith(b"dxl: standard output: ")), (FAILED, True))
 
 
+class Salvage(Folder):
+    def setUp(self):
+        super().setUp()
+        captures = [self.file("a", PING), self.file("b", PING_2)]
+        self.assertEqual(run("log", "write", self.out, *captures), (DONE, "", ""))
+        for capture in captures:
+            capture.unlink()
+        self.log = self.out.read_bytes()
+        self.new = self.file("new.log")
+
+    def salvage(self, contents):
+        self.out.write_bytes(contents)
+        status, out, err = run("log", "salvage", self.out, self.new)
+        self.assertEqual((status, err, self.names()), (DONE, "", ["new.log", "out.log"]))
+        self.assertEqual((run("log", "check", self.new)[0], self.out.read_bytes()), (DONE, contents))
+        return out.replace(f"{self.folder.name}/", "")
+
+    # [I29 L10]
+    def test_sound(self):
+        self.assertEqual(self.salvage(self.log), "out.log: 2 of 2 segments kept, 1068 bytes written to new.log\n"
+                         "header unchanged\n0 index numbers changed\n0 bytes left over\n")
+        self.assertEqual(self.new.read_bytes(), self.log)
+
+    # [I22 I24-I28 L10 X29]
+    def test_cut(self):
+        self.assertEqual(self.salvage(self.log[:-1]), "out.log: 1 of 2 segments kept, 1050 bytes written to new.log\n"
+                         "segment 1 dropped: 2, it ends behind the end of the file\n"
+                         "header changed\n1 index number changed\n9 bytes left over\n")
+        self.assertEqual((self.new.read_bytes()[1040:], numbers(self.new.read_bytes(), 0, 6)), (PING, [1, 16, 254, 24, 1040, 10]))
+
+    # [I21 I23 L10 X31]
+    def test_another_count(self):
+        start = "1, it starts before the end of the index or of the last segment kept\n"
+        self.assertEqual(self.salvage(b"\x03" + self.log[1:]), "out.log: 1 of 3 segments kept, 1050 bytes written to new.log\n"
+                         f"segment 0 dropped: {start}segment 2 dropped: {start}"
+                         "header changed\n4 index numbers changed\n2 bytes left over\n")
+
+    # [L10]
+    def test_mode_and_a_log_that_is_there(self):
+        self.new.write_bytes(b"x" * 5000)
+        self.new.chmod(0o600)
+        self.salvage(self.log[:-1])
+        self.assertEqual((len(self.new.read_bytes()), self.new.stat().st_mode & 0o777), (1050, 0o600))
+
+    # [I31 L10 N18]
+    def test_refused(self):
+        """A file of no size that is accepted: nothing is written. The long one takes no room on the disk."""
+        for size in [0, 4, 1031, 1 << 32]:
+            with self.subTest(size), self.out.open("wb") as file:
+                file.truncate(size)
+                self.assertEqual(run("log", "salvage", self.out, self.new),
+                                 (FAILED, "", f"dxl: {self.out}: 33, a log has 1032 to 4294967295 bytes\n"))
+                self.assertEqual(self.names(), ["out.log"])
+
+    # [L10]
+    def test_never_over_the_log_that_is_read(self):
+        hard, soft = self.file("hard"), self.file("soft")
+        os.link(self.out, hard)
+        soft.symlink_to("out.log")
+        for log, out in [(self.out, self.out), (self.out, hard), (hard, self.out), (self.out, soft), (soft, self.out),
+                         (self.out, Path(self.folder.name, ".", "..", Path(self.folder.name).name, "out.log"))]:
+            with self.subTest(log=log, out=out):
+                self.assertEqual(run("log", "salvage", log, out),
+                                 (FAILED, "", f"dxl: {log}: the log that is read and the one to be written are one file\n"))
+                self.assertEqual((self.out.read_bytes(), self.names()), (self.log, ["hard", "out.log", "soft"]))
+
+    # [L10]
+    def test_complete_or_not_there(self):
+        """Whatever goes wrong, OUT is as it was, and no other file stays."""
+        self.new.write_bytes(b"an older one")
+        pipe = self.file("pipe")
+        os.mkfifo(pipe)
+
+        def small_files():
+            resource.setrlimit(resource.RLIMIT_FSIZE, (1000, 1000))
+
+        for log, out, more in [(self.file("none"), self.new, {}), (pipe, self.new, {}), (self.out, pipe, {}),
+                               (self.out, self.file("no/new.log"), {}), (self.out, self.new, {"preexec_fn": small_files})]:
+            with self.subTest(log=log, out=out):
+                status, text, err = run("log", "salvage", log, out, **more)
+                self.assertEqual((status, text, err.startswith("dxl: ") and err.count("\n")), (FAILED, "", 1))
+                self.assertEqual((self.new.read_bytes(), self.names()), (b"an older one", ["new.log", "out.log", "pipe"]))
+
+    # [L10]
+    def test_full_output(self):
+        with open("/dev/full", "wb") as full:
+            ended = subprocess.run([PROGRAM, "log", "salvage", str(self.out), str(self.new)], stdout=full, stderr=subprocess.PIPE,
+                                   check=False)
+        self.assertEqual((ended.returncode, ended.stderr.startswith(b"dxl: standard output: ")), (FAILED, True))
+
+    # [L10]
+    def test_long_work(self):
+        """A line says how long it takes, and nothing unfinished stays where it is ended."""
+        with self.out.open("wb") as file:
+            file.write(struct.pack("<4I", 1, 16, 254, 24) + struct.pack("<2I", 1040, LONG))
+            file.truncate(1040 + LONG)
+        ours, theirs = os.pipe()
+        program = subprocess.Popen([PROGRAM, "log", "salvage", str(self.out), str(self.new)], stderr=theirs)
+        os.close(theirs)
+        text = heard_until(program, ours, b"10 s\n", lambda: len(self.names()) > 1)
+        os.close(ours)
+        self.assertEqual((text, self.names()), (b"dxl: salvaging the log, 10 s\n", ["out.log"]))
+
+
 class Words(Folder):
     def test_help(self):
         status, text, err = run("--help")
         self.assertEqual((status, err, text.splitlines()[0].startswith("usage: dxl log write OUT CAPTURE...")), (DONE, "", True))
         self.assertEqual(run("log", "--help")[1], text)
-        for name in ["write", "check", "last"]:
+        for name in ["write", "check", "last", "salvage"]:
             status, more, err = run("log", name, "--help")
             self.assertEqual((status, err, more.startswith(f"usage: dxl log {name} ")), (DONE, "", True))
             self.assertEqual(run("log", name), (USAGE, "", more))
@@ -189,7 +313,8 @@ class Words(Folder):
     def test_other_words(self):
         for words in [[], ["log"], ["log", "none"], ["none"], ["log", "check"], ["log", "check", "a", "b"], ["log", "write", "a"],
                       ["log", "last", "a"], ["log", "last", "a", "256"], ["log", "last", "a", "-1"], ["log", "last", "a", "0x1"],
-                      ["log", "last", "a", ""], ["log", "last", "a", "1", "2"]]:
+                      ["log", "last", "a", ""], ["log", "last", "a", "1", "2"], ["log", "salvage", "a"],
+                      ["log", "salvage", "a", "b", "c"]]:
             with self.subTest(words):
                 status, out, err = run(*words)
                 self.assertEqual((status, out, err.startswith("usage: dxl log ")), (USAGE, "", True))
@@ -204,10 +329,13 @@ class Words(Folder):
         sample = ("$ dxl log write shift.log examples/capture.bin examples/ping.bin\n$ dxl log check shift.log\n" + check
                   + "$ dxl log last shift.log 2\n" + last)
         self.assertIn(sample, Path("README.md").read_text(encoding="utf-8"))
+        cut, whole = self.file("cut.log", self.out.read_bytes()[:-1]), self.file("whole.log")
+        report = run("log", "salvage", cut, whole)[1].replace(f"{self.folder.name}/", "")
+        self.assertIn("$ dxl log salvage cut.log whole.log\n" + report, Path("README.md").read_text(encoding="utf-8"))
 
 
 class Progress(Folder):
-    """Work that takes long is told. The program counts the signals of its timer, so that some more of them make seconds pass."""
+    """Work that takes long is told."""
 
     def long_work(self, stderr):
         capture = self.file("capture")
@@ -216,21 +344,7 @@ class Progress(Folder):
         return subprocess.Popen([PROGRAM, "log", "write", str(self.out), str(capture)], stderr=stderr)
 
     def said(self, program, heard, wanted):
-        """What comes from the file, up to the words wanted."""
-        text = b""
-        os.set_blocking(heard, False)
-        ends = time.monotonic() + PATIENCE
-        while wanted not in text and program.poll() is None and time.monotonic() < ends:
-            if len(self.names()) > 1:  # it has begun, and listens
-                program.send_signal(signal.SIGALRM)
-            time.sleep(0.01)
-            try:
-                text += os.read(heard, 1000)
-            except BlockingIOError:
-                pass
-        program.send_signal(signal.SIGTERM)
-        program.wait(PATIENCE)
-        return text
+        return heard_until(program, heard, wanted, lambda: len(self.names()) > 1)
 
     def test_on_a_terminal(self):
         ours, theirs = pty.openpty()

@@ -27,6 +27,7 @@ struct dxl_event baseline_next_event(const uint8_t *segment, size_t n, size_t fr
 int64_t baseline_log_write(const uint8_t *bytes, size_t n, const uint32_t *lengths, size_t n_segments, uint8_t *out, size_t n_out);
 int64_t baseline_log_check(const uint8_t *log, size_t n);
 struct dxl_found baseline_log_last(const uint8_t *log, size_t n, uint8_t id);
+struct dxl_salvaged baseline_log_salvage(const uint8_t *log, size_t n, uint8_t *out, size_t n_out, uint32_t *report, size_t n_report);
 struct fed_value baseline_feed_value(const uint8_t held[1030], size_t count, const uint8_t *chunk, size_t n);
 
 int64_t baseline_fresh(uint8_t *table, size_t n);

@@ -325,6 +325,30 @@ static uint16_t log_last_baseline(uint16_t last, size_t n)
     return ask_log(baseline_log_last, last);
 }
 
+typedef struct dxl_salvaged log_salvager(const uint8_t *log, size_t n, uint8_t *out, size_t n_out, uint32_t *report, size_t n_report);
+
+/* The log without its last byte, so that its last segment is dropped. */
+static uint16_t salvage_log(log_salvager *salvage, uint16_t last)
+{
+    static uint8_t out[sizeof log_bytes];
+    static uint32_t report[2 * MOST_SEGMENTS];
+    struct dxl_salvaged salvaged = salvage(log_bytes, n_log - 1, out, sizeof out, report, 2 * MOST_SEGMENTS);
+    size_t figures = salvaged.dropped + salvaged.index_changed + salvaged.leftover;
+    return mixed(last, (size_t)salvaged.count, figures, (uint8_t)report[0], (uint8_t)report[1], out[salvaged.count - 1]);
+}
+
+static uint16_t log_salvage_ours(uint16_t last, size_t n)
+{
+    (void)n;
+    return salvage_log(dxl_log_salvage, last);
+}
+
+static uint16_t log_salvage_baseline(uint16_t last, size_t n)
+{
+    (void)n;
+    return salvage_log(baseline_log_salvage, last);
+}
+
 /* What the device hears: a body that has a goal position at an offset, or none. */
 static uint8_t table[DXL_TABLE_BYTES];
 static uint8_t body[1 + 4 + 200 * 5];
@@ -547,7 +571,8 @@ static int measure_logs(void)
     double amount = (double)n_line * 1e-6;
     return measure("log, written", log_write_ours, log_write_baseline, n_line, amount, "MB/s")
            && measure("log, tested", log_check_ours, log_check_baseline, n_line, amount, "MB/s")
-           && measure("log, last packet", log_last_ours, log_last_baseline, n_line, 1e-3, "kcalls/s");
+           && measure("log, last packet", log_last_ours, log_last_baseline, n_line, 1e-3, "kcalls/s")
+           && measure("log, salvaged", log_salvage_ours, log_salvage_baseline, n_line, amount, "MB/s");
 }
 
 static int measure_device(const char *what, size_t n)

@@ -145,6 +145,14 @@ static void call_log_last(void)
         answered = dxl_log_last(log_bytes, n_log, (uint8_t)id).found;
 }
 
+static void call_log_salvage(void)
+{
+    static uint8_t out[sizeof log_bytes];
+    static uint32_t report[4];
+    MARK_TOP();
+    answered = dxl_log_salvage(log_bytes, n_log - 1, out, sizeof out, report, 4).count;
+}
+
 static void call_fresh(void)
 {
     MARK_TOP();
@@ -353,6 +361,7 @@ int main(void)
     tell("dxl_log_write", deepest(all_kinds, call_log_write));
     tell("dxl_log_check", deepest(nothing, call_log_check));
     tell("dxl_log_last", deepest(nothing, call_log_last));
+    tell("dxl_log_salvage", deepest(nothing, call_log_salvage));
     tell("dxl_fresh", deepest(nothing, call_fresh));
     tell("dxl_measure", deepest(nothing, call_measure));
     tell("dxl_device", deepest_device(call_device));

@@ -355,6 +355,25 @@ static int64_t log_last(void)
     return found.found < 0 ? found.found : found.found + (int64_t)(found.segment + found.offset);
 }
 
+/* The log, of which the last byte is missing or not, as `given.room` says. */
+static int64_t log_salvage(void)
+{
+    static uint8_t out[sizeof log_bytes];
+    static uint32_t report[2 * SEGMENTS];
+    struct dxl_salvaged salvaged = dxl_log_salvage(log_bytes, given.room, out, sizeof out, report, 2 * SEGMENTS);
+    return salvaged.count < 0 ? salvaged.count : salvaged.count + (int64_t)(salvaged.dropped + salvaged.leftover);
+}
+
+static void count_salvage(const char *name)
+{
+    char input[64];
+    count(NAME(dxl_log_salvage), name, log_salvage, (int64_t)given.room);
+    snprintf(input, sizeof input, "%s, cut", name);
+    given.room--; /* the last segment is dropped: its entry, and its bytes but for the one that is missing */
+    count(NAME(dxl_log_salvage), input, log_salvage, (int64_t)given.room + 1 - DXL_LOG_ENTRY);
+    given.room++;
+}
+
 static void count_logs(void)
 {
     static const size_t kinds[] = {PACKETS_OF_14, RANDOM_BYTES};
@@ -371,11 +390,14 @@ static void count_logs(void)
             snprintf(input, sizeof input, "%s, ID %d", lines[kinds[i]].name, given.id);
             count(NAME(dxl_log_last), input, log_last, found.found + (int64_t)(found.segment + found.offset));
         }
+        count_salvage(lines[kinds[i]].name);
     }
     given.room--;
     count(NAME(dxl_log_write), "refused", log_write, -DXL_NO_ROOM);
     count(NAME(dxl_log_check), "refused", log_check, -DXL_BAD_LOG);
     count(NAME(dxl_log_last), "refused", log_last, -DXL_BAD_LOG);
+    given.room = DXL_LOG_FRONT - 1;
+    count(NAME(dxl_log_salvage), "refused", log_salvage, -DXL_BAD_LOG_SIZE);
 }
 
 static int64_t fresh(void)

@@ -5,6 +5,7 @@ use numbers::CarriedNumbers;
 use numbers::DeviceNumbers;
 use numbers::EventNumbers;
 use numbers::FoundNumbers;
+use numbers::SalvagedNumbers;
 use numbers::StepNumbers;
 use reactions::Heard;
 use reader::Reader;
@@ -29,6 +30,8 @@ ghost use Rattle.plain_reader.specs.Plain.{PlainPromises};
 ghost use Rattle.log_writer.specs.Writing.{writeAnswer, writeOut, WritesSound};
 ghost use Rattle.log.specs.Soundness.{checkRefusal, SoundExactly};
 ghost use Rattle.log.specs.Question.{question, LogPromises};
+ghost use Rattle.log_salvage.specs.Salvage.{salvageAnswer, salvageOut, salvageReport, Salvage};
+ghost use Rattle.log_cases.specs.Cases.{SalvageCases};
 ghost use Rattle.status.specs.Sending.{statusAnswer, statusOut};
 ghost use Rattle.status.specs.Sent.{ReplyWritten};
 ghost use Rattle.device.specs.Answers.{carriedAnswer, carriedReply, carriedRegistered, carriedTable, callAnswer, callRegistered, callTable, callOut};
@@ -42,7 +45,7 @@ ghost use Rattle.exchange.specs.Promises.{ExchangePromises};
 ghost use Rattle.plan.specs.Planner.{planAnswer, planOut};
 ghost use Rattle.plan_laws.specs.Planned.{Planned};
 ghost use Rattle.cases.specs.Cases.{CasesHold};
-ghost use Rattle.numbers.specs.Exported.{exported, exportedRefusal, stepNumbers, nextNumbers, deviceNumbers, carriedNumbers, foundNumbers};
+ghost use Rattle.numbers.specs.Exported.{exported, exportedRefusal, stepNumbers, nextNumbers, deviceNumbers, carriedNumbers, foundNumbers, salvagedNumbers};
 ghost use Rattle.capi.specs.Heard.{heardBy, idOfKind};
 ghost use Rattle.capi.specs.Plans.{CheckSays};
 
@@ -227,6 +230,23 @@ pub extern "C" fn dxl_log_last(file: &[u8], id: u8) -> FoundNumbers
     ensures { λ _. ⌜ LogPromises ⌝ }
 {
     numbers::found(log::last(file, id))
+}
+
+// Salvage of a cut log: what is sound in it is written, and what was altered is reported. That what is written is a sound log of the
+// kept segments, and that a sound log comes out as it was, are promised too, with worked examples.
+// [G5 I21-I31 N4 N10-N12 N14 N18]
+#[no_mangle]
+pub extern "C" fn dxl_log_salvage(
+    file: &[u8],
+    out: &mut [u8],
+    report: &mut [u32],
+) -> SalvagedNumbers
+    ensures { λ r. ⌜ r ≡ salvagedNumbers (salvageAnswer (now (file .entry)) (now (out .entry)) (now (report .entry))) ⌝ }
+    ensures { λ _. ⌜ now (out .exit) ≡ salvageOut (now (file .entry)) (now (out .entry)) (now (report .entry)) ⌝ }
+    ensures { λ _. ⌜ now (report .exit) ≡ salvageReport (now (file .entry)) (now (out .entry)) (now (report .entry)) ⌝ }
+    ensures { λ _. ⌜ Salvage × SalvageCases ⌝ }
+{
+    numbers::salvaged(log_salvage::salvage(file, out, report))
 }
 
 fn heard_by(kind: u8) -> Heard

@@ -13,11 +13,11 @@ use Rattle.lists.proofs.Numbers.{same-number}
 use Rattle.packet_front.specs.Front.{goodId}
 use Rattle.log_index.specs.Last.{Last, at, nowhere, orIn, lastIn, lastFrom, lastOf, indexNumber, indexSize, index, idAt, placeOf}
 use Rattle.log_layout.specs.Log.{Entry, indexPlace, Sound, logOf, directoryPlace}
-use Rattle.log_layout.specs.Layout.{u32At, numbers, entries, countIn, indexIn, directoryIn, segmentBy, segmentsBy, segmentsIn, laidOut, noneAbove}
+use Rattle.log_layout.specs.Layout.{u32At, numbers, entries, countIn, entryOf, indexIn, directoryIn, segmentBy, segmentsBy, segmentsIn, laidOut, noneAbove}
 use Rattle.log_layout.proofs.Sound.{LaidOut, is-laid-out, laid-out-log, index-log, segments-log, log-back}
 use Rattle.log_index.proofs.Marks.{place-within, at-place, index-is}
 use Rattle.log.specs.Soundness.{sameNumbers, checkRefusal, SoundExactly}
-use Rattle.log.specs.Question.{named, lastAnswer, lastRefusal, Answer, found, refused, answered, question, indexNumberOf, entryOf, LogPromises}
+use Rattle.log.specs.Question.{named, lastAnswer, lastRefusal, Answer, found, refused, answered, question, indexNumberOf, LogPromises}
 use Rattle.log.proofs.Turns.{numbers-at, numbers-length, segments-at, none-above, same-are, same-self}
 
 -- ---- the test

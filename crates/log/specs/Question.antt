@@ -8,8 +8,8 @@ use lib.ListN.{getD, take}
 use Rattle.lists.specs.Answer.{firstFailing}
 use Rattle.packet_front.specs.Front.{goodId}
 use Rattle.log_index.specs.Last.{Last, at, nowhere, orIn, lastIn, lastOf, placeOf}
-use Rattle.log_layout.specs.Log.{Entry, indexPlace, Sound}
-use Rattle.log_layout.specs.Layout.{u32At, countIn, indexIn, segmentBy, segmentsIn, laidOut}
+use Rattle.log_layout.specs.Log.{indexPlace, Sound}
+use Rattle.log_layout.specs.Layout.{u32At, countIn, entryOf, indexIn, segmentBy, segmentsIn, laidOut}
 use Rattle.log.specs.declared.Found.{Found}
 use Rattle.log.specs.declared.Found.the-variants.{At, Nowhere, BadLayout, BadId}
 
@@ -46,12 +46,9 @@ foundAnswer Nowhere = found nowhere
 foundAnswer BadLayout = refused 31
 foundAnswer BadId = refused 32
 
--- the index number of an ID, and the directory's entry for a segment, by their places in the file [I3 I5]
+-- the index number of an ID, by its place in the file [I5]
 abbrev pub indexNumberOf : List ℕ → ℕ → ℕ
 indexNumberOf file id = u32At file (indexPlace (countIn file) + 4 * placeOf id)
-
-abbrev pub entryOf : List ℕ → ℕ → Entry
-entryOf file k = (u32At file (16 + 8 * k), u32At file (16 + 8 * k + 4))
 
 -- What is promised of the question over all files.
 pub record LogPromises : Type 0 where

@@ -5,9 +5,9 @@ use log_layout::INDEX_COUNT;
 use log_layout::LOG_ENTRY;
 ghost use mathlib.Core.Path.{_≡_};
 ghost use Rattle.log_index.specs.Last.{nowhere, orIn, lastIn, index};
-ghost use Rattle.log_layout.specs.Layout.{indexIn, segmentBy, segmentsIn};
+ghost use Rattle.log_layout.specs.Layout.{entryOf, indexIn, segmentBy, segmentsIn};
 ghost use Rattle.log.specs.Soundness.{sameNumbers, checkRefusal, checkedRefusal};
-ghost use Rattle.log.specs.Question.{found, question, foundAnswer, entryOf};
+ghost use Rattle.log.specs.Question.{found, question, foundAnswer};
 
 pub enum Checked {
     Accepted,

@@ -214,11 +214,11 @@ chain-is file (f ∷ es) start e =
           ∙ ap (λ (x : List ℕ). take (f .1) (drop start file) ++ x) (drop-drop (f .1) start file ∙ r .1)),
     )
 
-segments-count : (file : List ℕ) (es : List Entry) → length (segmentsBy file es) ≡ length es
+pub segments-count : (file : List ℕ) (es : List Entry) → length (segmentsBy file es) ≡ length es
 segments-count file [] = refl
 segments-count file (e ∷ es) = ap suc (segments-count file es)
 
-entries-count : (k : ℕ) (s : List ℕ) → length (entries k s) ≡ k
+pub entries-count : (k : ℕ) (s : List ℕ) → length (entries k s) ≡ k
 unfolding entries
 entries-count zero s = refl
 entries-count (suc k) s = ap suc (entries-count k (drop 8 s))

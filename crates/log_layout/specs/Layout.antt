@@ -29,6 +29,10 @@ countIn file = u32At file 0
 abbrev pub directoryIn : List ℕ → List Entry
 directoryIn file = entries (countIn file) (drop directoryPlace file)
 
+-- the entry of a segment, by its place in the file [I3]
+abbrev pub entryOf : List ℕ → ℕ → Entry
+entryOf file k = (u32At file (16 + 8 * k), u32At file (16 + 8 * k + 4))
+
 -- [I5]
 abbrev pub indexIn : List ℕ → List ℕ
 indexIn file = numbers indexSize (drop (indexPlace (countIn file)) file)

@@ -1,7 +1,7 @@
--- The parts of a log put into a buffer one after the other are the log; how long it is; what is written is sound.
-use mathlib.Core.Path.{_≡_, refl, sym, ap, ap₂, subst, _∙_}
+-- A log by the lengths of its segments: its parts in a buffer, how long it is; what is written is sound.
+use mathlib.Core.Path.{_≡_, refl, sym, ap, ap₂, _∙_}
 use mathlib.Core.Bool.{Bool, true, false}
-use mathlib.Core.List.{List, [], _∷_, _++_, append-nil, append-assoc}
+use mathlib.Core.List.{List, [], _∷_, _++_}
 use mathlib.Core.Option.{none, some}
 use Prim.Native.Nat.{ℕ, zero, suc, _+_, _*_, _-_, _≤_, _<_}
 use native.Mathlib.Omega.{arith}
@@ -10,16 +10,13 @@ use lib.ListN.{length, take, drop, length-take, length-drop, take-append-drop}
 use lib.Seq.{take-all, length-take-le}
 use borrow.Author.Tests.{leb-true, eqb-true, eq-eqb, le-leb, lt-leb, ne-eqb}
 use Rattle.lists.specs.Answer.{Answer, count, refused, firstFailing, answered, unlessRefused}
-use Rattle.lists.specs.Numbers.{bytesOf}
 use Rattle.lists.specs.Write.{overwritten, placed}
-use Rattle.lists.proofs.Filling.{Filling, fill-start, fill-part, fill-done}
 use Rattle.lists.proofs.Write.{overwritten-take}
 use Rattle.reading.specs.Promise.{joined}
-use Rattle.log_index.specs.Last.{index, indexSize}
+use Rattle.log_index.specs.Last.{index}
 use Rattle.log_layout.specs.Log.{Entry, laid, numbersOf, header, indexPlace, segmentsPlace, directory, logOf, longestFile, Sound}
-use Rattle.log_layout.proofs.Laid.{length-laid, length-numbersOf}
-use Rattle.log_index.proofs.Index.{index-length}
-use Rattle.log_layout.proofs.Sound.{directory-length, log-length}
+use Rattle.log_layout.proofs.Sound.{log-length}
+use Rattle.log_parts.proofs.Parts.{parts-put}
 use Rattle.log_writer.specs.Writing.{sum, cut, directoryBy, written, writeRefusal, writeAnswer, writeOut, WritesSound}
 
 -- ---- the segments by their lengths
@@ -55,24 +52,6 @@ module _ (bytes lengths : List ℕ) (e : sum lengths ≡ length bytes) where
 
 -- ---- the parts
 
-laid-append : (xs rest : List ℕ) → laid xs rest ≡ laid xs [] ++ rest
-unfolding laid
-laid-append [] rest = refl
-laid-append (x ∷ xs) rest =
-    ap (λ (l : List ℕ). bytesOf 4 x ++ l) (laid-append xs rest) ∙ sym (append-assoc (bytesOf 4 x) (laid xs []) rest)
-
-laid-alone : (xs : List ℕ) → length (laid xs []) ≡ 4 * length xs
-laid-alone xs = length-laid xs [] ∙ omega arith
-
-fill-laid : (new old buffer : List ℕ) (j k : ℕ) (xs rest : List ℕ) → Filling new old buffer j (laid xs rest) → k ≡ j + 4 * length xs
-    → k ≤ length old → Filling new old (placed buffer j (laid xs [])) k rest
-fill-laid new old buffer j k xs rest f e h =
-    let l = laid-alone xs in
-    let z : j + length (laid xs []) ≡ k = omega arith in
-    subst (λ (m : ℕ). Filling new old (placed buffer j (laid xs [])) m rest) z
-    (fill-part new old buffer j (laid xs []) rest
-    (subst (λ (x : List ℕ). Filling new old buffer j x) (laid-append xs rest) f) (omega arith))
-
 module _ (out bytes lengths : List ℕ) (e : sum lengths ≡ length bytes) (h : segmentsPlace (length lengths) + length bytes ≤ length out) where
   abbrev n : ℕ
   n = length lengths
@@ -80,35 +59,20 @@ module _ (out bytes lengths : List ℕ) (e : sum lengths ≡ length bytes) (h : 
   abbrev ss : List (List ℕ)
   ss = cut lengths bytes
 
-  abbrev entries : List ℕ
-  entries = numbersOf (directoryBy (segmentsPlace n) lengths)
-
-  -- the log by its lengths
-  by-lengths : written bytes lengths ≡ laid (header n) (laid entries (laid (index ss) (bytes ++ [])))
-  unfolding logOf
-  by-lengths =
-      rw (cut-count lengths bytes, cut-directory (segmentsPlace n) lengths bytes e, cut-joined lengths bytes e, append-nil bytes)
-
-  entries-count : length entries ≡ 2 * n
-  entries-count =
-      length-numbersOf (directoryBy (segmentsPlace n) lengths)
-      ∙ ap (λ (m : ℕ). 2 * m)
-      (ap length (sym (cut-directory (segmentsPlace n) lengths bytes e)) ∙ directory-length (segmentsPlace n) ss ∙ cut-count lengths bytes)
-
-  pub parts-put :
+  pub parts-by-lengths :
       placed
-      (placed (placed (placed out 0 (laid (header n) [])) 16 (laid entries [])) (indexPlace n) (laid (index ss) []))
+      (placed (placed (placed out 0 (laid (header n) [])) 16 (laid (numbersOf (directoryBy (segmentsPlace n) lengths)) []))
+      (indexPlace n) (laid (index ss) []))
       (segmentsPlace n) bytes
       ≡ overwritten out (written bytes lengths)
-  parts-put =
-      let log = written bytes lengths in
-      let i = index-length indexSize 0 ss in
-      let d = entries-count in
-      let f₀ = subst (λ (l : List ℕ). Filling log out out 0 l) by-lengths (fill-start log out) in
-      let f₁ = fill-laid log out out 0 16 (header n) _ f₀ refl (omega arith) in
-      let f₂ = fill-laid log out _ 16 (indexPlace n) entries _ f₁ (omega arith) (omega arith) in
-      let f₃ = fill-laid log out _ (indexPlace n) (segmentsPlace n) (index ss) _ f₂ (omega arith) (omega arith) in
-      fill-done log out _ _ (fill-part log out _ (segmentsPlace n) bytes [] f₃ h)
+  parts-by-lengths =
+      let c = cut-count lengths bytes in
+      let j = cut-joined lengths bytes e in
+      let d = cut-directory (segmentsPlace n) lengths bytes e in
+      sym
+      (ap (λ (b : List ℕ). placed (placed (placed (placed out 0 (laid (header n) [])) 16 (laid (numbersOf (directory (segmentsPlace n) ss)) [])) (indexPlace n) (laid (index ss) [])) (segmentsPlace n) b) j
+      ∙ ap (λ (x : List Entry). placed (placed (placed (placed out 0 (laid (header n) [])) 16 (laid (numbersOf x) [])) (indexPlace n) (laid (index ss) [])) (segmentsPlace n) bytes) d)
+      ∙ rw c at (parts-put out ss (omega (arith, c, ap length j, h)))
 
 -- ---- the answer
 

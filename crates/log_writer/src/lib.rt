@@ -9,10 +9,9 @@ ghost use mathlib.Core.List.{[]};
 ghost use Prim.Native.Nat.{_+_, _*_, _≤_, _<_};
 ghost use lib.Dec.{eqb};
 ghost use lib.ListN.{length};
-ghost use Rattle.lists.specs.Numbers.{bytesOf};
 ghost use Rattle.lists.specs.Write.{overwritten, placed};
 ghost use Rattle.log_index.specs.Last.{index};
-ghost use Rattle.log_layout.specs.Log.{laid, header, numbersOf, indexPlace, segmentsPlace};
+ghost use Rattle.log_layout.specs.Log.{laid, numbersOf, segmentsPlace};
 ghost use Rattle.log_writer.specs.Writing.{sum, cut, directoryBy, written, writeAnswer, writeOut, logWrittenAnswer};
 
 pub enum LogWritten {
@@ -40,27 +39,6 @@ fn adds_up(lengths: &[u32], count: usize) -> bool
     left == 0
 }
 
-// A number of 32 bits, low byte first.
-fn put_number(out: &mut [u8], at: usize, value: usize)
-    requires { ⌜ at + 4 ≤ length (now out) ⌝ }
-    ensures { λ _. ⌜ now (out .exit) ≡ placed (now (out .entry)) at (bytesOf 4 value) ⌝ }
-{
-    out[at] = (value % 256) as u8;
-    out[at + 1] = (value / 256 % 256) as u8;
-    out[at + 2] = (value / 65536 % 256) as u8;
-    out[at + 3] = (value / 16777216 % 256) as u8;
-}
-
-fn put_header(out: &mut [u8], segments: usize)
-    requires { ⌜ indexPlace segments ≤ length (now out) ⌝ }
-    ensures { λ _. ⌜ now (out .exit) ≡ placed (now (out .entry)) 0 (laid (header segments) []) ⌝ }
-{
-    put_number(out, 0, segments);
-    put_number(out, 4, DIRECTORY);
-    put_number(out, 8, INDEX_COUNT);
-    put_number(out, 12, DIRECTORY + LOG_ENTRY * segments);
-}
-
 fn put_directory(out: &mut [u8], lengths: &[u32])
     requires { ⌜ segmentsPlace (length (now lengths)) + sum (now lengths) ≤ length (now out) ⌝ }
     ensures { λ _. ⌜ now (out .exit) ≡ placed (now (out .entry)) 16
@@ -70,20 +48,8 @@ fn put_directory(out: &mut [u8], lengths: &[u32])
     let mut i = 0;
     while i < lengths.len() {
         let n = lengths[i] as usize;
-        put_number(out, DIRECTORY + LOG_ENTRY * i, start);
-        put_number(out, DIRECTORY + LOG_ENTRY * i + 4, n);
+        log_parts::put_entry(out, i, start, n);
         start += n;
-        i += 1;
-    }
-}
-
-fn put_index(out: &mut [u8], at: usize, index: [usize; 254])
-    requires { ⌜ at + 1016 ≤ length (now out) ⌝ }
-    ensures { λ _. ⌜ now (out .exit) ≡ placed (now (out .entry)) at (laid index []) ⌝ }
-{
-    let mut i = 0;
-    while i < INDEX_COUNT {
-        put_number(out, at + 4 * i, index[i]);
         i += 1;
     }
 }
@@ -110,9 +76,9 @@ fn put_log(out: &mut [u8], bytes: &[u8], lengths: &[u32])
     ensures { λ _. ⌜ now (out .exit) ≡ overwritten (now (out .entry)) (written (now (bytes .entry)) (now (lengths .entry))) ⌝ }
 {
     let place = DIRECTORY + LOG_ENTRY * lengths.len();
-    put_header(out, lengths.len());
+    log_parts::put_header(out, lengths.len());
     put_directory(out, lengths);
-    put_index(out, place, index_of(bytes, lengths));
+    log_parts::put_index(out, lengths.len(), index_of(bytes, lengths));
     buffers::place(out, place + 4 * INDEX_COUNT, bytes);
 }
 

@@ -1,4 +1,5 @@
 -- Answers as C gets them: one signed 64-bit number, a count or minus the refusal number.
+use mathlib.Core.Bool.{cond}
 use mathlib.Core.Option.{Option, none, some}
 use Prim.Native.Nat.{ℕ, _-_, _^_, min}
 use lib.IntN.{ℤ, pos, negℤ}
@@ -20,6 +21,8 @@ use Rattle.numbers.specs.declared.DeviceNumbers.{DeviceNumbers}
 use Rattle.numbers.specs.declared.CarriedNumbers.{CarriedNumbers}
 use Rattle.status.specs.declared.Reply.{Reply}
 use Rattle.numbers.specs.declared.FoundNumbers.{FoundNumbers}
+use Rattle.log_salvage.specs.Salvage.{Answer as Salvage·Answer, wrote, refused as Salvage·refused}
+use Rattle.numbers.specs.declared.SalvagedNumbers.{SalvagedNumbers}
 
 -- a count that no 64-bit signed number holds is answered as the largest one (no buffer of a real machine is that long) [G5 N11]
 abbrev pub exported : Answer → ℤ
@@ -69,6 +72,12 @@ abbrev pub foundNumbers : Log·Answer → FoundNumbers
 foundNumbers (found (at k p)) = record { found = pos 1; segment = k; offset = p }
 foundNumbers (found nowhere) = record { found = pos 0; segment = 0; offset = 0 }
 foundNumbers (Log·refused number) = record { found = negℤ (pos number); segment = 0; offset = 0 }
+
+-- the answer of the salvage: the bytes written and the figures of the report, or minus the refusal number and 0 in each [G5 I31 N11]
+abbrev pub salvagedNumbers : Salvage·Answer → SalvagedNumbers
+salvagedNumbers (wrote f) =
+    record { count = exported (count (f .count)); dropped = f .dropped; index = f .index; leftover = f .leftover; header = cond (f .header) 1 0 }
+salvagedNumbers (Salvage·refused number) = record { count = negℤ (pos number); dropped = 0; index = 0; leftover = 0; header = 0 }
 
 -- what the test of a plan answers: 1 or 0, or minus the refusal number [G5 N11 W9]
 abbrev pub testedNumber : Tested → ℤ

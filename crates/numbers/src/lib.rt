@@ -12,6 +12,8 @@ use framer::StepEvent;
 use instructions::RegisteredWrite;
 use log::Checked;
 use log::Found;
+use log_salvage::Figures;
+use log_salvage::Salvaged;
 use log_writer::LogWritten;
 use plain_reader::Next;
 use plan_check::Tested;
@@ -21,6 +23,7 @@ use status::Written;
 use stuffing::Unstuffed;
 use table_rules::Change;
 ghost use mathlib.Core.Path.{_≡_};
+ghost use mathlib.Core.Bool.{cond};
 ghost use Rattle.stuffing.specs.Answers.{unstuffedAnswer};
 ghost use Rattle.encoder.specs.Encoding.{encodedAnswer};
 ghost use Rattle.table_rules.specs.Outcomes.{changeRefusal};
@@ -30,9 +33,10 @@ ghost use Rattle.exchange.specs.Exchange.{exchangedAnswer};
 ghost use Rattle.log_writer.specs.Writing.{logWrittenAnswer};
 ghost use Rattle.log.specs.Soundness.{checkedRefusal};
 ghost use Rattle.log.specs.Question.{foundAnswer};
+ghost use Rattle.log_salvage.specs.Salvage.{salvagedAnswer, wrote};
 ghost use Rattle.plan_writer.specs.Filling.{planWrittenAnswer};
 ghost use Rattle.lists.specs.Answer.{count as Answer·count};
-ghost use Rattle.numbers.specs.Exported.{exported, exportedRefusal, stepNumbers, nextNumbers, deviceNumbers, refusalNumber, carriedNumbers, foundNumbers, testedNumber};
+ghost use Rattle.numbers.specs.Exported.{exported, exportedRefusal, stepNumbers, nextNumbers, deviceNumbers, refusalNumber, carriedNumbers, foundNumbers, salvagedNumbers, testedNumber};
 
 // What a feeding or gap call returns. kind 0: no event, from a gap call: nothing is left; 1: a packet of `count` bytes; 2: a bad
 // checksum; 25: the reader's count is above 1,030. `id` is that of the packet or of the bad checksum.
@@ -80,6 +84,18 @@ pub struct FoundNumbers {
     pub found: i64,
     pub segment: usize,
     pub offset: usize,
+}
+
+// What the salvage of a log returns: the bytes written, or minus the number of a refusal; then the report: how many entries were
+// dropped, how many index numbers have changed, the bytes behind the old index that are in no kept segment, and whether the header
+// has changed. These are 0 beside a refusal.
+#[repr(C)]
+pub struct SalvagedNumbers {
+    pub count: i64,
+    pub dropped: usize,
+    pub index: usize,
+    pub leftover: usize,
+    pub header: u8,
 }
 
 fn count(n: usize) -> i64
@@ -377,6 +393,46 @@ pub fn found(answer: Found) -> FoundNumbers
             found: -32,
             segment: 0,
             offset: 0,
+        },
+    }
+}
+
+fn flag(set: bool) -> u8
+    ensures { λ r. ⌜ r ≡ cond set 1 0 ⌝ }
+{
+    if set { 1 } else { 0 }
+}
+
+fn figures(f: Figures) -> SalvagedNumbers
+    ensures { λ r. ⌜ r ≡ salvagedNumbers (wrote f) ⌝ }
+{
+    SalvagedNumbers {
+        count: count(f.count),
+        dropped: f.dropped,
+        index: f.index,
+        leftover: f.leftover,
+        header: flag(f.header),
+    }
+}
+
+pub fn salvaged(answer: Salvaged) -> SalvagedNumbers
+    ensures { λ r. ⌜ r ≡ salvagedNumbers (salvagedAnswer answer) ⌝ }
+{
+    match answer {
+        Salvaged::Written(f) => figures(f),
+        Salvaged::BadSize => SalvagedNumbers {
+            count: -33,
+            dropped: 0,
+            index: 0,
+            leftover: 0,
+            header: 0,
+        },
+        Salvaged::NoRoom => SalvagedNumbers {
+            count: -13,
+            dropped: 0,
+            index: 0,
+            leftover: 0,
+            header: 0,
         },
     }
 }

@@ -1,4 +1,4 @@
-use exports::{Answer, Carried, Event, Found, Reader, Registered, Reply, Step};
+use exports::{Answer, Carried, Event, Found, Reader, Registered, Reply, Salvaged, Step};
 
 /// ID, instruction, parameters, output buffer and offset.
 pub type EncodeCall = fn(u8, u8, &[u8], &mut [u8], usize) -> i64;
@@ -32,6 +32,7 @@ pub struct Calls {
     pub log_write: fn(&[u8], &[u32], &mut [u8]) -> i64,
     pub log_check: fn(&[u8]) -> i64,
     pub log_last: fn(&[u8], u8) -> Found,
+    pub log_salvage: fn(&[u8], &mut [u8], &mut [u32]) -> Salvaged,
     pub fresh: fn(&mut [u8]) -> i64,
     pub measure: fn(&mut [u8], i32, u8) -> i64,
     pub device: DeviceCall,
@@ -58,6 +59,7 @@ pub const PROVED: Calls = Calls {
     log_write: exports::log_write,
     log_check: exports::log_check,
     log_last: exports::log_last,
+    log_salvage: exports::log_salvage,
     fresh: exports::fresh,
     measure: exports::measure,
     device: exports::device,

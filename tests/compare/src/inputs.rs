@@ -249,6 +249,31 @@ pub fn damaged_log(rng: &mut Rng, segments: &[&[u8]]) -> Vec<u8> {
     log
 }
 
+/// A log of these segments as power loss may leave it: damaged in several things, mostly in header and directory. A start or a length
+/// is often that of another segment, so that segments overlap, or one off.
+pub fn cut_log(rng: &mut Rng, segments: &[&[u8]]) -> Vec<u8> {
+    let mut log = damaged_log(rng, segments);
+    let n = segments.len();
+    for _ in 0..rng.between(0, 3) {
+        if log.len() < 1_032 + 8 * n || n == 0 {
+            break;
+        }
+        let at = 16 + 4 * rng.between(0, 2 * n - 1);
+        let from = 16 + 4 * rng.between(0, 2 * n - 1);
+        let number = u32::from_le_bytes([log[from], log[from + 1], log[from + 2], log[from + 3]]);
+        let long = log.len() as u32;
+        set_number(&mut log, at, rng.pick(&[number, number.wrapping_add(1), number.wrapping_sub(1), long, long - 1]));
+    }
+    match rng.between(0, 6) {
+        0 => log.truncate(rng.between(0, 1_031.min(log.len()))),
+        1 if log.len() > 1_032 => log.truncate(rng.between(1_032, log.len())),
+        2 if log.len() > 4 => set_number(&mut log, 0, rng.pick(&[n as u32 + 1, n as u32 + 7, u32::MAX])),
+        3 => log.extend(rng.bytes(9)),
+        _ => {}
+    }
+    log
+}
+
 fn set_number(log: &mut [u8], at: usize, number: u32) {
     log[at..at + 4].copy_from_slice(&number.to_le_bytes());
 }

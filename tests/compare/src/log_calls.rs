@@ -1,7 +1,7 @@
-//! The three calls on a line log, beside the reference.
+//! The calls on a line log, beside the reference.
 
 use crate::{hex, number, Calls, Comparison, Difference, Lent};
-use exports::Found;
+use exports::{Found, Salvaged};
 use reference::Rng;
 
 pub fn compare_log_write(calls: &Calls, rng: &mut Rng, bytes: &[u8], lengths: &[u32], room: usize) -> Result<i64, Difference> {
@@ -45,6 +45,40 @@ pub fn compare_log_last(calls: &Calls, rng: &mut Rng, log: &[u8], id: u8) -> Res
     let given = || format!("ID {id}, {} bytes {}", log.len(), hex(log));
     let comparison = Comparison { export: "dxl_log_last", given: &given };
     comparison.same("the answer", answer, in_numbers(reference::log_last(log, id)))?;
+    comparison.same_lent(&ours, &expected)?;
+    Ok(answer)
+}
+
+/// Numbers before and after a lent report, which no call may touch.
+const MARGIN: usize = 6;
+
+/// An answer in numbers.
+fn salvaged_in_numbers(answer: &Result<(usize, reference::Salvaged), u8>) -> Salvaged {
+    match answer {
+        Ok((count, report)) => Salvaged {
+            count: *count as i64,
+            dropped: report.dropped.len(),
+            index_changed: report.index_changed,
+            leftover: report.leftover,
+            header_changed: u8::from(report.header_changed),
+        },
+        Err(refusal) => Salvaged { count: -i64::from(*refusal), ..Salvaged::default() },
+    }
+}
+
+/// With a report of so many numbers.
+pub fn compare_log_salvage(calls: &Calls, rng: &mut Rng, log: &[u8], room: usize, numbers: usize) -> Result<Salvaged, Difference> {
+    let mut ours = Lent::new(rng, log, room);
+    let mut expected = ours.clone();
+    let mut our_report: Vec<u32> = (0..numbers + 2 * MARGIN).map(|_| rng.word() as u32).collect();
+    let mut report = our_report.clone();
+    let lent = MARGIN..MARGIN + numbers;
+    let answer = ours.call(|log, out| (calls.log_salvage)(log, out, &mut our_report[lent.clone()]));
+    let wanted = expected.call(|log, out| reference::log_salvage(log, out, &mut report[lent.clone()]));
+    let given = || format!("room for {room}, a report of {numbers} numbers, {} bytes {}", log.len(), hex(log));
+    let comparison = Comparison { export: "dxl_log_salvage", given: &given };
+    comparison.same("the answer", answer, salvaged_in_numbers(&wanted))?;
+    comparison.same("the report", &our_report[..], &report[..])?;
     comparison.same_lent(&ours, &expected)?;
     Ok(answer)
 }

@@ -42,6 +42,17 @@ pub struct Found {
     pub offset: usize,
 }
 
+/// What the salvage of a log answers: `count` is that of the bytes written, or minus the number of a refusal.
+#[repr(C)]
+#[derive(Clone, Copy, PartialEq, Eq, Debug, Default)]
+pub struct Salvaged {
+    pub count: i64,
+    pub dropped: usize,
+    pub index_changed: usize,
+    pub leftover: usize,
+    pub header_changed: u8,
+}
+
 /// What the device answers.
 #[repr(C)]
 #[derive(Clone, Copy, PartialEq, Eq, Debug)]
@@ -82,7 +93,7 @@ pub struct Reader {
 
 mod raw {
     use super::test::Fed;
-    use super::{Answer, Carried, Event, Found, Reader, Registered, Reply, Step};
+    use super::{Answer, Carried, Event, Found, Reader, Registered, Reply, Salvaged, Step};
 
     #[repr(C)]
     pub struct Verdict {
@@ -139,6 +150,14 @@ mod raw {
         ) -> i64;
         pub fn dxl_log_check(log: *const u8, n: usize) -> i64;
         pub fn dxl_log_last(log: *const u8, n: usize, id: u8) -> Found;
+        pub fn dxl_log_salvage(
+            log: *const u8,
+            n: usize,
+            out: *mut u8,
+            n_out: usize,
+            report: *mut u32,
+            n_report: usize,
+        ) -> Salvaged;
 
         pub fn dxl_fresh(table: *mut u8, n: usize) -> i64;
         pub fn dxl_measure(table: *mut u8, n: usize, position: i32, hardware_error: u8) -> i64;
@@ -255,6 +274,11 @@ pub fn log_check(log: &[u8]) -> i64 {
 
 pub fn log_last(log: &[u8], id: u8) -> Found {
     unsafe { raw::dxl_log_last(log.as_ptr(), log.len(), id) }
+}
+
+pub fn log_salvage(log: &[u8], out: &mut [u8], report: &mut [u32]) -> Salvaged {
+    let (n_out, n_report) = (out.len(), report.len());
+    unsafe { raw::dxl_log_salvage(log.as_ptr(), log.len(), out.as_mut_ptr(), n_out, report.as_mut_ptr(), n_report) }
 }
 
 pub fn fresh(table: &mut [u8]) -> i64 {

@@ -50,6 +50,12 @@ pub enum Operation {
         id: u8,
         log: Vec<u8>,
     },
+    /// A file salvaged, into a buffer with so much room and a report of so many numbers.
+    Salvage {
+        room: usize,
+        report: usize,
+        log: Vec<u8>,
+    },
     /// The planner, on goals of four bytes each, lowest first.
     Plan {
         room: usize,
@@ -144,7 +150,7 @@ impl Operation {
             Operation::Unstuff { body, .. } | Operation::Hear { body, .. } => body.len(),
             Operation::Plain { segment, .. } => segment.len(),
             Operation::LogWrite { lengths, bytes, .. } => 4 * lengths.len() + bytes.len(),
-            Operation::Ask { log, .. } => log.len(),
+            Operation::Ask { log, .. } | Operation::Salvage { log, .. } => log.len(),
             Operation::Plan { goals, .. } => goals.len(),
             Operation::Check { goals, plan } => goals.len() + plan.len(),
             Operation::Record { held, .. } => held.len(),

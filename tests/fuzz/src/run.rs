@@ -1,7 +1,8 @@
 //! Runs a case: every call goes to an export and to the reference, and all that is answered and left must be the same.
 
 use crate::{Case, Operation};
-use compare::{compare_checksum, compare_encode, compare_flipped, compare_log_check, compare_log_last, compare_log_write};
+use compare::{compare_checksum, compare_encode, compare_flipped, compare_log_check, compare_log_last, compare_log_salvage};
+use compare::compare_log_write;
 use compare::{compare_next_event, compare_plan, compare_plan_check, compare_status, compare_unstuff, compare_v1_encode};
 use compare::{BAD_CHECKSUM, PACKET};
 use compare::{hex, Calls, Comparison, DevicePair, Difference, Encoded, Guarded, ReaderPair, Stepped, Told};
@@ -116,6 +117,11 @@ impl<'a> World<'a> {
                 self.tally.call("dxl_log_check", sound);
                 let answer = compare_log_last(self.calls, &mut self.rng, log, *id)?;
                 self.tally.call("dxl_log_last", answer.found);
+            }
+            Operation::Salvage { room, report, log } => {
+                let answer = compare_log_salvage(self.calls, &mut self.rng, log, *room, *report)?;
+                self.tally.call("dxl_log_salvage", answer.count.min(0));
+                self.tally.call("entries dropped", i64::from(answer.dropped > 0));
             }
             Operation::Plan { room, goals } => {
                 let answer = compare_plan(self.calls, &mut self.rng, &numbers(goals), *room)?;

@@ -52,6 +52,7 @@ fn line(operation: &Operation) -> String {
             format!("log room={room} lengths={} bytes={}", hex(&lengths), hex(bytes))
         }
         Operation::Ask { id, log } => format!("ask id={id} log={}", hex(log)),
+        Operation::Salvage { room, report, log } => format!("salvage room={room} report={report} log={}", hex(log)),
         Operation::Plan { room, goals } => format!("plan room={room} goals={}", hex(goals)),
         Operation::Check { goals, plan } => format!("check goals={} plan={}", hex(goals), hex(plan)),
         Operation::Record { count, past, held } => format!("record count={count} past=0x{past:02x} held={}", hex(held)),
@@ -134,6 +135,7 @@ fn operation(line: &str) -> Result<Operation, String> {
         "plain" => Operation::Plain { from: fields.number("from")?, segment: fields.bytes("segment")? },
         "log" => log(&mut fields)?,
         "ask" => Operation::Ask { id: fields.number("id")?, log: fields.bytes("log")? },
+        "salvage" => Operation::Salvage { room: fields.room("room")?, report: fields.room("report")?, log: fields.bytes("log")? },
         "plan" => Operation::Plan { room: fields.room("room")?, goals: fields.bytes("goals")? },
         "check" => Operation::Check { goals: fields.bytes("goals")?, plan: fields.bytes("plan")? },
         "record" => record(&mut fields)?,

@@ -34,7 +34,7 @@ fn other_seeds_other_cases() {
 }
 
 /// What has to come up in a short search, and how each export answers then.
-const ANSWERS: [(&str, &[i64]); 24] = [
+const ANSWERS: [(&str, &[i64]); 26] = [
     ("dxl_crc16", &[0]),
     ("dxl_crc16_flipped", &[0]),
     ("dxl_encode", &[0, -11, -12, -13]),
@@ -49,6 +49,8 @@ const ANSWERS: [(&str, &[i64]); 24] = [
     ("dxl_log_write", &[0, -13, -31]),
     ("dxl_log_check", &[0, -31, -34]),
     ("dxl_log_last", &[0, 1, -31, -32]),
+    ("dxl_log_salvage", &[0, -13, -33]),
+    ("entries dropped", &[0, 1]),
     ("dxl_fresh", &[0, -21]),
     ("dxl_measure", &[0, -21]),
     ("dxl_device", &[0, -21, -22, -23, -24]),

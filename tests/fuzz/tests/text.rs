@@ -28,6 +28,7 @@ fn every_operation_by_hand() {
         plain from=18446744073709551615 segment=fffffd\n\
         log room=1050 lengths=0a000000ffffffff bytes=07\n\
         ask id=253 log=01000000\n\
+        salvage room=1067 report=5 log=0200\n\
         plan room=30 goals=07000000\n\
         check goals=ffffffff plan=\n\
         record count=1031 past=0x07 held=ff\n\
@@ -59,6 +60,7 @@ fn every_operation_by_hand() {
         Operation::Plain { from: usize::MAX, segment: vec![0xFF, 0xFF, 0xFD] },
         Operation::LogWrite { room: 1_050, lengths: vec![10, u32::MAX], bytes: vec![7] },
         Operation::Ask { id: 253, log: vec![1, 0, 0, 0] },
+        Operation::Salvage { room: 1_067, report: 5, log: vec![2, 0] },
         Operation::Plan { room: 30, goals: vec![7, 0, 0, 0] },
         Operation::Check { goals: vec![0xFF, 0xFF, 0xFF, 0xFF], plan: vec![] },
         Operation::Record { count: 1_031, past: 7, held: vec![0xFF] },

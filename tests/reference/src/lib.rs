@@ -9,6 +9,7 @@ mod plain;
 mod plan;
 mod reader;
 mod rng;
+mod salvage;
 mod stuffing;
 mod table;
 pub mod v1;
@@ -22,6 +23,7 @@ pub use plain::next_event;
 pub use plan::{plan, plan_check, plan_into};
 pub use reader::{feed, feed_record, gap, gap_record, reading, Event, Found, Given, Step, LONGEST_PACKET, MOST_HELD};
 pub use rng::Rng;
+pub use salvage::{log_salvage, salvage, Salvaged};
 pub use stuffing::{stuff, stuff_into, unstuff, unstuff_into, well_stuffed};
 pub use table::{fresh, fresh_call, measure_call, Table, TABLE_BYTES};
 

@@ -68,7 +68,7 @@ struct LaidOut<'a> {
     index: Vec<usize>,
 }
 
-fn numbers(bytes: &[u8]) -> Vec<usize> {
+pub(crate) fn numbers(bytes: &[u8]) -> Vec<usize> {
     bytes.chunks_exact(4).map(|four| u32::from_le_bytes([four[0], four[1], four[2], four[3]]) as usize).collect()
 }
 

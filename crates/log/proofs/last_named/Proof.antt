@@ -4,9 +4,8 @@ use mathlib.Core.Option.{Option}
 use Prim.Native.Nat.{ℕ}
 use lib.ListN.{take, drop}
 use Rattle.log_index.specs.Last.{lastIn}
-use Rattle.log_layout.specs.Layout.{segmentBy}
+use Rattle.log_layout.specs.Layout.{segmentBy, entryOf}
 use Rattle.log_index.specs.Marks.{offsetOf}
-use Rattle.log.specs.Question.{entryOf}
 use Rattle.log.proofs.Turns.{foundIn, found-in}
 use borrow.Author.Needs.{needs}
 use Rattle.log.proofs.last_named.Statement.{statement}

@@ -6,7 +6,8 @@ use lib.ListN.{length, take, drop, getD}
 use Rattle.lists.proofs.Filling.{Filling, fill-from, fill-length}
 use Rattle.log_layout.specs.Log.{Entry, laid, numbersOf, segmentsPlace}
 use Rattle.log_writer.specs.Writing.{sum, directoryBy}
-use Rattle.log_writer.proofs.Turns.{sum-turn, directory-end, fill-entry, filled-end}
+use Rattle.log_writer.proofs.Turns.{sum-turn, directory-end, fill-entry}
+use Rattle.log_parts.proofs.Numbers.{put-fits, filled-end}
 use borrow.Author.Needs.{needs}
 use Rattle.log_writer.proofs.put_directory.Statement.{statement}
 use Rattle.log_writer.proofs.put_directory.Tie as tie
@@ -37,30 +38,12 @@ shared-slice-read-n c = search needs
 cast-n : tie.Need-cast-n Inv-loop μ-loop
 cast-n c = omega (arith, c .shared-slice-known2 .given (c .before .before .loop .i))
 
-mul-put-number : tie.Need-mul-put-number Inv-loop μ-loop
-mul-put-number c = search needs
-
-add-put-number : tie.Need-add-put-number Inv-loop μ-loop
-add-put-number c = search needs
-
-put-number-requires : tie.Need-put-number-requires Inv-loop μ-loop
-put-number-requires c κs = search needs
-
-mul-put-number-2 : tie.Need-mul-put-number-2 Inv-loop μ-loop
-mul-put-number-2 c = search needs
-
-add-put-number-2 : tie.Need-add-put-number-2 Inv-loop μ-loop
-add-put-number-2 c = search needs
-
-add-put-number-3 : tie.Need-add-put-number-3 Inv-loop μ-loop
-add-put-number-3 c = search needs
-
-put-number-requires-2 : tie.Need-put-number-requires-2 Inv-loop μ-loop
-put-number-requires-2 c κs = search needs
+put-entry-requires : tie.Need-put-entry-requires Inv-loop μ-loop
+put-entry-requires c κs = search needs
 
 add-start-2 : tie.Need-add-start-2 Inv-loop μ-loop
-add-start-2 c = let l = c .before .before .before .before .before .before .before .before .before .before .loop in
-    omega (arith, sum-turn (c .before .before .before .before .before .before .before .before .before .before .before .before .before .args .lengths .now) (l .i) (search needs), l .inv .2)
+add-start-2 c = let l = c .before .before .before .before .before .before .loop in
+    omega (arith, sum-turn (c .before .before .before .before .before .before .before .before .before .args .lengths .now) (l .i) (search needs), l .inv .2)
 
 add-i : tie.Need-add-i Inv-loop μ-loop
 add-i c = search needs
@@ -69,11 +52,11 @@ loop-less : tie.Need-loop-less Inv-loop μ-loop
 loop-less c = search needs
 
 loop-again : tie.Need-loop-again Inv-loop μ-loop
-loop-again c = let l = c .before .before .before .before .before .before .before .before .before .before .loop in
-    let a = c .before .before .before .before .before .before .before .before .before .before .before .before .before .args in
-    let p = c .before .before .before .before .before .before .put-number in
+loop-again c = let l = c .before .before .before .before .before .before .loop in
+    let a = c .before .before .before .before .before .before .before .before .before .args in
     let t = sum-turn (a .lengths .now) (l .i) (search needs) in
-    let f = fill-entry _ _ (l .out) _ _ (a .lengths .now) (l .i) (l .start) (search needs) (l .inv .3) (omega (arith, l .inv .0, l .inv .1, l .inv .2)) (p .ensures) (c .before .before .put-number2 .ensures) in
+    let e = c .before .before .put-entry .ensures ∙ put-fits _ _ _ _ (omega (arith, l .inv .0, l .inv .1, l .inv .2, t)) in
+    let f = fill-entry _ _ (l .out) _ (a .lengths .now) (l .i) (l .start) (search needs) (l .inv .3) (omega (arith, l .inv .0, l .inv .1, l .inv .2)) e in
     (search needs, fill-length _ _ _ _ _ f, omega (arith, t, l .inv .2), f)
 
 same-length : tie.Need-same-length Inv-loop μ-loop
@@ -95,13 +78,7 @@ put-directory-spec =
     mul-n
     shared-slice-read-n
     cast-n
-    mul-put-number
-    add-put-number
-    put-number-requires
-    mul-put-number-2
-    add-put-number-2
-    add-put-number-3
-    put-number-requires-2
+    put-entry-requires
     add-start-2
     add-i
     loop-less

@@ -4,10 +4,11 @@ use Prim.Native.Nat.{ℕ, _+_, _*_, _≤_}
 use native.Mathlib.Omega.{arith}
 use lib.ListN.{length}
 use Rattle.lists.specs.Write.{placed}
+use Rattle.log_parts.proofs.Numbers.{put-fits}
 use Rattle.buffers.proofs.Parts.{placed-whole}
 use Rattle.log_layout.specs.Log.{laid, numbersOf, indexPlace, segmentsPlace}
 use Rattle.log_writer.specs.Writing.{directoryBy}
-use Rattle.log_writer.proofs.Parts.{parts-put}
+use Rattle.log_writer.proofs.Parts.{parts-by-lengths}
 use mathlib.Core.Path.{_≡_, ap, _∙_}
 use borrow.Author.Needs.{needs}
 use Rattle.log_writer.proofs.put_log.Statement.{statement}
@@ -54,13 +55,13 @@ returns c = let p = c .before .before in
     p .place .ensures
     ∙ placed-whole (i .put-index .last .0) (a .bytes .now) (indexPlace n + 1016) (search needs)
     ∙ ap₂ (λ (b : List ℕ) (k : ℕ). placed b k (a .bytes .now))
-    (i .put-index .ensures
+    (i .put-index .ensures ∙ put-fits _ _ _ _ (search needs)
     ∙ ap₂ (λ (b x : List ℕ). placed b (indexPlace n) (laid x []))
     (d .put-directory .ensures
-    ∙ ap (λ (b : List ℕ). placed b 16 (laid (numbersOf (directoryBy (segmentsPlace n) (a .lengths .now))) [])) (h .put-header .ensures))
+    ∙ ap (λ (b : List ℕ). placed b 16 (laid (numbersOf (directoryBy (segmentsPlace n) (a .lengths .now))) [])) (h .put-header .ensures ∙ put-fits _ _ _ _ (search needs)))
     (i .before .index-of .ensures))
     e
-    ∙ parts-put (a .out .now) (a .bytes .now) (a .lengths .now) (search needs) (search needs)
+    ∙ parts-by-lengths (a .out .now) (a .bytes .now) (a .lengths .now) (search needs) (search needs)
 
 pub put-log-spec : {M : Type 1} → statement M
 put-log-spec =

@@ -1,8 +1,8 @@
-//! Line logs: written, and asked, whole or damaged.
+//! Line logs: written, asked and salvaged, whole or damaged.
 
 use super::line::line;
 use crate::Operation;
-use compare::{damaged_log, packet_ids, some_room};
+use compare::{cut_log, damaged_log, packet_ids, some_room};
 use reference::Rng;
 
 /// Some repeat what came before, so that an ID has packets in several segments, and several in one.
@@ -47,4 +47,15 @@ pub fn ask(rng: &mut Rng) -> Operation {
         _ => rng.pick(&ids),
     };
     Operation::Ask { id, log: damaged_log(rng, &parts) }
+}
+
+pub fn salvage(rng: &mut Rng) -> Operation {
+    let segments = segments(rng);
+    let parts: Vec<&[u8]> = segments.iter().map(|segment| &segment[..]).collect();
+    let log = cut_log(rng, &parts);
+    let room = if rng.one_in(3) { some_room(rng, log.len()) } else { log.len() + rng.between(0, 9) };
+    let told = log.get(..4).map_or(0, |four| u32::from_le_bytes([four[0], four[1], four[2], four[3]]) as usize);
+    let entries = told.min(log.len().saturating_sub(1_032) / 8);
+    let report = if rng.one_in(3) { some_room(rng, 2 * entries) } else { 2 * entries + rng.between(0, 4) };
+    Operation::Salvage { room, report, log }
 }

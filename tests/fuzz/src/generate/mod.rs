@@ -35,6 +35,7 @@ fn operations(rng: &mut Rng) -> Vec<Operation> {
         60..=77 => device::life(rng),
         78..=80 => single::several(rng, log::write),
         81..=84 => single::several(rng, log::ask),
+        85..=87 => single::several(rng, log::salvage),
         _ => line::exchange(rng),
     }
 }

@@ -1,7 +1,7 @@
 //! Exports that are wrong in one thing each.
 
 use compare::{Calls, PROVED};
-use exports::{Answer, Carried, Event, Found, Reader, Registered, Reply, Step};
+use exports::{Answer, Carried, Event, Found, Reader, Registered, Reply, Salvaged, Step};
 use std::hint::black_box;
 
 pub struct Wrong {
@@ -47,6 +47,12 @@ pub fn all() -> Vec<Wrong> {
         wrong("dxl_log_last", "the answer", Calls { log_last: id_first, ..PROVED }),
         wrong("dxl_log_last", "the answer", Calls { log_last: the_first_in_it, ..PROVED }),
         wrong("dxl_log_last", "the answer", Calls { log_last: goes_on_to_other_segments, ..PROVED }),
+        wrong("dxl_log_salvage", "the answer", Calls { log_salvage: leaves_out_the_header, ..PROVED }),
+        wrong("dxl_log_salvage", "the answer", Calls { log_salvage: counts_the_dropped_as_kept, ..PROVED }),
+        wrong("dxl_log_salvage", "the answer", Calls { log_salvage: half_a_place_is_one, ..PROVED }),
+        wrong("dxl_log_salvage", "the report", Calls { log_salvage: the_reasons_swapped, ..PROVED }),
+        wrong("dxl_log_salvage", "the report", Calls { log_salvage: clears_the_report, ..PROVED }),
+        wrong("dxl_log_salvage", "the output buffer", Calls { log_salvage: keeps_the_old_index, ..PROVED }),
         wrong("dxl_plan", "the answer", Calls { plan: one_byte_too_little_room, ..PROVED }),
         wrong("dxl_plan", "the output buffer", Calls { plan: clears_behind_the_plan, ..PROVED }),
         wrong("dxl_plan_check", "the answer", Calls { plan_check: accepts_a_subset, ..PROVED }),
@@ -527,4 +533,62 @@ fn silence_first(reply: Reply, out: &mut [u8]) -> i64 {
 fn sends_past_the_count(reply: Reply, out: &mut [u8]) -> i64 {
     let count = if reply.count <= 8 { 8 } else { reply.count };
     exports::status(Reply { count, ..reply }, out)
+}
+
+/// Of the header only the count is compared.
+fn leaves_out_the_header(log: &[u8], out: &mut [u8], report: &mut [u32]) -> Salvaged {
+    let salvaged = exports::log_salvage(log, out, report);
+    if salvaged.count < 0 {
+        return salvaged;
+    }
+    Salvaged { header_changed: u8::from(log[..4] != out[..4]), ..salvaged }
+}
+
+/// What lies in a dropped segment within the file is not counted as left over.
+fn counts_the_dropped_as_kept(log: &[u8], out: &mut [u8], report: &mut [u32]) -> Salvaged {
+    let salvaged = exports::log_salvage(log, out, report);
+    let at = report.first().map_or(0, |&number| 16 + 8 * number as usize);
+    if salvaged.dropped == 0 || salvaged.leftover == 0 || at + 8 > log.len() {
+        return salvaged;
+    }
+    let length = u32::from_le_bytes([log[at + 4], log[at + 5], log[at + 6], log[at + 7]]) as usize;
+    Salvaged { leftover: salvaged.leftover.saturating_sub(length), ..salvaged }
+}
+
+/// A report with an odd count of numbers has one place more.
+fn half_a_place_is_one(log: &[u8], out: &mut [u8], report: &mut [u32]) -> Salvaged {
+    let salvaged = exports::log_salvage(log, out, report);
+    if salvaged.count != -13 || out.len() < log.len() || report.len() % 2 == 0 {
+        return salvaged;
+    }
+    let mut longer = [&report[..], &[0]].concat();
+    let answer = exports::log_salvage(log, &mut vec![0; log.len()], &mut longer);
+    if answer.count < 0 {
+        salvaged
+    } else {
+        answer
+    }
+}
+
+fn the_reasons_swapped(log: &[u8], out: &mut [u8], report: &mut [u32]) -> Salvaged {
+    let salvaged = exports::log_salvage(log, out, report);
+    report.chunks_exact_mut(2).take(salvaged.dropped).for_each(|place| place[1] = 3 - place[1]);
+    salvaged
+}
+
+fn clears_the_report(log: &[u8], out: &mut [u8], report: &mut [u32]) -> Salvaged {
+    let salvaged = exports::log_salvage(log, out, report);
+    if salvaged.count >= 0 {
+        report.iter_mut().skip(2 * salvaged.dropped).for_each(|number| *number = 0);
+    }
+    salvaged
+}
+
+fn keeps_the_old_index(log: &[u8], out: &mut [u8], report: &mut [u32]) -> Salvaged {
+    let salvaged = exports::log_salvage(log, out, report);
+    if salvaged.count >= 0 && log[..4] == out[..4] {
+        let at = 16 + 8 * usize::from(log[0]);
+        out[at..at + 1_016].copy_from_slice(&log[at..at + 1_016]);
+    }
+    salvaged
 }

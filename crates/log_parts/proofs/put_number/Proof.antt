@@ -1,10 +1,10 @@
 use mathlib.Core.Path.{_≡_}
 use native.Mathlib.Omega.{arith}
 use lib.ListN.{length-set}
-use Rattle.log_writer.proofs.Turns.{four-sets}
+use Rattle.log_parts.proofs.Numbers.{four-sets}
 use borrow.Author.Needs.{needs}
-use Rattle.log_writer.proofs.put_number.Statement.{statement}
-use Rattle.log_writer.proofs.put_number.Tie as tie
+use Rattle.log_parts.proofs.put_number.Statement.{statement}
+use Rattle.log_parts.proofs.put_number.Tie as tie
 
 cast-out : tie.Need-cast-out
 cast-out c = search needs

@@ -4,10 +4,10 @@ use Prim.Native.Nat.{ℕ, _+_, _*_}
 use Rattle.lists.specs.Numbers.{bytesOf}
 use Rattle.lists.specs.Write.{placed}
 use native.Mathlib.Omega.{arith}
-use Rattle.log_writer.proofs.Turns.{header-put}
+use Rattle.log_parts.proofs.Numbers.{header-put}
 use borrow.Author.Needs.{needs}
-use Rattle.log_writer.proofs.put_header.Statement.{statement}
-use Rattle.log_writer.proofs.put_header.Tie as tie
+use Rattle.log_parts.proofs.header_in.Statement.{statement}
+use Rattle.log_parts.proofs.header_in.Tie as tie
 
 put-number-requires : tie.Need-put-number-requires
 put-number-requires c κs = search needs
@@ -42,8 +42,8 @@ returns c = let p₄ = c .before .before in
     ∙ ap (λ (b : List ℕ). placed b 4 (bytesOf 4 16)) (p₁ .put-number .ensures)))
     ∙ header-put (a .out .now) (a .segments) (search needs)
 
-pub put-header-spec : {M : Type 1} → statement M
-put-header-spec =
+pub header-in-spec : {M : Type 1} → statement M
+header-in-spec =
     tie.close
     (tie.spec
     put-number-requires

@@ -1,0 +1,1 @@
+// Worked examples of the salvage of a log. There are no functions here.

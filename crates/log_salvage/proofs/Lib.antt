@@ -1,0 +1,4 @@
+pub mod Packing
+pub mod Turns
+pub mod Answer
+pub mod Promises

@@ -636,6 +636,9 @@ int64_t dxl_status(struct dxl_reply reply, uint8_t *out, size_t n_out);
  *
  * The bytes of out after the plan stay as they were; if the call is refused, all of out does. dxl_plan_check accepts every plan
  * that this writes, and none that it accepts has fewer packets.
+ *
+ * A plan that is accepted, sent with a gap before and behind it and heard whole, leaves its goal in each device that is wanted and
+ * whose limits admit it, and leaves every other table as it was.
  */
 int64_t dxl_plan(const int32_t *goals, size_t n_goals, uint8_t *out, size_t n_out);
 

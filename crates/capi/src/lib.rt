@@ -388,7 +388,7 @@ pub extern "C" fn dxl_status(reply: Reply, out: &mut [u8]) -> i64
 }
 
 // The planner: the plan's byte count, or minus a refusal number. That its plans are accepted, that no accepted plan has fewer
-// packets, and what devices do that hear one, is promised too. [G5 N4 W1 W2 W6-W8 W10]
+// packets, and what devices do that hear one, is promised too. [G5 N4 N19 N20 W1 W2 W6-W8 W10]
 #[no_mangle]
 pub extern "C" fn dxl_plan(goals: &[i32], out: &mut [u8]) -> i64
     ensures { λ r. ⌜ r ≡ exported (planAnswer (now (goals .entry)) (now (out .entry))) ⌝ }
@@ -399,7 +399,7 @@ pub extern "C" fn dxl_plan(goals: &[i32], out: &mut [u8]) -> i64
 }
 
 // The test of anyone's plan: 1 exactly where the bytes are one, 0 where they are not, or minus a refusal number. What devices do
-// that hear an accepted one is promised too. [G5 W1-W5 W9 W10]
+// that hear an accepted one is promised too. [G5 N19 N20 W1-W5 W9 W10]
 #[no_mangle]
 pub extern "C" fn dxl_plan_check(goals: &[i32], plan: &[u8]) -> i64
     ensures { λ r. ⌜ CheckSays (now (goals .entry)) (now (plan .entry)) r ⌝ }

@@ -579,7 +579,7 @@ static uint16_t plan_baseline(uint16_t last, size_t n)
 /* Now and then the last goal is another one. */
 static uint16_t check_plan(plan_checker *check, uint16_t last, size_t n)
 {
-    goals[n - 1] = (last & 0xFF) == 0;
+    goals[n - 1] = (last & 0xFF) == 3;
     return mixed(last, (size_t)check(goals, IDS, plan, n_plan), 0, 0, 0, 0);
 }
 

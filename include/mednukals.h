@@ -636,9 +636,6 @@ int64_t dxl_status(struct dxl_reply reply, uint8_t *out, size_t n_out);
  *
  * The bytes of out after the plan stay as they were; if the call is refused, all of out does. dxl_plan_check accepts every plan
  * that this writes, and none that it accepts has fewer packets.
- *
- * A plan that is accepted, sent with a gap before and behind it and heard whole, leaves its goal in each device that is wanted and
- * whose limits admit it, and leaves every other table as it was.
  */
 int64_t dxl_plan(const int32_t *goals, size_t n_goals, uint8_t *out, size_t n_out);
 
@@ -646,6 +643,9 @@ int64_t dxl_plan(const int32_t *goals, size_t n_goals, uint8_t *out, size_t n_ou
  * Tests a plan, whoever made it. It is accepted exactly where it is well-formed packets end to end, each a Sync Write to 254 at
  * address 116 with length 4 and a list that is not empty and that devices would carry out, in which every wanted ID stands once
  * over all packets with its goal, and no other ID stands.
+ *
+ * A plan that is accepted, with a gap before it and behind it, leaves its goal stored in each device that is wanted, hears it
+ * whole without a refusal and has limits that admit the goal; every other table stays as it was.
  *
  * goals, n_goals   as for dxl_plan
  * plan, n_plan     any bytes, any number of them; where nothing is wanted, the plan is no bytes at all

@@ -50,7 +50,7 @@ use it
   make lib                 prove the exports and build the archives that C links, under build/lib
       LEAF=small           over the small checksum function, for boards with little flash
       LEAF=fold            over the one without a table, the fastest
-  make dxl                 build the tool dxl, for line logs on a bench computer: build/c/dxl
+  make dxl                 build the tool dxl, for line logs and plans of goals on a bench computer: build/c/dxl
   make install             put header, archive, dxl and a pkg-config file below /usr/local
       PREFIX=DIR           below that folder
       DESTDIR=DIR          staged below that one, for a package
@@ -149,8 +149,8 @@ dxl: build/c/dxl
 
 # The tool needs POSIX; files may have more than two gigabytes.
 POSIX := -D_XOPEN_SOURCE=700 -D_FILE_OFFSET_BITS=64
-CLI_SOURCES := cli/dxl.c cli/files.c
-build/c/dxl: $(CLI_SOURCES) cli/files.h include/mednukals.h build/lib/libmednukals.a
+CLI_SOURCES := cli/dxl.c cli/plan.c cli/goals.c cli/files.c
+build/c/dxl: $(CLI_SOURCES) cli/dxl.h cli/goals.h cli/files.h include/mednukals.h build/lib/libmednukals.a
 	@$(call need,$(CC))
 	@mkdir -p $(@D)
 	@$(CC) $(WARNINGS) $(POSIX) -O2 -Iinclude -o $@ $(CLI_SOURCES) build/lib/libmednukals.a || $(call failed,compiling the tool dxl)
@@ -334,7 +334,7 @@ fuzz_program: $(LIBS)
 	    sh -c 'cd tests && exec cargo build --release --offline --quiet --bin fuzz'
 
 RUNS ?= 1
-BASELINE := baseline baseline_reader baseline_log baseline_device
+BASELINE := baseline baseline_reader baseline_log baseline_plan baseline_device
 BENCH_SOURCES := $(patsubst %,tests/bench/%.c,bench lines $(BASELINE))
 BENCH_HEADERS := $(addprefix tests/bench/,lines.h baseline.h test_exports.h) include/mednukals.h
 BENCH_FLAGS := -O3 -fno-lto
@@ -365,7 +365,7 @@ $(COUNTS): $(COUNTS_SOURCES) tests/bench/baseline.c tests/bench/baseline_reader.
 # The same inputs by the baseline, compiled as in the benchmark; what it lacks is called in the archive.
 PLAIN_CALLS := $(foreach name,crc16 encode feed gap reader_feed reader_gap fresh measure device exchange carry_out carry_out_packet status,-Ddxl_$(name)=baseline_$(name)) \
     -Ddxl_test_crc16_small=baseline_crc16_small -Ddxl_next_event=baseline_next_event \
-    -Ddxl_log_write=baseline_log_write
+    -Ddxl_log_write=baseline_log_write -Ddxl_plan=baseline_plan -Ddxl_plan_check=baseline_plan_check
 PLAIN_OBJECTS := $(BASELINE:%=build/c/%.o)
 $(PLAIN_OBJECTS): build/c/%.o: tests/bench/%.c $(BENCH_HEADERS)
 	@$(call need,$(CC))

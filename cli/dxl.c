@@ -1,12 +1,13 @@
 /*
- * dxl: line logs on a bench computer. `dxl --help` says what it does; the exports of Mednukals do the work, on files that are
- * mapped into memory.
+ * dxl: line logs and plans of goals on a bench computer. `dxl --help` says what it does; the exports of Mednukals do the work, on
+ * files that are mapped into memory. The commands for logs are here, those for plans in plan.c.
  */
 #include <errno.h>
 #include <stdio.h>
 #include <stdlib.h>
 #include <string.h>
 
+#include "dxl.h"
 #include "files.h"
 #include "mednukals.h"
 
@@ -16,6 +17,7 @@ static const char HELP[] =
     "       dxl log last LOG ID            say where the last packet for an ID stands\n"
     "       dxl log salvage LOG OUT        write a sound log of what is whole in a cut one\n"
     "       dxl log COMMAND --help         say more of a command\n"
+    "       dxl plan --help                say what it does with plans of goals\n"
     "       dxl --version\n"
     "\n"
     "It ends with 0 where all is well, 1 where the answer is no (a log that is not sound, no packet for the ID), 2 where it does\n"
@@ -52,13 +54,13 @@ static const char HELP_SALVAGE[] =
     "is there is replaced once the new log is complete; until then it stays. A file of fewer than 1032 or of more than 4294967295\n"
     "bytes is refused, 33.\n";
 
-static int help(const char *text)
+int help(const char *text)
 {
     fputs(text, stdout);
     return DONE;
 }
 
-static int usage(const char *text)
+int usage(const char *text)
 {
     fputs(text, stderr);
     return USAGE;
@@ -82,7 +84,7 @@ static const char *reason(int64_t refusal)
 }
 
 /* Where the program has printed all that it should. */
-static int printed(int status)
+int printed(int status)
 {
     if (fflush(stdout) == 0 && !ferror(stdout))
         return status;
@@ -329,7 +331,7 @@ static const struct command {
                 {"last", HELP_LAST, log_last},
                 {"salvage", HELP_SALVAGE, log_salvage}};
 
-static int asks_for_help(const char *word)
+int asks_for_help(const char *word)
 {
     return strcmp(word, "--help") == 0 || strcmp(word, "-h") == 0;
 }
@@ -358,5 +360,7 @@ int main(int n, char **words)
     }
     if (n >= 2 && strcmp(words[1], "log") == 0)
         return log_command(n - 2, words + 2);
+    if (n >= 2 && strcmp(words[1], "plan") == 0)
+        return plan_command(n - 2, words + 2);
     return usage(HELP);
 }

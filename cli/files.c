@@ -11,7 +11,7 @@
 #include <sys/time.h>
 #include <unistd.h>
 
-static const uint8_t none[1];
+static uint8_t none[1];
 
 int say_failure(const char *name, const char *why)
 {
@@ -293,6 +293,9 @@ int begin_output(const char *name, size_t count, struct output *output)
         output->temporary = NULL;
         return say_failure(name, strerror(why));
     }
+    output->bytes = none;
+    if (count == 0) /* neither room nor a map can be had of no bytes */
+        return 1;
     int why = take_room(output->file, count);
     if (why != 0)
         return give_up(output, strerror(why));
@@ -328,7 +331,7 @@ int finish_output(struct output *output)
 {
     int kept = fchmod(output->file, mode_for(output->name)); /* some file systems have no modes: the log is whole all the same */
     (void)kept;
-    if (munmap(output->bytes, output->count) != 0 || ftruncate(output->file, (off_t)output->length) != 0
+    if ((output->count > 0 && munmap(output->bytes, output->count) != 0) || ftruncate(output->file, (off_t)output->length) != 0
         || fsync(output->file) != 0 || close(output->file) != 0 || rename(output->temporary, output->name) != 0)
         return give_up(output, strerror(errno));
     unfinished = NULL;

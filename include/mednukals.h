@@ -683,6 +683,9 @@ int64_t dxl_plan(const int32_t *goals, size_t n_goals, uint8_t *out, size_t n_ou
  * address 116 with length 4 and a list that is not empty and that devices would carry out, in which every wanted ID stands once
  * over all packets with its goal, and no other ID stands.
  *
+ * A plan that is accepted, with a gap before it and behind it, leaves its goal stored in each device that is wanted, hears it
+ * whole without a refusal and has limits that admit the goal; every other table stays as it was.
+ *
  * goals, n_goals   as for dxl_plan
  * plan, n_plan     any bytes, any number of them; where nothing is wanted, the plan is no bytes at all
  *

@@ -1,6 +1,6 @@
 """Runs the tool dxl: usage cli_test.py PROGRAM, in the repository's root
 
-What its commands print, how they end, and that a log is there complete or not at all. What the exports answer is compared elsewhere.
+What its commands print, how they end, and that a log or a plan is there complete or not at all. What the exports answer is compared elsewhere.
 """
 import os
 import pty
@@ -15,6 +15,9 @@ import unittest
 from pathlib import Path
 
 import suite
+
+sys.path.append("examples")
+from talk import packet
 
 PROGRAM = sys.argv[1] if len(sys.argv) == 2 else ""
 PATIENCE = 120  # seconds for one command
@@ -296,6 +299,121 @@ class Salvage(Folder):
         text = heard_until(program, ours, b"10 s\n", lambda: len(self.names()) > 1)
         os.close(ours)
         self.assertEqual((text, self.names()), (b"dxl: salvaging the log, 10 s\n", ["out.log"]))
+
+
+class Plan(Folder):
+    TWO = bytes.fromhex("FF FF FD 00 FE 11 00 83 74 00 04 00 03 07 00 00 00 09 FF 00 00 00 90 10")
+
+    def goals(self, text):
+        return self.file("goals", text.encode("ascii"))
+
+    # [L11 W3 W6]
+    def test_make(self):
+        goals = self.goals("# the north row\n\n9 255  # the far one\n  3\t7\r\n252 -1")
+        self.assertEqual(run("plan", "make", goals), (DONE, self.TWO.hex(" ").upper() + "\n", ""))
+        self.assertEqual(run("plan", "make", goals, self.out), (DONE, "", ""))
+        self.assertEqual((self.out.read_bytes(), self.names()), (self.TWO, ["goals", "out.log"]))
+        self.assertEqual(run("plan", "check", goals, self.out), (DONE, f"{self.out}: accepted, 2 goals in 1 packet\n", ""))
+
+    # [W6]
+    def test_all_devices(self):
+        goals = self.goals("".join(f"{id} {4095 - id}\n" for id in reversed(range(253))))
+        status, text, err = run("plan", "make", goals)
+        self.assertEqual((status, [len(bytes.fromhex(line)) for line in text.splitlines()], err), (DONE, [14 + 5 * 203, 14 + 5 * 50], ""))
+        self.out.write_bytes(bytes.fromhex(text))
+        self.assertEqual(run("plan", "check", goals, self.out), (DONE, f"{self.out}: accepted, 253 goals in 2 packets\n", ""))
+
+    def test_nothing_wanted(self):
+        goals = self.goals("7 -1\n")
+        self.assertEqual(run("plan", "make", goals), (DONE, "", ""))
+        self.assertEqual(run("plan", "make", goals, self.out), (DONE, "", ""))
+        self.assertEqual(self.out.read_bytes(), b"")
+        self.assertEqual(run("plan", "check", goals, self.out), (DONE, f"{self.out}: accepted, 0 goals in 0 packets\n", ""))
+
+    # [L12 W2]
+    def test_bad_goals(self):
+        """What is wrong is told with its line, whether a plan is made or tested, and OUT is as it was."""
+        self.out.write_bytes(b"an older one")
+        bad = "42, the goal is neither 0 to 4095 nor -1, which is none"
+        for text, line, why in [("3 7\n253 1", 2, "the ID is not 0 to 252"), ("-1 7", 1, "the ID is not 0 to 252"),
+                                ("1000000000000000000000 7", 1, "the ID is not 0 to 252"), ("# one\n\n3 4096\n", 3, bad), ("3 -2", 1, bad),
+                                ("3 1000000000000000000000", 1, bad), ("3 7\n4 8\n3 -1\n", 3, "ID 3 stands in line 1 already"),
+                                ("3", 1, "not an ID and a goal"), ("3 #7", 1, "not an ID and a goal"), ("3 7 8", 1, "not an ID and a goal"),
+                                ("3 7x", 1, "not an ID and a goal"), ("x 7", 1, "not an ID and a goal"), ("3 - 7", 1, "not an ID and a goal"),
+                                ("3 0x7", 1, "not an ID and a goal"), ("3,7", 1, "not an ID and a goal"), ("3 7\n\0\n", 2, "not an ID and a goal")]:
+            goals = self.goals(text)
+            for words in [["make", goals], ["make", goals, self.out], ["check", goals, self.out]]:
+                with self.subTest(text, words=words):
+                    self.assertEqual(run("plan", *words), (FAILED, "", f"dxl: {goals}:{line}: {why}\n"))
+        self.assertEqual((self.out.read_bytes(), self.names()), (b"an older one", ["goals", "out.log"]))
+
+    # [L12]
+    def test_files(self):
+        goals = self.goals("3 7\n")
+        none = self.file("none")
+        missing = f"dxl: {none}: No such file or directory\n"
+        for words in [["make", none], ["make", none, self.out], ["check", none, goals], ["check", goals, none]]:
+            self.assertEqual(run("plan", *words), (FAILED, "", missing))
+        self.assertEqual(run("plan", "make", goals, goals), (FAILED, "", f"dxl: {goals}: the goals and the plan to be written are one file\n"))
+        self.assertEqual(run("plan", "make", goals, self.folder.name), (FAILED, "", f"dxl: {self.folder.name}: not a regular file\n"))
+        self.assertEqual((goals.read_bytes(), self.names()), (b"3 7\n", ["goals"]))
+        with open("/dev/full", "wb") as full:
+            ended = subprocess.run([PROGRAM, "plan", "make", str(goals)], stdout=full, stderr=subprocess.PIPE, check=False)
+        self.assertEqual((ended.returncode, ended.stderr.startswith(b"dxl: standard output: ")), (FAILED, True))
+
+    # [L11 W3-W5 W9]
+    def test_not_accepted(self):
+        """One thing is wrong; the first is told."""
+        goals = self.goals("3 7\n9 255\n")
+
+        def sync_write(*params, to=254):
+            return packet(to, 0x83, bytes(params))
+
+        def plan(*entries):
+            return sync_write(116, 0, 4, 0, *(byte for id, goal in entries for byte in [id, *struct.pack("<I", goal)]))
+
+        three, nine = plan((3, 7)), plan((9, 255))
+        first = "the packet at offset 0: "
+        for wrong, why in [(b"", "ID 3 is wanted and does not stand in it"), (three, "ID 9 is wanted and does not stand in it"),
+                           (self.TWO + b"\0", "no well-formed packet begins at offset 24"), (b"\0" + self.TWO, "no well-formed packet begins at offset 0"),
+                           (self.TWO[:-1] + b"\x11", "no well-formed packet begins at offset 0"),
+                           (sync_write(116, 0, 4, 0, 3, 7, 0, 0, 0, to=3), first + "it is for ID 3 and not for all devices"),
+                           (sync_write(104, 0, 4, 0, 3, 7, 0, 0, 0), first + "it is no Sync Write of goal positions"),
+                           (sync_write(), first + "it is no Sync Write of goal positions"), (plan(), first + "its list is empty"),
+                           (sync_write(116, 0, 4, 0, 3, 7, 0, 0), first + "the last entry of its list is cut short"),
+                           (plan((3, 7), (253, 1)), first + "its list has 253, which is no device's ID"),
+                           (plan((3, 7), (3, 7)), first + "its list has ID 3 twice"), (plan((3, 7), (4, 7)), first + "no goal is wanted for ID 4"),
+                           (plan((3, 8)), first + "ID 3 has the goal 8 and not 7"),
+                           (plan((3, 0xFFFFFFFF)), first + "ID 3 has the goal 4294967295 and not 7"),
+                           (three + nine + three, f"the packet at offset {len(three + nine)}: ID 3 stands in a packet before it too")]:
+            with self.subTest(why):
+                self.out.write_bytes(wrong)
+                self.assertEqual(run("plan", "check", goals, self.out), (NO, f"{self.out}: not accepted: {why}\n", ""))
+        self.out.write_bytes(nine + three)
+        self.assertEqual(run("plan", "check", goals, self.out), (DONE, f"{self.out}: accepted, 2 goals in 2 packets\n", ""))
+
+    def test_words(self):
+        status, text, err = run("plan", "--help")
+        self.assertEqual((status, err, text.startswith("usage: dxl plan make GOALS [OUT]")), (DONE, "", True))
+        for name in ["make", "check"]:
+            status, more, err = run("plan", name, "--help")
+            self.assertEqual((status, err, more.startswith(f"usage: dxl plan {name} GOALS ")), (DONE, "", True))
+            self.assertEqual(run("plan", name), (USAGE, "", more))
+            self.assertEqual(run("plan", name, "a", "b", "c"), (USAGE, "", more))
+        for words in [[], ["none"], ["check", "a"]]:
+            status, out, err = run("plan", *words)
+            self.assertEqual((status, out, err.startswith("usage: dxl plan ")), (USAGE, "", True))
+        self.assertEqual(self.names(), [])
+
+    def test_sample(self):
+        """What README.md shows."""
+        goals = self.goals("3 7      # ID and goal\n9 255\n")
+        made = run("plan", "make", goals)[1]
+        self.assertEqual(run("plan", "make", goals, self.out), (DONE, "", ""))
+        check = run("plan", "check", goals, self.out)[1].replace(str(self.out), "row.plan")
+        sample = ("$ cat row.txt\n" + goals.read_text(encoding="ascii") + "$ dxl plan make row.txt\n" + made + "$ dxl plan make row.txt row.plan\n"
+                  + "$ dxl plan check row.txt row.plan\n" + check)
+        self.assertIn(sample, Path("README.md").read_text(encoding="utf-8"))
 
 
 class Words(Folder):

@@ -30,6 +30,9 @@ struct dxl_found baseline_log_last(const uint8_t *log, size_t n, uint8_t id);
 struct dxl_salvaged baseline_log_salvage(const uint8_t *log, size_t n, uint8_t *out, size_t n_out, uint32_t *report, size_t n_report);
 struct fed_value baseline_feed_value(const uint8_t held[1030], size_t count, const uint8_t *chunk, size_t n);
 
+int64_t baseline_plan(const int32_t *goals, size_t n_goals, uint8_t *out, size_t n_out);
+int64_t baseline_plan_check(const int32_t *goals, size_t n_goals, const uint8_t *plan, size_t n_plan);
+
 int64_t baseline_fresh(uint8_t *table, size_t n);
 int64_t baseline_measure(uint8_t *table, size_t n, int32_t position, uint8_t hardware_error);
 struct dxl_answer baseline_device(uint8_t *table, size_t n_table, struct dxl_registered registered, uint8_t kind, uint8_t id,

@@ -575,6 +575,59 @@ static int measure_logs(void)
            && measure("log, salvaged", log_salvage_ours, log_salvage_baseline, n_line, amount, "MB/s");
 }
 
+/* The goals of so many devices, from ID 0 on. The answer changes the last of them, so that no call can be left out. */
+enum { IDS = 253 };
+static int32_t goals[IDS];
+static uint8_t plan[1293];
+static size_t n_plan;
+
+typedef int64_t planner(const int32_t *goals, size_t n_goals, uint8_t *out, size_t n_out);
+typedef int64_t plan_checker(const int32_t *goals, size_t n_goals, const uint8_t *plan, size_t n_plan);
+
+static uint16_t write_plan(planner *write, uint16_t last, size_t n)
+{
+    goals[n - 1] = last & 0xFFF;
+    int64_t count = write(goals, IDS, plan, sizeof plan);
+    return mixed(last, (size_t)count, plan[n_plan - 2], plan[n_plan - 1], plan[n_plan - 7], plan[5]);
+}
+
+static uint16_t plan_ours(uint16_t last, size_t n)
+{
+    return write_plan(dxl_plan, last, n);
+}
+
+static uint16_t plan_baseline(uint16_t last, size_t n)
+{
+    return write_plan(baseline_plan, last, n);
+}
+
+/* Now and then the last goal is another one. */
+static uint16_t check_plan(plan_checker *check, uint16_t last, size_t n)
+{
+    goals[n - 1] = (last & 0xFF) == 3;
+    return mixed(last, (size_t)check(goals, IDS, plan, n_plan), 0, 0, 0, 0);
+}
+
+static uint16_t plan_check_ours(uint16_t last, size_t n)
+{
+    return check_plan(dxl_plan_check, last, n);
+}
+
+static uint16_t plan_check_baseline(uint16_t last, size_t n)
+{
+    return check_plan(baseline_plan_check, last, n);
+}
+
+static int measure_plan(size_t n)
+{
+    for (size_t id = 0; id < IDS; id++)
+        goals[id] = id < n ? (int32_t)(16 * id) : -1;
+    goals[n - 1] = 0;
+    n_plan = (size_t)dxl_plan(goals, IDS, plan, sizeof plan);
+    return measure("plan, checked", plan_check_ours, plan_check_baseline, n, 1e-3, "kcalls/s")
+           && measure("plan, written", plan_ours, plan_baseline, n, 1e-3, "kcalls/s");
+}
+
 static int measure_device(const char *what, size_t n)
 {
     return measure(what, device_ours, device_baseline, n, 1e-6, "Mcalls/s");
@@ -674,7 +727,7 @@ int main(int n_words, char **words)
                && measure_flips(14) && measure_flips(1031) && measure_flips(LARGEST)
                && measure_bytes("encode", encode_ours, encode_baseline, 14)
                && measure_bytes("encode", encode_ours, encode_baseline, DXL_MAX_PACKET) && measure_reader()
-               && measure_logs() && measure_instructions();
+               && measure_logs() && measure_plan(2) && measure_plan(253) && measure_instructions();
     if (good)
         measure_clearing();
     return good ? 0 : 1;

@@ -340,6 +340,22 @@ static size_t deepest_device(void (*call)(void))
     return most;
 }
 
+/* Goals for all devices, and their plan. */
+static int32_t goals[253];
+static uint8_t plan[1293];
+
+static void call_plan(void)
+{
+    MARK_TOP();
+    answered = dxl_plan(goals, 253, plan, sizeof plan);
+}
+
+static void call_plan_check(void)
+{
+    MARK_TOP();
+    answered = dxl_plan_check(goals, 253, plan, sizeof plan);
+}
+
 static void tell(const char *name, size_t bytes)
 {
     printf("  %-17s %6zu\n", name, bytes);
@@ -369,5 +385,7 @@ int main(void)
     tell("dxl_carry_out", deepest_device(call_carry_out));
     tell("dxl_carry_out_packet", deepest_device(call_carry_out_packet));
     tell("dxl_status", deepest(nothing, call_status));
+    tell("dxl_plan", deepest(nothing, call_plan));
+    tell("dxl_plan_check", deepest(nothing, call_plan_check));
     return 0;
 }

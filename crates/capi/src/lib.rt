@@ -44,6 +44,7 @@ ghost use Rattle.exchange.specs.GoalWithinLimits.{GoalWithinLimits};
 ghost use Rattle.exchange.specs.Promises.{ExchangePromises};
 ghost use Rattle.plan.specs.Planner.{planAnswer, planOut};
 ghost use Rattle.plan_laws.specs.Planned.{Planned};
+ghost use Rattle.plan_heard.specs.PlanCarriedOut.{PlanCarriedOut};
 ghost use Rattle.cases.specs.Cases.{CasesHold};
 ghost use Rattle.numbers.specs.Exported.{exported, exportedRefusal, stepNumbers, nextNumbers, deviceNumbers, carriedNumbers, foundNumbers, salvagedNumbers};
 ghost use Rattle.capi.specs.Heard.{heardBy, idOfKind};
@@ -364,21 +365,23 @@ pub extern "C" fn dxl_status(reply: Reply, out: &mut [u8]) -> i64
     numbers::written(status::send(reply, out))
 }
 
-// The planner: the plan's byte count, or minus a refusal number. That its plans are accepted, and that no accepted plan has fewer
-// packets, is promised too. [G5 N4 W1 W2 W6-W8]
+// The planner: the plan's byte count, or minus a refusal number. That its plans are accepted, that no accepted plan has fewer
+// packets, and what devices do that hear one, is promised too. [G5 N4 N19 N20 W1 W2 W6-W8 W10]
 #[no_mangle]
 pub extern "C" fn dxl_plan(goals: &[i32], out: &mut [u8]) -> i64
     ensures { λ r. ⌜ r ≡ exported (planAnswer (now (goals .entry)) (now (out .entry))) ⌝ }
     ensures { λ _. ⌜ now (out .exit) ≡ planOut (now (goals .entry)) (now (out .entry)) ⌝ }
-    ensures { λ _. ⌜ Planned ⌝ }
+    ensures { λ _. ⌜ Planned × PlanCarriedOut ⌝ }
 {
     numbers::plan_written(plan_writer::write_plan(goals, out))
 }
 
-// The test of anyone's plan: 1 exactly where the bytes are one, 0 where they are not, or minus a refusal number. [G5 W1-W5 W9]
+// The test of anyone's plan: 1 exactly where the bytes are one, 0 where they are not, or minus a refusal number. What devices do
+// that hear an accepted one is promised too. [G5 N19 N20 W1-W5 W9 W10]
 #[no_mangle]
 pub extern "C" fn dxl_plan_check(goals: &[i32], plan: &[u8]) -> i64
     ensures { λ r. ⌜ CheckSays (now (goals .entry)) (now (plan .entry)) r ⌝ }
+    ensures { λ _. ⌜ PlanCarriedOut ⌝ }
 {
     numbers::tested(plan_check::check(goals, plan))
 }

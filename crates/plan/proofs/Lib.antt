@@ -1,2 +1,3 @@
 pub mod Wanted
 pub mod Packets
+pub mod Lists

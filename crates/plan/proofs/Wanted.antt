@@ -10,7 +10,8 @@ use lib.IntN.{ℤ}
 use lib.ListN.{length, drop, getD, drop-of-length-le}
 use lib.Seq.{drop-cons}
 use borrow.Author.Tests.{eqb-true, eq-eqb}
-use Rattle.plan.specs.Goals.{goalWithin, goalsWithin, goalsRefusal}
+use Rattle.lists.proofs.Bools.{and-left, and-right}
+use Rattle.plan.specs.Goals.{unwanted, goalWithin, goalsWithin, goalsRefusal}
 
 pub within-turn : (goals : List ℤ) (i : ℕ) (d : ℤ) → i < length goals
     → goalsWithin (drop i goals) ≡ (goalWithin (getD goals i d) && goalsWithin (drop (suc i) goals))
@@ -46,3 +47,10 @@ goals-within goals e = by-goals (goalsWithin goals) refl
         let z : _≡_ {A = Option ℕ} (some 42) none = sym (rw (eq-eqb (length goals) 253 n, t)) ∙ e in
         let y : _≡_ {A = ℕ} 0 1 = cc in
         absurd (omega arith)
+
+-- any number of the list; past it none is wanted
+pub within-at : (goals : List ℤ) (id : ℕ) → goalsWithin goals ≡ true → goalWithin (getD goals id unwanted) ≡ true
+unfolding goalsWithin
+within-at [] id w = refl
+within-at (g ∷ goals) zero w = and-left (goalWithin g) (goalsWithin goals) w
+within-at (g ∷ goals) (suc id) w = within-at goals id (and-right (goalWithin g) (goalsWithin goals) w)

@@ -32,7 +32,7 @@ unfoldable pub goalsWithin : List ℤ → Bool
 goalsWithin [] = true
 goalsWithin (g ∷ gs) = goalWithin g && goalsWithin gs
 
--- [W2]
+-- [N19 N20 W2]
 unfoldable pub goalsRefusal : List ℤ → Option ℕ
 goalsRefusal goals = firstFailing ((eqb (length goals) 253, 41) ∷ (goalsWithin goals, 42) ∷ [])
 

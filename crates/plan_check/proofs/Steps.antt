@@ -2,7 +2,10 @@
 use mathlib.Core.Path.{_≡_, refl, sym, ap, subst, _∙_}
 use mathlib.Core.Bool.{Bool, true, false, cond, _&&_}
 use mathlib.Core.List.{List, [], _∷_, _++_}
-use Prim.Native.Nat.{ℕ, _<_, _≤_, _-_, _^_}
+use mathlib.Core.Logic.{⊎-elim}
+use Prim.Native.Nat.{ℕ, _+_, _<_, _≤_, _-_, _^_}
+use native.Mathlib.Nat.{le-of-suc-le-suc, eq-or-lt-of-le}
+use native.Mathlib.Numerals.{add-one}
 use native.Mathlib.Omega.{arith}
 use lib.Dec.{eqb, ltb}
 use lib.IntN.{ℤ, pos, negsuc, pos-ne-negsuc}
@@ -10,12 +13,17 @@ use lib.ListN.{length, take, getD}
 use lib.Seq.{getD-take}
 use lib.Signed.{leZ, ltZ, mag}
 use borrow.Author.Tests.{eqb-true, eqb-false, eq-eqb, ne-eqb, leb-false, ltb-true, lt-ltb}
+use Rattle.lists.proofs.Bools.{both-ways}
 use Rattle.items.specs.Items.{signed}
 use Rattle.plan.specs.Goals.{unwanted, goalOf, wanted}
 use Rattle.plan.specs.Plan.{planHead}
 use Rattle.plan.proofs.Wanted.{goal-there}
-use Rattle.plan_check.specs.Checking.{entryFor, pastBy, past}
-use Rattle.plan_check.specs.declared.Entry.the-variants.{Absent, New, Other}
+use Rattle.plan_check.specs.Checking.{fits, pastBy, past}
+
+-- what holds below k and at k
+pub below-next : (P : ℕ → Type 0) (k : ℕ) → ((id : ℕ) → id < k → P id) → P k → (id : ℕ) → id < k + 1 → P id
+below-next P k f here id h =
+    ⊎-elim (λ e. subst P (sym e) here) (λ l. f id l) (eq-or-lt-of-le (le-of-suc-le-suc (rw add-one at h)))
 
 -- a number that is read as a goal is the goal's
 pub signed-pos : (u n : ℕ) → signed u ≡ pos n → u ≡ n
@@ -29,62 +37,47 @@ signed-pos u n e = by-size (ltb u (2 ^ 31)) refl
 pub pos-signed : (n : ℕ) → n < 2 ^ 31 → signed n ≡ pos n
 pos-signed n h = rw (lt-ltb n (2 ^ 31) h)
 
--- the refusals, in the order of the code
+-- the tests of an entry, in the order of the code
 module _ (stood u : ℕ) where
-  pub other-unwanted : (g : ℤ) → ltZ g (pos 0) ≡ true → entryFor g stood (u ∷ []) ≡ Other
+  pub other-unwanted : (g : ℤ) → ltZ g (pos 0) ≡ true → fits g stood u ≡ false
   other-unwanted (pos n) e = absurd (omega (arith, ltb-true n 0 e))
   other-unwanted (negsuc n) e = refl
 
-  pub other-again : (g : ℤ) → ¬ (stood ≡ 0) → entryFor g stood (u ∷ []) ≡ Other
+  pub other-again : (g : ℤ) → ¬ (stood ≡ 0) → fits g stood u ≡ false
   other-again (pos n) e = rw (ne-eqb stood 0 e)
   other-again (negsuc n) e = refl
 
-  pub other-goal : (g : ℤ) → stood ≡ 0 → mag g < 2 ^ 31 → ¬ (signed u ≡ g) → entryFor g stood (u ∷ []) ≡ Other
+  pub other-goal : (g : ℤ) → stood ≡ 0 → mag g < 2 ^ 31 → ¬ (signed u ≡ g) → fits g stood u ≡ false
   other-goal (pos n) s h e = rw (eq-eqb stood 0 s, ne-eqb u n (λ d. e (ap signed d ∙ pos-signed n h)))
   other-goal (negsuc n) s h e = refl
 
-  pub new-goal : (g : ℤ) → ltZ g (pos 0) ≡ false → stood ≡ 0 → signed u ≡ g → entryFor g stood (u ∷ []) ≡ New
+  pub new-goal : (g : ℤ) → ltZ g (pos 0) ≡ false → stood ≡ 0 → signed u ≡ g → fits g stood u ≡ true
   new-goal (pos n) l s e = rw (eq-eqb stood 0 s, eq-eqb u n (signed-pos u n e))
   new-goal (negsuc n) l s e = let z : _≡_ {A = ℕ} 0 1 = cc in absurd (omega arith)
 
 -- ---- what an entry says
 
-pub absent : (g : ℤ) (mark : ℕ) (f : List ℕ) → entryFor g mark f ≡ Absent → f ≡ []
-absent g mark [] e = refl
-absent (negsuc n) mark (u ∷ us) e = let z : _≡_ {A = ℕ} 0 1 = cc in absurd (omega arith)
-absent (pos n) mark (u ∷ us) e = by-test (eqb mark 0 && eqb u n) e
+-- one that may stand completes what is wanted
+pub completes : (g : ℤ) (mark u : ℕ) → fits g mark u ≡ true → pastBy g mark ++ (u ∷ []) ≡ goalOf g
+completes (negsuc n) mark u e = both-ways false e refl
+completes (pos n) mark u e = by-tests (eqb mark 0) (eqb u n) refl e
   where
-    by-test : (b : Bool) → cond b New Other ≡ Absent → u ∷ us ≡ []
-    by-test true e = let z : _≡_ {A = ℕ} 0 1 = cc in absurd (omega arith)
-    by-test false e = let z : _≡_ {A = ℕ} 0 1 = cc in absurd (omega arith)
+    by-tests : (a b : Bool) → eqb u n ≡ b → (a && b) ≡ true → cond a [] (n ∷ []) ++ (u ∷ []) ≡ n ∷ []
+    by-tests true true j e = ap (λ (k : ℕ). k ∷ []) (eqb-true u n j)
+    by-tests true false j e = both-ways false e refl
+    by-tests false b j e = both-ways false e refl
 
--- the goal for the first time
-pub record First (g : ℤ) (mark : ℕ) (f : List ℕ) : Type 0 where
-  pub completes : pastBy g mark ++ f ≡ goalOf g
-  pub some : 0 < length f
-
-pub new : (g : ℤ) (mark : ℕ) (f : List ℕ) → length f ≤ 1 → entryFor g mark f ≡ New → First g mark f
-new g mark [] h e = let z : _≡_ {A = ℕ} 0 1 = cc in absurd (omega arith)
-new (negsuc n) mark (u ∷ us) h e = let z : _≡_ {A = ℕ} 0 1 = cc in absurd (omega arith)
-new (pos n) mark (u ∷ (v ∷ us)) h e = absurd (omega arith)
-new (pos n) mark (u ∷ []) h e = by-tests (eqb mark 0) (eqb u n) refl refl e
+-- and any other one never does, whatever follows
+pub clashes : (g : ℤ) (mark u : ℕ) (more : List ℕ) → fits g mark u ≡ false → ¬ (pastBy g mark ++ (u ∷ more) ≡ goalOf g)
+clashes (negsuc n) mark u more e = by-mark (eqb mark 0)
   where
-    by-tests : (a b : Bool) → eqb mark 0 ≡ a → eqb u n ≡ b → cond (a && b) New Other ≡ New → First (pos n) mark (u ∷ [])
-    by-tests true true i j e = record { completes = rw i (ap (λ (k : ℕ). k ∷ []) (eqb-true u n j)); some = omega arith }
-    by-tests true false i j e = let z : _≡_ {A = ℕ} 0 1 = cc in absurd (omega arith)
-    by-tests false b i j e = let z : _≡_ {A = ℕ} 0 1 = cc in absurd (omega arith)
-
-pub other : (g : ℤ) (mark : ℕ) (f more : List ℕ) → entryFor g mark f ≡ Other → ¬ (pastBy g mark ++ (f ++ more) ≡ goalOf g)
-other g mark [] more e = let z : _≡_ {A = ℕ} 0 1 = cc in absurd (omega arith)
-other (negsuc n) mark (u ∷ us) more e = by-mark (eqb mark 0)
-  where
-    by-mark : (b : Bool) → ¬ (cond b [] [] ++ (u ∷ (us ++ more)) ≡ [])
+    by-mark : (b : Bool) → ¬ (cond b [] [] ++ (u ∷ more) ≡ [])
     by-mark true d = absurd (omega (arith, ap length d))
     by-mark false d = absurd (omega (arith, ap length d))
-other (pos n) mark (u ∷ us) more e = by-tests (eqb mark 0) (eqb u n) refl e
+clashes (pos n) mark u more e = by-tests (eqb mark 0) (eqb u n) refl e
   where
-    by-tests : (a b : Bool) → eqb u n ≡ b → cond (a && b) New Other ≡ Other → ¬ (cond a [] (n ∷ []) ++ (u ∷ (us ++ more)) ≡ n ∷ [])
-    by-tests true true j e d = let z : _≡_ {A = ℕ} 0 1 = cc in absurd (omega arith)
+    by-tests : (a b : Bool) → eqb u n ≡ b → (a && b) ≡ false → ¬ (cond a [] (n ∷ []) ++ (u ∷ more) ≡ n ∷ [])
+    by-tests true true j e d = both-ways true refl e
     by-tests true false j e d = eqb-false u n j (ap (λ (l : List ℕ). getD l 0 0) d)
     by-tests false b j e d = absurd (omega (arith, ap length d))
 

@@ -1,21 +1,19 @@
 -- How far the test has come: which IDs have stood, and what a packet adds.
 use mathlib.Core.Path.{_≡_}
 use mathlib.Core.Bool.{Bool, true, false, cond, _&&_}
-use mathlib.Core.List.{List, [], _∷_, _++_}
+use mathlib.Core.List.{List, [], _++_}
 use Prim.Native.Nat.{ℕ, _<_}
 use lib.Dec.{eqb}
 use lib.IntN.{ℤ, pos, negsuc}
 use lib.ListN.{length, take, drop, getD}
 use Rattle.plan.specs.Goals.{unwanted, goalOf, wanted}
 use Rattle.plan.specs.Plan.{planHead, goalFound, paramsOf, GoalWrite}
-use Rattle.plan_check.specs.declared.Entry.{Entry}
-use Rattle.plan_check.specs.declared.Entry.the-variants.{Absent, New, Other}
 
--- what a packet has for an ID whose goal is g, and which has stood before if the mark is not 0
-abbrev pub entryFor : ℤ → ℕ → List ℕ → Entry
-entryFor g mark [] = Absent
-entryFor (negsuc n) mark (u ∷ us) = Other
-entryFor (pos n) mark (u ∷ us) = cond (eqb mark 0 && eqb u n) New Other
+-- an entry with the number u may stand, where the goal is g and the mark says whether the ID has stood before: the number is the
+-- goal, and it has not
+abbrev pub fits : ℤ → ℕ → ℕ → Bool
+fits (pos n) mark u = eqb mark 0 && eqb u n
+fits (negsuc n) mark u = false
 
 -- what has stood of an ID so far: all that is wanted, or nothing
 abbrev pub pastBy : ℤ → ℕ → List ℕ
@@ -24,11 +22,15 @@ pastBy g mark = cond (eqb mark 0) [] (goalOf g)
 abbrev pub past : List ℤ → List ℕ → ℕ → List ℕ
 past goals stood id = pastBy (getD goals id unwanted) (getD stood id 0)
 
+-- some device finds a goal in the parameters
+abbrev pub SomeFound : List ℕ → Type 0
+SomeFound params = (id : ℕ) × (id < 253) × (0 < length (goalFound id params))
+
 module _ (goals : List ℤ) (old : List ℕ) where
   -- the IDs that find a goal in the parameters have been marked
   pub record Marked (params new : List ℕ) : Type 0 where
     pub sized : length new ≡ 253
-    pub some-id : (id : ℕ) × (id < 253) × (0 < length (goalFound id params))
+    pub some-id : SomeFound params
     pub as-found : (id : ℕ) → id < 253 → past goals new id ≡ past goals old id ++ goalFound id params
 
   -- whatever follows, some ID stands twice, with another goal or unwanted
@@ -37,7 +39,7 @@ module _ (goals : List ℤ) (old : List ℕ) where
 
   -- no ID finds a goal, or one clashes
   abbrev pub Unfit : List ℕ → Type 0
-  Unfit params = (id : ℕ) × (id < 253) × (0 < length (goalFound id params)) → Clash params
+  Unfit params = SomeFound params → Clash params
 
   abbrev pub MarkSays : List ℕ → List ℕ → Bool → Type 0
   MarkSays params new true = Marked params new

@@ -11,22 +11,20 @@ ghost use Rattle.lists.specs.Numbers.{numberAt};
 ghost use Rattle.items.specs.Items.{signed};
 ghost use Rattle.packet.specs.Packet.{WellFormed};
 ghost use Rattle.plan.specs.Goals.{wanted, goalsRefusal};
-ghost use Rattle.plan.specs.Plan.{planHead, goalFound, Plan};
-ghost use Rattle.plan_check.specs.Checking.{entryFor, past, MarkSays, BodySays, PacketSays};
+ghost use Rattle.plan.specs.Plan.{planHead, Plan};
+ghost use Rattle.plan_check.specs.Checking.{fits, past, SomeFound, MarkSays, BodySays, PacketSays};
 ghost use Rattle.plan_check.specs.Tested.{Decides, TestSays};
+
+// Where the list begins in the parameters, and the size of an entry: an ID and four bytes.
+const LIST: usize = 4;
+
+const ENTRY: usize = 5;
 
 pub enum Tested {
     Accepted,
     NotPlan,
     BadCount,
     BadGoal,
-}
-
-// What a packet has for an ID: nothing, its goal for the first time, or anything else.
-pub enum Entry {
-    Absent,
-    New,
-    Other,
 }
 
 // The four bytes of a goal.
@@ -37,46 +35,53 @@ fn goal_at(params: &[u8], k: usize) -> i32
     items::signed_of(params[k], params[k + 1], params[k + 2], params[k + 3])
 }
 
-// The entry of one ID, by the device's own search.
-fn entry_of(params: &[u8], id: u8, goal: i32, stood: u8) -> Entry
-    ensures { λ r. ⌜ r ≡ entryFor goal stood (goalFound id (now (params .entry))) ⌝ }
+// Whether an entry may stand: its goal is the wanted one, and nothing has stood of its ID.
+fn entry_fits(params: &[u8], at: usize, goal: i32, stood: u8) -> bool
+    requires { ⌜ at + 5 ≤ length (now params) ⌝ }
+    ensures { λ r. ⌜ r ≡ fits goal stood (numberAt (now (params .entry)) (at + 1) 4) ⌝ }
 {
-    let Found::At(_, at) = parameters::sync_search(params, 4, id) else {
-        return Entry::Absent;
-    };
     if goal < 0 {
-        return Entry::Other;
+        return false;
     }
     if stood != 0 {
-        return Entry::Other;
+        return false;
     }
     if goal_at(params, at + 1) != goal {
-        return Entry::Other;
+        return false;
     }
-    Entry::New
+    true
 }
 
-// Marks each ID that has an entry; false if there is none, or one that may not stand.
+// Marks the ID of each entry of a list that devices carry out; false if there is one that may not stand.
+fn mark_list(goals: &[i32], params: &[u8], stood: &mut [u8]) -> bool
+    requires { ⌜ (length (now goals) ≡ 253) × (length (now stood) ≡ 253) × SomeFound (now params) ⌝ }
+    ensures { λ r. ⌜ MarkSays (now (goals .entry)) (now (stood .entry)) (now (params .entry)) (now (stood .exit)) r ⌝ }
+{
+    let mut at = LIST;
+    while at < params.len() {
+        let id = params[at] as usize;
+        if !entry_fits(params, at, goals[id], stood[id]) {
+            return false;
+        }
+        stood[id] = 1;
+        at += ENTRY;
+    }
+    true
+}
+
+// Marks each ID that has an entry; false if there is none, or one that may not stand. Whether devices carry the list out is asked of
+// their own search, for the first ID in it.
 fn mark_entries(goals: &[i32], params: &[u8], stood: &mut [u8]) -> bool
     requires { ⌜ (length (now goals) ≡ 253) × (length (now stood) ≡ 253) ⌝ }
     ensures { λ r. ⌜ MarkSays (now (goals .entry)) (now (stood .entry)) (now (params .entry)) (now (stood .exit)) r ⌝ }
 {
-    let mut any = false;
-    let mut id = 0;
-    while id < plan::IDS {
-        match entry_of(params, id as u8, goals[id], stood[id]) {
-            Entry::Absent => {}
-            Entry::New => {
-                stood[id] = 1;
-                any = true;
-            }
-            Entry::Other => {
-                return false;
-            }
-        }
-        id += 1;
+    if params.len() <= LIST {
+        return false;
     }
-    any
+    let Found::At(_, _) = parameters::sync_search(params, 4, params[LIST]) else {
+        return false;
+    };
+    mark_list(goals, params, stood)
 }
 
 // Whether the body begins as a Sync Write of goal positions.

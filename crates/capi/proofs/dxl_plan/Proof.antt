@@ -2,6 +2,7 @@ use mathlib.Core.Path.{ap, _∙_}
 use mir.Facts.{toZ-ofZ}
 use mir.Syntax.{w64}
 use Rattle.plan_laws.proofs.Planned.{planned}
+use Rattle.plan_heard.proofs.Heard.{plan-carried-out}
 use Rattle.numbers.specs.Exported.{exported}
 use borrow.Author.Needs.{needs}
 use Rattle.capi.proofs.dxl_plan.Statement.{statement}
@@ -20,7 +21,7 @@ returns : tie.Need-returns
 returns c =
     let e = c .before .before .before .write-plan in (
       toZ-ofZ {w = w64} (record { sfits = c .plan-written .ok }) ∙ c .plan-written .ensures ∙ ap exported (e .ensures .0),
-      (e .ensures .1, planned),
+      (e .ensures .1, (planned, plan-carried-out)),
     )
 
 pub dxl-plan-spec : {M : Type 1} → statement M

@@ -9,6 +9,7 @@ use Rattle.plan_check.specs.Tested.{TestSays}
 use Rattle.plan_check.specs.declared.Tested.{Tested}
 use Rattle.plan_check.specs.declared.Tested.the-variants.{Accepted, NotPlan, BadCount, BadGoal}
 use Rattle.numbers.specs.Exported.{testedNumber}
+use Rattle.plan_heard.proofs.Heard.{plan-carried-out}
 use Rattle.capi.specs.Plans.{CheckSays}
 use borrow.Author.Needs.{needs}
 use Rattle.capi.proofs.dxl_plan_check.Statement.{statement}
@@ -29,9 +30,11 @@ tested-requires c κs = search needs
 returns : tie.Need-returns
 returns c =
     let k = c .before in
-    let a = k .before .before .args in
-    subst (CheckSays (a .goals .now) (a .plan .now))
-    (sym (toZ-ofZ {w = w64} (record { sfits = c .tested .ok }) ∙ c .tested .ensures)) (says (a .goals .now) (a .plan .now) (k .check .result) (k .check .ensures))
+    let a = k .before .before .args in (
+      subst (CheckSays (a .goals .now) (a .plan .now))
+          (sym (toZ-ofZ {w = w64} (record { sfits = c .tested .ok }) ∙ c .tested .ensures)) (says (a .goals .now) (a .plan .now) (k .check .result) (k .check .ensures)),
+      plan-carried-out,
+    )
 
 pub dxl-plan-check-spec : {M : Type 1} → statement M
 dxl-plan-check-spec = tie.close (tie.spec check-requires tested-requires returns)

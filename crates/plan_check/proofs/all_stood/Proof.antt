@@ -10,8 +10,7 @@ use mir.Facts.{toZ-ofZ}
 use borrow.Author.Needs.{needs, sfits-of}
 use Rattle.plan.specs.Goals.{wanted}
 use Rattle.plan_check.specs.Checking.{past}
-use Rattle.plan_check.proofs.Marks.{below-next}
-use Rattle.plan_check.proofs.Steps.{lacking, none-needed, needed-stood}
+use Rattle.plan_check.proofs.Steps.{below-next, lacking, none-needed, needed-stood}
 use Rattle.plan_check.proofs.all_stood.Statement.{statement}
 use Rattle.plan_check.proofs.all_stood.Tie as tie
 

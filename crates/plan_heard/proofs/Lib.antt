@@ -1,0 +1,3 @@
+mod Written
+mod Step
+pub mod Heard

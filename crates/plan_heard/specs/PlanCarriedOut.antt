@@ -1,0 +1,62 @@
+-- An accepted plan, whoever made it, that a reader takes as one whole segment and a device then hears: its goal is stored.
+use mathlib.Core.Path.{_≡_}
+use mathlib.Core.Bool.{Bool, true, false, _&&_}
+use mathlib.Core.List.{List, [], _∷_, List·Memᴰ}
+use mathlib.Core.Logic.{_⊎_}
+use mathlib.Core.Option.{Option, none}
+use Prim.Native.Nat.{ℕ, _≤_, _<_}
+use lib.IntN.{ℤ, pos}
+use lib.ListN.{length, getD}
+use lib.Signed.{leZ}
+use Rattle.stuffing.specs.Stuffing.{unstuff}
+use Rattle.reading.specs.Calls.{Call}
+use Rattle.reading.specs.Lists.{model, after, took, given}
+use Rattle.reading.specs.Promise.{since, AtStart, Finished}
+use Rattle.packet.specs.Packet.{bodyOf}
+use Rattle.packet.specs.Verdict.{protocol2}
+use Rattle.reader.specs.Records.{records}
+use Rattle.registers.specs.Registers.{minPosition, maxPosition, goalPosition, endOf}
+use Rattle.items.specs.Items.{valueOf}
+use Rattle.reactions.specs.Reactions.{ownId}
+use Rattle.device.specs.Answers.{stateRefusal, callRefusal}
+use Rattle.plan.specs.Goals.{wanted, goalsRefusal}
+use Rattle.plan.specs.Plan.{Plan}
+use Rattle.plan_heard.specs.Hearing.{Device, Form, inTwo, inOne, hearsAll}
+
+-- the limits that stand in the table admit the goal [W10]
+abbrev pub admits : List ℕ → ℕ → Bool
+admits table goal = leZ (valueOf minPosition table) (pos goal) && leZ (pos goal) (valueOf maxPosition table)
+
+-- the device's own test of faults: 21 to 23, and in the one call 24
+abbrev pub faultOf : Form → Device → Option ℕ
+faultOf inTwo d = stateRefusal (d .table) (d .registered)
+faultOf inOne d = callRefusal (d .table) (d .registered) (d .reply)
+
+-- "a board whose table, records and buffers give none of 13 and 21 to 25": its test passes, and the body buffer has room for each
+-- packet's unstuffed body. 25 comes from no reader at a start (Q2), and 14 of no well-formed packet. [W10]
+pub record Ready (form : Form) (d : Device) (packets : List (List ℕ)) : Type 0 where
+  pub faultless : faultOf form d ≡ none
+  pub room : (w : List ℕ) → List·Memᴰ w packets → length (unstuff (bodyOf w)) ≤ length (d .body)
+
+-- what a device that was `d` is then
+pub record Obeyed (goals : List ℤ) (d now : Device) : Type 0 where
+  -- where its own ID is wanted and its stored limits admit the goal, that goal is its goal position [W10]
+  pub stored : (goal : ℕ) → wanted goals (ownId (d .table)) ≡ goal ∷ [] → admits (d .table) goal ≡ true
+      → valueOf goalPosition (now .table) ≡ pos goal
+  -- where they do not admit it, or its ID is not wanted, its table is as it was [W10]
+  pub refused : (goal : ℕ) → wanted goals (ownId (d .table)) ≡ goal ∷ [] → admits (d .table) goal ≡ false → now .table ≡ d .table
+  pub unwanted : wanted goals (ownId (d .table)) ≡ [] → now .table ≡ d .table
+  -- whatever its ID, no byte beside the goal position changes, and no registered write [W10]
+  pub others : (a : ℕ) → (a < goalPosition .address) ⊎ (endOf goalPosition ≤ a) → getD (now .table) a 0 ≡ getD (d .table) a 0
+  pub registered : now .registered ≡ d .registered
+
+-- For every plan of goals that are not refused, and every list of calls on a reader at a fresh start or a finished gap: feeding
+-- calls, however cut, and then gap calls, which by the packet rules take the plan and finish the gap. Each event that the reader
+-- gives is handed to the device. [W10]
+abbrev pub PlanCarriedOut : Type 0
+PlanCarriedOut =
+    (goals : List ℤ) (bytes : List ℕ) → goalsRefusal goals ≡ none → (plan : Plan goals bytes)
+    → (x : records .State) → records .Fresh x → (earlier : List Call) → AtStart (model protocol2) [] earlier
+    → (chunks : List (List ℕ)) (g : ℕ) → took (model protocol2) [] (since chunks g) ≡ bytes → Finished (model protocol2) [] chunks g
+    → (form : Form) (d : Device) → Ready form d (plan .packets)
+    → Obeyed goals d (hearsAll form d (given records (after records x earlier) (since chunks g)))

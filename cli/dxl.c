@@ -21,7 +21,7 @@ static const char HELP[] =
     "       dxl --version\n"
     "\n"
     "It ends with 0 where all is well, 1 where the answer is no (a log that is not sound, no packet for the ID), 2 where it does\n"
-    "not know the words, and 3 where a file cannot be read or written, or a log cannot be written or asked; then it says why.\n";
+    "not know the words, and 3 where a file cannot be read or written, or a log cannot be written, salvaged or asked; then it says why.\n";
 
 static const char HELP_WRITE[] =
     "usage: dxl log write OUT CAPTURE...\n"
@@ -51,8 +51,8 @@ static const char HELP_SALVAGE[] =
     "altered: each segment of LOG that was dropped, from 0, with the reason (1, it starts before the end of the index or of the last\n"
     "segment kept; 2, it ends behind the end of the file), whether the header changed, how many of the 254 index numbers did, and how\n"
     "many bytes behind the old index lie in no segment that was kept. LOG is only read, and OUT must not be the same file. An OUT that\n"
-    "is there is replaced once the new log is complete; until then it stays. A file of fewer than 1032 or of more than 4294967295\n"
-    "bytes is refused, 33.\n";
+    "is there is replaced once the new log is complete; until then it stays. A link is replaced itself. A file of fewer than\n"
+    "1032 or of more than 4294967295 bytes is refused, 33.\n";
 
 int help(const char *text)
 {
@@ -352,6 +352,7 @@ static int log_command(int n, char **words)
 
 int main(int n, char **words)
 {
+    hold_streams();
     if (n == 2 && asks_for_help(words[1]))
         return printed(help(HELP));
     if (n == 2 && strcmp(words[1], "--version") == 0) {

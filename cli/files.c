@@ -20,6 +20,17 @@ int say_failure(const char *name, const char *why)
     return 0;
 }
 
+/* Where a standard stream is closed, the next file that is opened would be taken for it, and what is said would go into that file. */
+void hold_streams(void)
+{
+    int file;
+    do
+        file = open("/dev/null", O_RDONLY); /* for reading, so that printing to a closed stream still fails */
+    while (file >= 0 && file <= STDERR_FILENO);
+    if (file > STDERR_FILENO)
+        close(file);
+}
+
 /* ---- signals: the line while work takes long, and what is left behind where the program is ended */
 
 static const char *volatile work;

@@ -45,6 +45,9 @@ int give_up(struct output *output, const char *why); /* nothing of it stays; say
 /* Whether the name is that of a file that is mapped. */
 int same_file(const char *name, const struct mapped *mapped);
 
+/* First of all: no file that is opened may take the place of a standard stream. */
+void hold_streams(void);
+
 /* Says on standard error what takes long, and for how many seconds: from the second one on where that is a terminal, and else every
  * ten seconds. */
 void begin_work(const char *what);

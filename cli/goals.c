@@ -24,8 +24,8 @@ static int is_space(uint8_t byte)
     return byte == ' ' || byte == '\t' || byte == '\r';
 }
 
-/* A decimal number at the start of the text, without the spaces before it; what follows it. Null where there is none, or where
- * something other than a space follows. One of many digits stays a large one. */
+/* A decimal number at the start of the text, without the spaces before it; what follows it. Null where there is none, for -0, or
+ * where something other than a space follows. One of many digits stays a large one. */
 static const uint8_t *number(const uint8_t *at, const uint8_t *end, long *value)
 {
     while (at < end && is_space(*at))
@@ -36,6 +36,8 @@ static const uint8_t *number(const uint8_t *at, const uint8_t *end, long *value)
     *value = 0;
     for (; at < end && *at >= '0' && *at <= '9'; at++)
         *value = *value > 100000 ? *value : *value * 10 + (*at - '0');
+    if (minus && *value == 0)
+        return NULL;
     if (minus)
         *value = -*value;
     return at > first && (at == end || is_space(*at)) ? at : NULL;

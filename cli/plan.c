@@ -27,14 +27,14 @@ static const char HELP_MAKE[] =
     "\n" GOALS_ARE "\n"
     "Writes the packets to OUT, one behind the other, as they go over the line; without OUT it prints them in hex, a line for each\n"
     "packet. They have 203 devices each but the last, and IDs rise. Where no goal is wanted, there is no packet. An OUT that is there\n"
-    "is replaced once the new one is complete.\n";
+    "is replaced once the new one is complete; a link is replaced itself.\n";
 
 static const char HELP_CHECK[] =
     "usage: dxl plan check GOALS PLAN\n"
     "\n" GOALS_ARE "\n"
-    "PLAN is a file of packets as 'dxl plan make' writes them to OUT. It is accepted where it is well-formed packets and nothing else,\n"
-    "each a Sync Write of goal positions to all devices that they would carry out, in which every wanted ID stands once with its goal,\n"
-    "and no other ID. Where it is not, the first thing that is wrong is said.\n";
+    "PLAN is a file of packets as 'dxl plan make' writes them to OUT. It is accepted where nothing but good packets stands in it, each\n"
+    "sets goal positions of many devices by a list that these take, and the lists together have the goals wanted, each of them once.\n"
+    "Where it is not, the first thing that is wrong is said.\n";
 
 /* ---- dxl plan make */
 
@@ -180,8 +180,8 @@ static int plan_check(int n, char **words)
         return FAILED;
     begin_work("testing the plan");
     int64_t answer = dxl_plan_check(goals.of, IDS, plan.bytes, plan.count);
-    end_work();
     packets_fit(&goals, plan.bytes, plan.count, &why);
+    end_work();
     if (answer == 1) {
         printf("%s: accepted, %zu goal%s in %zu packet%s\n", words[1], goals.wanted, goals.wanted == 1 ? "" : "s", why.packets,
                why.packets == 1 ? "" : "s");
@@ -205,7 +205,7 @@ int plan_command(int n, char **words)
     for (size_t i = 0; n >= 1 && i < sizeof commands / sizeof *commands; i++) {
         if (strcmp(words[0], commands[i].name) != 0)
             continue;
-        if (n >= 2 && asks_for_help(words[1]))
+        if ((n >= 2 && asks_for_help(words[1])) || (n >= 3 && asks_for_help(words[2])))
             return printed(help(commands[i].help));
         return commands[i].run(n - 1, words + 1);
     }

@@ -679,12 +679,12 @@ int64_t dxl_status(struct dxl_reply reply, uint8_t *out, size_t n_out);
 int64_t dxl_plan(const int32_t *goals, size_t n_goals, uint8_t *out, size_t n_out);
 
 /*
- * Tests a plan, whoever made it. It is accepted exactly where it is well-formed packets end to end, each a Sync Write to 254 at
- * address 116 with length 4 and a list that is not empty and that devices would carry out, in which every wanted ID stands once
- * over all packets with its goal, and no other ID stands.
+ * Tests a plan, whoever made it. It is accepted if it is packets one behind the other and nothing else, each of them a Sync Write
+ * of goal positions (four bytes at 116) to all devices, with one entry or more, that devices carry out; and if the entries of all
+ * packets together are one for each wanted ID, with its goal, and none for another ID. Otherwise it is not.
  *
  * A plan that is accepted, with a gap before it and behind it, leaves its goal stored in each device that is wanted, hears it
- * whole without a refusal and has limits that admit the goal; every other table stays as it was.
+ * whole without a refusal and has limits that admit the goal; of the devices that hear it so, every other table stays as it was.
  *
  * goals, n_goals   as for dxl_plan
  * plan, n_plan     any bytes, any number of them; where nothing is wanted, the plan is no bytes at all

@@ -300,6 +300,32 @@ class Salvage(Folder):
         os.close(ours)
         self.assertEqual((text, self.names()), (b"dxl: salvaging the log, 10 s\n", ["out.log"]))
 
+    # [L10]
+    def test_closed_stream(self):
+        """Where standard error is closed, what is said of long work does not go into the log that is being written."""
+        with self.out.open("wb") as file:
+            file.write(struct.pack("<4I", 1, 16, 254, 24) + struct.pack("<2I", 1040, LONG))
+            file.truncate(1040 + LONG)
+        program = subprocess.Popen([PROGRAM, "log", "salvage", str(self.out), str(self.new)], preexec_fn=lambda: os.close(2))
+        ends = time.monotonic() + PATIENCE
+        while self.unfinished() != struct.pack("<I", 1) and time.monotonic() < ends:
+            time.sleep(0.01)
+        for _ in range(25):
+            program.send_signal(signal.SIGALRM)
+            time.sleep(0.01)
+        begins = self.unfinished()
+        program.terminate()
+        program.wait(PATIENCE)
+        self.assertEqual(begins, struct.pack("<I", 1))
+
+    def unfinished(self):
+        """How the file that is being written begins."""
+        for path in Path(self.folder.name).iterdir():
+            if path != self.out:
+                with path.open("rb") as file:
+                    return file.read(4)
+        return b""
+
 
 class Plan(Folder):
     TWO = bytes.fromhex("FF FF FD 00 FE 11 00 83 74 00 04 00 03 07 00 00 00 09 FF 00 00 00 90 10")

@@ -77,10 +77,12 @@ pub record Salvage : Type 0 where
   pub unaltered : (file out report : List ℕ) → salvageRefusal file out report ≡ none → segmentsIn (salvaged file) ≡ keptSegments file
   -- of the entries each is kept or dropped; the kept ones lie in the file behind the old index and do not overlap [I22 I23]
   pub each : (file : List ℕ) → length (keptSegments file) + length (droppedIn file) ≡ entryCount file
+  -- [I22]
   pub apart : (file : List ℕ) → Apart (segmentsPlace (entryCount file)) (length file) (keptOf file (entryCount file))
   -- a sound log is refused only for want of room, and comes out byte for byte, with an empty report [I29]
   pub accepted : (file out report : List ℕ) → Sound file → length file ≤ length out → 2 * countIn file ≤ length report
       → salvageRefusal file out report ≡ none
+  -- [I29]
   pub same : (file : List ℕ) → Sound file → (salvaged file ≡ file) × (reportOf file ≡ emptyReport)
   -- and so does whatever was written [I29]
   pub again : (file out report : List ℕ) → salvageRefusal file out report ≡ none

@@ -40,11 +40,12 @@ pub record Ready (form : Form) (d : Device) (packets : List (List ℕ)) : Type 0
 
 -- what a device that was `d` is then
 pub record Obeyed (goals : List ℤ) (d now : Device) : Type 0 where
-  -- where its own ID is wanted and its stored limits admit the goal, that goal is its goal position [W10]
+  -- a goal that is wanted of it, between the limits in its table, has become its goal position [W10]
   pub stored : (goal : ℕ) → wanted goals (ownId (d .table)) ≡ goal ∷ [] → admits (d .table) goal ≡ true
       → valueOf goalPosition (now .table) ≡ pos goal
-  -- where they do not admit it, or its ID is not wanted, its table is as it was [W10]
+  -- with one that they do not admit, or none, its table is as it was [W10]
   pub refused : (goal : ℕ) → wanted goals (ownId (d .table)) ≡ goal ∷ [] → admits (d .table) goal ≡ false → now .table ≡ d .table
+  -- [W10]
   pub unwanted : wanted goals (ownId (d .table)) ≡ [] → now .table ≡ d .table
   -- whatever its ID, no byte beside the goal position changes, and no registered write [W10]
   pub others : (a : ℕ) → (a < goalPosition .address) ⊎ (endOf goalPosition ≤ a) → getD (now .table) a 0 ≡ getD (d .table) a 0

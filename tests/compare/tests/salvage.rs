@@ -149,8 +149,8 @@ fn no_logs() {
     }
 }
 
-/// A sound log comes out byte for byte, with an empty report, and so does whatever was written; that is sound, and no longer than
-/// the file. [I29 I30]
+/// Sound logs, and logs that the call has written, stay as they are and nothing is reported. What is written is sound, and not longer
+/// than the file. [I29 I30]
 #[test]
 fn salvaged_once_and_again() {
     let mut rng = Rng::new(133);

@@ -1,5 +1,6 @@
 // The test of a plan: whether bytes are Sync Writes end to end that set the wanted goals, each once, and nothing else.
-use packet::Judgement;
+use packet_rules::Judgement;
+use protocols::Protocol;
 use parameters::Found;
 use plan::Goals;
 use stuffing::Unstuffed;
@@ -156,7 +157,7 @@ fn is_plan(goals: &[i32], plan: &[u8]) -> bool
     let mut stood = [0u8; 253];
     let mut at = 0;
     while at < plan.len() {
-        let Judgement::Packet(n) = packet::judge(plan, at) else {
+        let Judgement::Packet(n) = protocols::judge(Protocol::Two, plan, at) else {
             return false;
         };
         if !mark_packet(goals, &plan[at..at + n], &mut stood) {

@@ -6,9 +6,9 @@ use native.Mathlib.Omega.{arith}
 use types.Run.{miss}
 use lib.ListN.{length}
 use Rattle.plain_reader.specs.Next.{nextEvent}
-use Rattle.packet.specs.declared.Judgement.{Judgement}
-use Rattle.packet.specs.declared.Judgement.the-variants.{Packet}
-use Rattle.plain_reader.proofs.Turns.{Turn, fits, judged-turn, look-turn, passed-turn, next-start, next-few, next-end}
+use Rattle.packet_rules.specs.declared.Judgement.{Judgement}
+use Rattle.packet_rules.specs.declared.Judgement.the-variants.{Packet}
+use Rattle.plain_reader.proofs.Turns.{Turn, fits, judged-turn, look-turn, passed-turn, start-turn, next-few, next-end}
 use borrow.Author.Needs.{needs}
 use Rattle.plain_reader.proofs.next_event.Statement.{statement}
 use Rattle.plain_reader.proofs.next_event.Tie as tie
@@ -19,11 +19,11 @@ Inv-loop segment from offset₀ offset = nextEvent segment from ≡ nextEvent se
 abbrev μ-loop : tie.MeasureT-loop
 μ-loop segment from offset₀ offset = length segment - offset
 
-next-ff-requires : tie.Need-next-ff-requires Inv-loop μ-loop
-next-ff-requires c κs = search needs
+next-start-requires : tie.Need-next-start-requires Inv-loop μ-loop
+next-start-requires c κs = search needs
 
 loop-holds : tie.Need-loop-holds Inv-loop μ-loop
-loop-holds c = next-start _ _ _ (c .next-ff .ensures)
+loop-holds c = start-turn _ _ _ (c .next-start .ensures)
 
 sub-if1 : tie.Need-sub-if1 Inv-loop μ-loop
 sub-if1 c = search needs
@@ -98,14 +98,14 @@ abbrev found : (k : tie.After-known-told2 Inv-loop μ-loop)
     → Turn (s (l (k .before .before .before))) (here (l (k .before .before .before))) (Packet (k .before .count .given .0 .0))
 found k = comes-to (k .before .before .before) _ (k .before .count .given .1)
 
-add-t20 : tie.Need-add-t20 Inv-loop μ-loop
-add-t20 c = omega (arith, found c .1)
+add-t23 : tie.Need-add-t23 Inv-loop μ-loop
+add-t23 c = omega (arith, found c .1)
 
-add-t21 : tie.Need-add-t21 Inv-loop μ-loop
-add-t21 c = omega (arith, found c .0)
+add-t24 : tie.Need-add-t24 Inv-loop μ-loop
+add-t24 c = omega (arith, found c .0)
 
-shared-slice-read-t23 : tie.Need-shared-slice-read-t23 Inv-loop μ-loop
-shared-slice-read-t23 c = found (c .before) .0
+shared-slice-read-t26 : tie.Need-shared-slice-read-t26 Inv-loop μ-loop
+shared-slice-read-t26 c = found (c .before) .0
 
 returns-2 : tie.Need-returns-2 Inv-loop μ-loop
 returns-2 c =
@@ -115,19 +115,19 @@ returns-2 c =
 enum-known-id : tie.Need-enum-known-id Inv-loop μ-loop
 enum-known-id c = search needs
 
-add-t24 : tie.Need-add-t24 Inv-loop μ-loop
-add-t24 c = search needs
+add-t27 : tie.Need-add-t27 Inv-loop μ-loop
+add-t27 c = search needs
 
 returns-3 : tie.Need-returns-3 Inv-loop μ-loop
 returns-3 c =
     let j = c .before .before .before in
     sym (l j .before .before .before .before .loop .inv ∙ comes-to j _ (c .before .id .given .1))
 
-add-next-ff : tie.Need-add-next-ff Inv-loop μ-loop
-add-next-ff c = search needs
+add-next-start : tie.Need-add-next-start Inv-loop μ-loop
+add-next-start c = search needs
 
-next-ff-requires-2 : tie.Need-next-ff-requires-2 Inv-loop μ-loop
-next-ff-requires-2 c κs = search needs
+next-start-requires-2 : tie.Need-next-start-requires-2 Inv-loop μ-loop
+next-start-requires-2 c κs = search needs
 
 loop-less : tie.Need-loop-less Inv-loop μ-loop
 loop-less c = search needs
@@ -151,7 +151,7 @@ passed k =
 loop-again : tie.Need-loop-again Inv-loop μ-loop
 loop-again c =
     let k = c .before in
-    k .before .before .before .before .before .loop .inv ∙ passed k ∙ next-start _ _ _ (c .next-ff2 .ensures)
+    k .before .before .before .before .before .loop .inv ∙ passed k ∙ start-turn _ _ _ (c .next-start2 .ensures)
 
 returns-4 : tie.Need-returns-4 Inv-loop μ-loop
 returns-4 c = sym (c .before .loop .inv ∙ next-end _ _ (c .loop-test .left))
@@ -162,7 +162,7 @@ next-event-spec =
     (tie.spec
     Inv-loop
     μ-loop
-    next-ff-requires
+    next-start-requires
     loop-holds
     sub-if1
     returns
@@ -177,15 +177,15 @@ next-event-spec =
     part-judge-whole-end
     judge-whole-requires
     enum-known-count
-    add-t20
-    add-t21
-    shared-slice-read-t23
+    add-t23
+    add-t24
+    shared-slice-read-t26
     returns-2
     enum-known-id
-    add-t24
+    add-t27
     returns-3
-    add-next-ff
-    next-ff-requires-2
+    add-next-start
+    next-start-requires-2
     loop-less
     loop-again
     returns-4)

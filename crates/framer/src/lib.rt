@@ -1,5 +1,6 @@
 // The reader's feeding and gap calls, in place on the caller's held bytes and packet buffer.
-use packet::Judgement;
+use packet_rules::Judgement;
+use protocols::Protocol;
 use windows::Scanned;
 use windows::Stop;
 ghost use mathlib.Core.Path.{_≡_};
@@ -11,8 +12,8 @@ ghost use Rattle.reading.specs.Calls.{first, fed, gapped, call};
 ghost use Rattle.reading.specs.Calls.{feed as Call·feed, gap as Call·gap};
 ghost use Rattle.reading.specs.Progress.{afterTaking};
 ghost use Rattle.packet_front.specs.Front.{idOf};
-ghost use Rattle.packet_front.specs.Begun.{lacks};
-ghost use Rattle.packet.specs.Verdict.{protocol2, answerFor, verdict};
+ghost use Rattle.packet_rules.specs.Answers.{answerBy};
+ghost use Rattle.packet.specs.Verdict.{protocol2};
 ghost use Rattle.windows.specs.Scan.{onFrom, sizeSeen, answerOf, resultOf};
 ghost use Rattle.framer.specs.Results.{packetBytes, stepFor, heldFor, packetFor};
 ghost use Rattle.framer.specs.Delivered.{eventWith, sizeIn, Delivered};
@@ -111,7 +112,7 @@ fn deliver_chunk(
 // The held bytes fill their buffer: with one byte more they are judged in the packet buffer. All but the first stay held.
 fn judge_longest(held: &mut [u8], byte: u8, packet: &mut [u8]) -> Judgement
     requires { ⌜ (0 < length (now held)) × (length (now packet) ≡ length (now held) + 1) ⌝ }
-    ensures { λ r. ⌜ r ≡ answerFor (verdict (now (held .entry) ++ byte ∷ [])) (lacks (now (held .entry) ++ byte ∷ [])) ⌝ }
+    ensures { λ r. ⌜ r ≡ answerBy protocol2 (now (held .entry) ++ byte ∷ []) ⌝ }
     ensures { λ _. ⌜ (now (packet .exit) ≡ now (held .entry) ++ byte ∷ [])
         × (now (held .exit) ≡ drop 1 (now (held .entry) ++ byte ∷ [])) ⌝ }
 {
@@ -120,7 +121,7 @@ fn judge_longest(held: &mut [u8], byte: u8, packet: &mut [u8]) -> Judgement
     packet[n] = byte;
     buffers::shift(held, 1, n);
     held[n - 1] = byte;
-    packet::judge(packet, 0)
+    protocols::judge(Protocol::Two, packet, 0)
 }
 
 // Reads the chunk from `from` on, where no bytes are held.
@@ -129,7 +130,7 @@ fn read_chunk(held: &mut [u8], chunk: &[u8], from: usize, packet: &mut [u8]) -> 
     ensures { λ r. ⌜ Delivered (afterTaking from (fed protocol2 [] (drop from (now (chunk .entry))))) r
         (now (held .exit)) (now (packet .exit)) ⌝ }
 {
-    let ahead = windows::advance(&chunk[from..]);
+    let ahead = windows::advance(Protocol::Two, &chunk[from..]);
     let seen = ahead.seen;
     deliver_chunk(held, &chunk[from..], seen, ahead.end, from, packet)
 }
@@ -143,7 +144,7 @@ fn feed_slices(held: &mut [u8], count: usize, chunk: &[u8], packet: &mut [u8]) -
     let mut n = count;
     let mut taken = 0;
     loop {
-        match windows::fill(held, n, &chunk[taken..]) {
+        match windows::fill(Protocol::Two, held, n, &chunk[taken..]) {
             Stop::Done {
                 seen,
                 end,
@@ -174,7 +175,7 @@ fn gap_slices(held: &mut [u8], count: usize, packet: &mut [u8]) -> Step
     ensures { λ r. ⌜ Delivered (gapped (first protocol2 closed (take count (now (held .entry))))) r
         (now (held .exit)) (now (packet .exit)) ⌝ }
 {
-    let seen = windows::scan_closed(&held[..count]);
+    let seen = windows::scan_closed(Protocol::Two, &held[..count]);
     if let Scanned::Waiting { at: _ } = seen {
         return stepped(0, 0, StepEvent::Silent);
     }

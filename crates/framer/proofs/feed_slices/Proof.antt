@@ -8,7 +8,7 @@ use Rattle.packet.specs.Verdict.{protocol2}
 use Rattle.packet.proofs.Laws.{laws}
 use Rattle.windows.specs.declared.Stop.the-variants.{Full}
 use Rattle.windows.specs.Scan.{Filled}
-use Rattle.packet.proofs.Answers.{was-packet, was-bad}
+use Rattle.packet_rules.proofs.Answers.{was-packet, was-bad}
 use Rattle.framer.proofs.Turns.{rest-here, filled-rest, room-for, ends-on, ends-fed, passed-fed, filled-done, filled-passed, filled-full}
 use Rattle.framer.proofs.Turns.{full-packet, full-bad, full-other}
 use mathlib.Core.Path.{_≡_, refl, sym, ap, _∙_}
@@ -51,7 +51,7 @@ module _ (g : tie.After-slice-known3 Inv-loop μ-loop) where
   s = p .before .before .before .before
 
   abbrev held′ : List ℕ
-  held′ = f .fill .last .0
+  held′ = f .fill .last .1 .0
 
   same : length held′ ≡ 1030
   same = g .before .held .given ∙ p .loop .inv .1

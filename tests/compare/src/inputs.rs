@@ -82,7 +82,7 @@ pub fn v1_packet(rng: &mut Rng, length: usize) -> Vec<u8> {
 fn v1_part(rng: &mut Rng, longest: usize) -> Vec<u8> {
     let length = if rng.one_in(3) { rng.between(1, longest) } else { rng.between(1, longest.min(12)) };
     let mut whole = v1_packet(rng, length);
-    match rng.between(0, 11) {
+    match rng.between(0, 12) {
         // runs of FF, and fronts that promise few bytes, many, or too few
         0 | 1 => vec![0xFF; rng.between(1, 5)],
         2 => vec![0xFF, 0xFF, id(rng), rng.pick(&[0, 1, 2, 3, 9, 254, 255])],
@@ -92,12 +92,12 @@ fn v1_part(rng: &mut Rng, longest: usize) -> Vec<u8> {
             whole.truncate(kept);
             whole
         }
-        5 => {
-            let place = rng.between(0, whole.len() - 1);
+        5 | 6 => {
+            let place = rng.between(2, whole.len() - 1);
             whole[place] ^= rng.between(1, 255) as u8;
             whole
         }
-        6 | 7 => {
+        7 | 8 => {
             // a packet inside one that is well-formed, or whose checksum is wrong
             let (before, after) = (rng.between(0, 3), rng.between(0, 5));
             let inside = [vec![0xFF; before], whole, rng.bytes(after)].concat();

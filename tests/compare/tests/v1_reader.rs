@@ -21,7 +21,7 @@ fn read_in_chunks<'a>(reader: &mut V1ReaderPair, chunks: impl Iterator<Item = &'
     assert!(reader.held().is_empty());
 }
 
-/// Every cut into three chunks, empty ones too.
+/// Every cut into three chunks, empty ones too. [O6 O7]
 #[test]
 fn every_two_and_three_chunks() {
     let mut rng = Rng::new(140);
@@ -94,7 +94,7 @@ fn odd_lists_of_calls() {
     }
 }
 
-/// The count that is refused is the first above 258, also where Protocol 2.0 would accept it; nothing lent changes.
+/// The count that is refused is the first above 258, also where Protocol 2.0 would accept it; nothing lent changes. [N9]
 #[test]
 fn counts_that_are_refused() {
     let mut rng = Rng::new(143);
@@ -110,7 +110,7 @@ fn counts_that_are_refused() {
     }
 }
 
-/// The longest packet byte by byte, good and with one byte changed: 258 bytes are held before the last one.
+/// The longest packet byte by byte, good and with one byte changed: 258 bytes are held before the last one. [O1 O3]
 #[test]
 fn longest_packet_byte_by_byte() {
     let mut rng = Rng::new(144);
@@ -128,7 +128,7 @@ fn longest_packet_byte_by_byte() {
     }
 }
 
-/// FF FF FF begins no packet at its first byte, and 253 is an ID in Protocol 1.0 alone.
+/// FF FF FF begins no packet at its first byte, and 253 is an ID in Protocol 1.0 alone. [O2]
 #[test]
 fn runs_of_ff_and_the_id_253() {
     let mut rng = Rng::new(145);
@@ -147,7 +147,7 @@ fn runs_of_ff_and_the_id_253() {
     }
 }
 
-/// Damage, then packets, then more bytes than the longest packet lacks: all the packets come out, and nothing else after them.
+/// Damage, then packets: what comes out before the gap are the first events of the reading, and at the gap all of them. [O8]
 #[test]
 fn packets_after_noise_all_come_out() {
     let mut rng = Rng::new(146);

@@ -240,7 +240,8 @@ fn clear_rest(held: &mut [u8], packet: &mut [u8], step: Step)
     buffers::clear(packet, size);
 }
 
-// A feeding call by the protocol, where the buffers are one byte less than, and as long as, its longest packet.
+// A feeding call by the protocol, where the buffers are one byte less than, and as long as, its longest packet, and no more bytes
+// are held than there is room for.
 fn feed_by(
     protocol: Protocol,
     held: &mut [u8],
@@ -248,14 +249,11 @@ fn feed_by(
     chunk: &[u8],
     packet: &mut [u8],
 ) -> Step
-    requires { ⌜ (length (now held) ≡ mostHeld protocol) × (length (now packet) ≡ rulesOf protocol .longest) ⌝ }
+    requires { ⌜ (count ≤ mostHeld protocol) × (length (now held) ≡ mostHeld protocol) × (length (now packet) ≡ rulesOf protocol .longest) ⌝ }
     ensures { λ r. ⌜ (r ≡ stepFor protocol count (call (rulesOf protocol) (take count (now (held .entry))) (Call·feed (now (chunk .entry)))))
         × (now (held .exit) ≡ heldFor protocol count (now (held .entry)) (call (rulesOf protocol) (take count (now (held .entry))) (Call·feed (now (chunk .entry)))))
         × (now (packet .exit) ≡ packetFor protocol count (now (packet .entry)) (call (rulesOf protocol) (take count (now (held .entry))) (Call·feed (now (chunk .entry))))) ⌝ }
 {
-    if held.len() < count {
-        return stepped(0, count, StepEvent::Refused);
-    }
     let step = feed_slices(protocol, held, count, chunk, packet);
     clear_rest(held, packet, step);
     step
@@ -263,14 +261,11 @@ fn feed_by(
 
 // A gap call, likewise.
 fn gap_by(protocol: Protocol, held: &mut [u8], count: usize, packet: &mut [u8]) -> Step
-    requires { ⌜ (length (now held) ≡ mostHeld protocol) × (length (now packet) ≡ rulesOf protocol .longest) ⌝ }
+    requires { ⌜ (count ≤ mostHeld protocol) × (length (now held) ≡ mostHeld protocol) × (length (now packet) ≡ rulesOf protocol .longest) ⌝ }
     ensures { λ r. ⌜ (r ≡ stepFor protocol count (call (rulesOf protocol) (take count (now (held .entry))) Call·gap))
         × (now (held .exit) ≡ heldFor protocol count (now (held .entry)) (call (rulesOf protocol) (take count (now (held .entry))) Call·gap))
         × (now (packet .exit) ≡ packetFor protocol count (now (packet .entry)) (call (rulesOf protocol) (take count (now (held .entry))) Call·gap)) ⌝ }
 {
-    if held.len() < count {
-        return stepped(0, count, StepEvent::Refused);
-    }
     let step = gap_slices(protocol, held, count, packet);
     clear_rest(held, packet, step);
     step
@@ -284,6 +279,9 @@ pub fn feed_in(held: &mut [u8; 1030], count: usize, chunk: &[u8], packet: &mut [
         × (now (held .exit) ≡ heldFor Two count (now (held .entry)) (call (rulesOf Two) (take count (now (held .entry))) (Call·feed (now (chunk .entry)))))
         × (now (packet .exit) ≡ packetFor Two count (now (packet .entry)) (call (rulesOf Two) (take count (now (held .entry))) (Call·feed (now (chunk .entry))))) ⌝ }
 {
+    if 1030 < count {
+        return stepped(0, count, StepEvent::Refused);
+    }
     feed_by(Protocol::Two, held, count, chunk, packet)
 }
 
@@ -294,6 +292,9 @@ pub fn gap_in(held: &mut [u8; 1030], count: usize, packet: &mut [u8; 1031]) -> S
         × (now (held .exit) ≡ heldFor Two count (now (held .entry)) (call (rulesOf Two) (take count (now (held .entry))) Call·gap))
         × (now (packet .exit) ≡ packetFor Two count (now (packet .entry)) (call (rulesOf Two) (take count (now (held .entry))) Call·gap)) ⌝ }
 {
+    if 1030 < count {
+        return stepped(0, count, StepEvent::Refused);
+    }
     gap_by(Protocol::Two, held, count, packet)
 }
 
@@ -303,6 +304,9 @@ pub fn feed_p1(held: &mut [u8; 258], count: usize, chunk: &[u8], packet: &mut [u
         × (now (held .exit) ≡ heldFor One count (now (held .entry)) (call (rulesOf One) (take count (now (held .entry))) (Call·feed (now (chunk .entry)))))
         × (now (packet .exit) ≡ packetFor One count (now (packet .entry)) (call (rulesOf One) (take count (now (held .entry))) (Call·feed (now (chunk .entry))))) ⌝ }
 {
+    if 258 < count {
+        return stepped(0, count, StepEvent::Refused);
+    }
     feed_by(Protocol::One, held, count, chunk, packet)
 }
 
@@ -311,6 +315,9 @@ pub fn gap_p1(held: &mut [u8; 258], count: usize, packet: &mut [u8; 259]) -> Ste
         × (now (held .exit) ≡ heldFor One count (now (held .entry)) (call (rulesOf One) (take count (now (held .entry))) Call·gap))
         × (now (packet .exit) ≡ packetFor One count (now (packet .entry)) (call (rulesOf One) (take count (now (held .entry))) Call·gap)) ⌝ }
 {
+    if 258 < count {
+        return stepped(0, count, StepEvent::Refused);
+    }
     gap_by(Protocol::One, held, count, packet)
 }
 
@@ -325,6 +332,9 @@ pub fn feed_mercury(
         × (now (held .exit) ≡ heldFor Mercury count (now (held .entry)) (call (rulesOf Mercury) (take count (now (held .entry))) (Call·feed (now (chunk .entry)))))
         × (now (packet .exit) ≡ packetFor Mercury count (now (packet .entry)) (call (rulesOf Mercury) (take count (now (held .entry))) (Call·feed (now (chunk .entry))))) ⌝ }
 {
+    if 258 < count {
+        return stepped(0, count, StepEvent::Refused);
+    }
     feed_by(Protocol::Mercury, held, count, chunk, packet)
 }
 
@@ -333,5 +343,8 @@ pub fn gap_mercury(held: &mut [u8; 258], count: usize, packet: &mut [u8; 259]) -
         × (now (held .exit) ≡ heldFor Mercury count (now (held .entry)) (call (rulesOf Mercury) (take count (now (held .entry))) Call·gap))
         × (now (packet .exit) ≡ packetFor Mercury count (now (packet .entry)) (call (rulesOf Mercury) (take count (now (held .entry))) Call·gap)) ⌝ }
 {
+    if 258 < count {
+        return stepped(0, count, StepEvent::Refused);
+    }
     gap_by(Protocol::Mercury, held, count, packet)
 }

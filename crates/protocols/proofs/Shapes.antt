@@ -12,7 +12,7 @@ use Rattle.reading.specs.Rules.{Laws}
 use Rattle.reading.specs.Progress.{Settles}
 use Rattle.reading.proofs.Ahead.{NoneBegins}
 use Rattle.packet_rules.specs.Shape.{lacks}
-use Rattle.packet_rules.specs.Answers.{begunBy, settledBy, answerBy}
+use Rattle.packet_rules.specs.Answers.{begunBy, settledBy, answerFor, answerBy}
 use Rattle.packet_rules.specs.Starts.{beforeStart}
 use Rattle.packet_rules.specs.declared.Begun.the-variants.{Whole}
 use Rattle.packet_rules.specs.declared.Judgement.{Judgement}
@@ -26,11 +26,13 @@ use Rattle.packet_front.proofs.Starts.{front-begins as begins2}
 use Rattle.packet.proofs.Laws.{shape-laws as laws2}
 use Rattle.packet.proofs.Looks.{look-whole as whole2}
 use Rattle.packet_v1.specs.Packet.{upTo, lastOfP1, lastOfMercury}
-use Rattle.packet_v1.specs.Verdict.{lengthAgrees as lengthAgrees1, shapeUpTo}
+use Rattle.packet_v1.specs.Packet.{lengthOf as lengthOf1}
+use Rattle.packet_v1.specs.Verdict.{judged, shapeUpTo}
+use Rattle.packet_v1.specs.Verdict.{lengthAgrees as lengthAgrees1, frontAgrees as frontAgrees1, mayBegin as mayBegin1}
 use Rattle.packet_v1.proofs.Laws.{shape-laws as laws1, front-begins as begins1}
 use Rattle.protocols.specs.declared.Protocol.{Protocol}
 use Rattle.protocols.specs.declared.Protocol.the-variants.{Two, One, Mercury}
-use Rattle.protocols.specs.Protocols.{shapeOf, rulesOf, frontAgreesOf, lengthIn, leastLength, greatestLength, mayBeginOf, wholeOf}
+use Rattle.protocols.specs.Protocols.{shapeOf, rulesOf, lastOf, frontAgreesOf, lengthIn, leastLength, greatestLength, mayBeginOf, wholeOf}
 
 -- ---- the laws
 
@@ -101,6 +103,49 @@ pub small : (p : Protocol) → (shapeOf p .front ≤ 7) × (shapeOf p .front ≤
 small Two = (omega arith, omega arith, omega arith)
 small One = (omega arith, omega arith, omega arith)
 small Mercury = (omega arith, omega arith, omega arith)
+
+-- ---- the old boards have one arm
+
+module _ (p : Protocol) (old : p ≡ Two → ⊥) (s : List ℕ) where
+  pub old-front : frontAgrees1 (upTo (lastOf p)) s ≡ frontAgreesOf p s
+  old-front = by p old
+    where
+      by : (p : Protocol) → (p ≡ Two → ⊥) → frontAgrees1 (upTo (lastOf p)) s ≡ frontAgreesOf p s
+      by Two n = absurd (n refl)
+      by One n = refl
+      by Mercury n = refl
+
+  pub old-long : shapeOf p .front ≤ length s → 4 ≤ length s
+  old-long h = by p old h
+    where
+      by : (p : Protocol) → (p ≡ Two → ⊥) → shapeOf p .front ≤ length s → 4 ≤ length s
+      by Two n h = absurd (n refl)
+      by One n h = h
+      by Mercury n h = h
+
+  pub old-length : lengthOf1 s ≡ lengthIn p s
+  old-length = by p old
+    where
+      by : (p : Protocol) → (p ≡ Two → ⊥) → lengthOf1 s ≡ lengthIn p s
+      by Two n = absurd (n refl)
+      by One n = refl
+      by Mercury n = refl
+
+  pub old-begins : mayBegin1 s ≡ mayBeginOf p s
+  old-begins = by p old
+    where
+      by : (p : Protocol) → (p ≡ Two → ⊥) → mayBegin1 s ≡ mayBeginOf p s
+      by Two n = absurd (n refl)
+      by One n = refl
+      by Mercury n = refl
+
+  pub old-whole : answerFor (judged s) 0 ≡ wholeOf p s
+  old-whole = by p old
+    where
+      by : (p : Protocol) → (p ≡ Two → ⊥) → answerFor (judged s) 0 ≡ wholeOf p s
+      by Two n = absurd (n refl)
+      by One n = refl
+      by Mercury n = refl
 
 -- ---- all bytes of a packet
 

@@ -24,7 +24,7 @@ shapeOf Two = shape
 shapeOf One = shapeUpTo lastOfP1
 shapeOf Mercury = shapeUpTo lastOfMercury
 
--- [O6 O8]
+-- [O13]
 abbrev pub rulesOf : Protocol → Rules
 rulesOf p = rules (shapeOf p)
 
@@ -36,6 +36,12 @@ idPlace Mercury = 2
 
 abbrev pub idIn : Protocol → List ℕ → ℕ
 idIn p w = getD w (idPlace p) 0
+
+-- the largest ID of a device [O2 P2]
+abbrev pub lastOf : Protocol → ℕ
+lastOf Two = 252
+lastOf One = lastOfP1
+lastOf Mercury = lastOfMercury
 
 -- what the code asks of the front: header and ID, the length field and its bounds [O1-O3 P1-P5]
 abbrev pub frontAgreesOf : Protocol → List ℕ → Bool

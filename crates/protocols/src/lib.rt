@@ -7,7 +7,7 @@ ghost use Prim.Native.Nat.{_+_, _≤_};
 ghost use lib.ListN.{length, drop};
 ghost use Rattle.packet_rules.specs.Answers.{begunBy, answerBy};
 ghost use Rattle.packet_rules.specs.Starts.{beforeStart};
-ghost use Rattle.protocols.specs.Protocols.{shapeOf, rulesOf, idPlace, frontAgreesOf, lengthIn, leastLength, greatestLength, mayBeginOf, wholeOf};
+ghost use Rattle.protocols.specs.Protocols.{shapeOf, rulesOf, idPlace, lastOf, frontAgreesOf, lengthIn, leastLength, greatestLength, mayBeginOf, wholeOf};
 
 // Protocol 2.0, and those of the old boards: Protocol 1.0 and Mercury.
 pub enum Protocol {
@@ -49,14 +49,24 @@ fn front(protocol: Protocol) -> usize
     }
 }
 
+// The largest ID of a device.
+fn last_id(protocol: Protocol) -> u8
+    ensures { λ r. ⌜ r ≡ lastOf protocol ⌝ }
+{
+    match protocol {
+        Protocol::Two => packet_front::MAX_ID,
+        Protocol::One => packet_v1::LAST_OF_P1,
+        Protocol::Mercury => packet_v1::LAST_OF_MERCURY,
+    }
+}
+
 // Whether the bytes that are there agree with header and ID.
 fn front_agrees(protocol: Protocol, s: &[u8]) -> bool
     ensures { λ r. ⌜ r ≡ frontAgreesOf protocol (now (s .entry)) ⌝ }
 {
     match protocol {
         Protocol::Two => packet_front::front_agrees(s),
-        Protocol::One => packet_v1::front_agrees(packet_v1::LAST_OF_P1, s),
-        Protocol::Mercury => packet_v1::front_agrees(packet_v1::LAST_OF_MERCURY, s),
+        _ => packet_v1::front_agrees(last_id(protocol), s),
     }
 }
 
@@ -67,8 +77,7 @@ fn length_in(protocol: Protocol, s: &[u8]) -> usize
 {
     match protocol {
         Protocol::Two => packet_front::word(s[5], s[6]),
-        Protocol::One => s[3] as usize,
-        Protocol::Mercury => s[3] as usize,
+        _ => s[3] as usize,
     }
 }
 
@@ -124,8 +133,7 @@ fn may_begin(protocol: Protocol, s: &[u8]) -> bool
 {
     match protocol {
         Protocol::Two => packet_front::may_begin(s),
-        Protocol::One => packet_v1::may_begin(s),
-        Protocol::Mercury => packet_v1::may_begin(s),
+        _ => packet_v1::may_begin(s),
     }
 }
 
@@ -150,8 +158,7 @@ pub fn judge_whole(protocol: Protocol, packet: &[u8]) -> Judgement
 {
     match protocol {
         Protocol::Two => packet::judge_whole(packet),
-        Protocol::One => packet_v1::judge_whole(packet),
-        Protocol::Mercury => packet_v1::judge_whole(packet),
+        _ => packet_v1::judge_whole(packet),
     }
 }
 

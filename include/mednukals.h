@@ -87,7 +87,7 @@ enum {
     DXL_BAD_TABLE_ID = 22,   /* the control table's ID, byte 7, is above 252 */
     DXL_BAD_REGISTERED = 23, /* the registered write's count is above 8 */
     DXL_SHORT_REPLY = 24,    /* the reply buffer has fewer than 32 bytes */
-    DXL_BAD_READER = 25,     /* the reader's count is above 1,030 */
+    DXL_BAD_READER = 25,     /* the reader's count is above 1,030; of an old board's reader above 258 */
     DXL_BAD_LOG = 31,        /* a file that is not laid out as a log, or segments of which no log can be made */
     DXL_BAD_LOG_ID = 32,     /* an ID of 253 or 255, asked of a log */
     DXL_BAD_LOG_SIZE = 33,   /* a file to be salvaged that is shorter than a log can be, or longer */
@@ -102,6 +102,7 @@ enum {
     DXL_MAX_HELD = 1030,   /* the most bytes that a reader holds between two calls */
     DXL_TABLE_BYTES = 136, /* the control table */
     DXL_V1_MAX_PACKET = 259, /* the longest packet of Protocol 1.0 and Mercury */
+    DXL_V1_MAX_HELD = 258, /* the most bytes that a reader of these holds between two calls */
     DXL_MAX_STATUS = 21,   /* the device's longest status packet; of a reply that it did not make, dxl_status may write 22 */
     DXL_MIN_REPLY = 32,    /* the shortest reply buffer that is accepted */
     DXL_LOG_FRONT = 1032,  /* a log's bytes before its segments, without the directory */
@@ -262,9 +263,9 @@ enum {
 /* What a reader's call returns. */
 struct dxl_step {
     size_t taken; /* how many bytes of the chunk were taken; 0 from a gap call */
-    size_t count; /* DXL_PACKET: the packet's byte count, 10 to 1,031; otherwise 0 */
+    size_t count; /* DXL_PACKET: the packet's byte count, 10 to 1,031, of an old board 6 to 259; otherwise 0 */
     uint8_t kind; /* DXL_NO_EVENT, DXL_PACKET, DXL_BAD_CHECKSUM, or DXL_BAD_READER if the call is refused */
-    uint8_t id;   /* DXL_PACKET, DXL_BAD_CHECKSUM: the packet's ID, 0 to 252 or 254; otherwise 0 */
+    uint8_t id;   /* DXL_PACKET, DXL_BAD_CHECKSUM: the packet's ID, 0 to 252 or 254, in Protocol 1.0 also 253; otherwise 0 */
 };
 
 /*
@@ -385,6 +386,22 @@ struct dxl_step dxl_reader_gap(struct dxl_reader *reader, uint8_t packet[1031]);
 /* The same two calls on a record in two parts: held has its bytes, *count its count. */
 struct dxl_step dxl_feed(uint8_t held[1030], size_t *count, const uint8_t *chunk, size_t n, uint8_t packet[1031]);
 struct dxl_step dxl_gap(uint8_t held[1030], size_t *count, uint8_t packet[1031]);
+
+/*
+ * The readers of the old boards, on held bytes and their count, as dxl_feed and dxl_gap and with all that is said above: packets of
+ * Protocol 1.0 or Mercury, as dxl_p1_encode and dxl_mercury_encode write them, with 259 in the place of 1,031 and 258 in that of
+ * 1,030. A packet has 6 to 259 bytes; its body stands between byte 4 and the checksum, its last byte, and is not stuffed. A
+ * DXL_BAD_CHECKSUM is not promised for every change of neighbouring bytes: a sum does not tell all of them.
+ *
+ * FF is no ID, so that of several FF only the last two may begin a packet. A line keeps to one protocol; a program that does not
+ * know which may read it with two readers.
+ *
+ * Refused with kind DXL_BAD_READER if *count is above 258, also where dxl_feed would accept it.
+ */
+struct dxl_step dxl_p1_feed(uint8_t held[258], size_t *count, const uint8_t *chunk, size_t n, uint8_t packet[259]);
+struct dxl_step dxl_p1_gap(uint8_t held[258], size_t *count, uint8_t packet[259]);
+struct dxl_step dxl_mercury_feed(uint8_t held[258], size_t *count, const uint8_t *chunk, size_t n, uint8_t packet[259]);
+struct dxl_step dxl_mercury_gap(uint8_t held[258], size_t *count, uint8_t packet[259]);
 
 /* The answer of dxl_next_event. Where there is no event, all of it is 0. */
 struct dxl_event {

@@ -22,7 +22,7 @@ WORDS = {"DEVICE_ID": "ID", "NO_ACCESS": "ACCESS"}
 # Names of the header for which the code may have no constant: it gives these numbers in one place, or has them as the length of an
 # array.
 NOT_IN_CODE = {"BAD_ID", "TOO_LONG", "NO_ROOM", "BAD_STUFFING", "BAD_TABLE_ID", "BAD_REGISTERED", "SHORT_REPLY", "BAD_READER",
-               "BAD_LOG", "BAD_LOG_ID", "BAD_LOG_SIZE", "WRONG_INDEX", "NOT_GOALS", "BAD_GOAL", "MAX_PACKET", "V1_MAX_PACKET",
+               "BAD_LOG", "BAD_LOG_ID", "BAD_LOG_SIZE", "WRONG_INDEX", "NOT_GOALS", "BAD_GOAL", "MAX_PACKET", "V1_MAX_PACKET", "V1_MAX_HELD",
                "MAX_BODY", "MAX_HELD", "MAX_STATUS", "NO_EVENT", "PACKET", "BAD_CHECKSUM"}
 # A constant that begins so is in the header.
 GROUPS = ("REG_", "SIZE_", "FRESH_", "INST_", "ERROR_")

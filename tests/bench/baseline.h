@@ -21,6 +21,10 @@ struct dxl_step baseline_feed(uint8_t held[1030], size_t *count, const uint8_t *
 struct dxl_step baseline_gap(uint8_t held[1030], size_t *count, uint8_t packet[1031]);
 struct dxl_step baseline_reader_feed(struct dxl_reader *reader, const uint8_t *chunk, size_t n, uint8_t packet[1031]);
 struct dxl_step baseline_reader_gap(struct dxl_reader *reader, uint8_t packet[1031]);
+struct dxl_step baseline_p1_feed(uint8_t held[258], size_t *count, const uint8_t *chunk, size_t n, uint8_t packet[259]);
+struct dxl_step baseline_p1_gap(uint8_t held[258], size_t *count, uint8_t packet[259]);
+struct dxl_step baseline_mercury_feed(uint8_t held[258], size_t *count, const uint8_t *chunk, size_t n, uint8_t packet[259]);
+struct dxl_step baseline_mercury_gap(uint8_t held[258], size_t *count, uint8_t packet[259]);
 struct dxl_event baseline_next_event(const uint8_t *segment, size_t n, size_t from);
 
 /* The question reads every segment; the test takes the layout for right. */

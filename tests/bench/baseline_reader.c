@@ -1,29 +1,9 @@
 #include <string.h>
 
 #include "baseline.h"
+#include "row.h"
 
 enum { BEFORE_LENGTH = 5, BEFORE_BODY = 7, SHORTEST_LENGTH = 3, LONGEST_LENGTH = 1024 };
-
-/* The held bytes and those of the chunk after them, as one row that is not joined in memory. */
-struct row {
-    const uint8_t *held, *chunk;
-    size_t count, all;
-};
-
-static uint8_t byte_at(const struct row *row, size_t i)
-{
-    return i < row->count ? row->held[i] : row->chunk[i - row->count];
-}
-
-/* memmove, because the row's held bytes go back to where they come from. */
-static void copy(const struct row *row, size_t from, size_t n, uint8_t *to)
-{
-    size_t of_held = from >= row->count ? 0 : row->count - from < n ? row->count - from : n;
-    if (of_held > 0)
-        memmove(to, row->held + from, of_held);
-    if (n > of_held)
-        memcpy(to + of_held, row->chunk + (from + of_held - row->count), n - of_held);
-}
 
 static int well_stuffed(const uint8_t *body, size_t n)
 {
@@ -42,8 +22,6 @@ static int well_stuffed(const uint8_t *body, size_t n)
     }
     return 1;
 }
-
-enum verdict { NOTHING, WAITS, WHOLE };
 
 /* Whether all of a candidate's bytes are there, and then how many they are. */
 static enum verdict look(const struct row *row, size_t at, size_t *size)
@@ -68,19 +46,6 @@ static enum verdict look(const struct row *row, size_t at, size_t *size)
         return NOTHING;
     *size = BEFORE_BODY + length;
     return have < *size ? WAITS : WHOLE;
-}
-
-/* What is held from now on: the row's bytes between two offsets. */
-static void hold(const struct row *row, size_t from, size_t to, uint8_t *held, size_t *count)
-{
-    copy(row, from, to - from, held);
-    *count = to - from;
-    memset(held + *count, 0, DXL_MAX_HELD - *count);
-}
-
-static void end_packet(uint8_t *packet, size_t count)
-{
-    memset(packet + count, 0, DXL_MAX_PACKET - count);
 }
 
 static struct dxl_step read_on(uint8_t *held, size_t *count, const uint8_t *chunk, size_t n, uint8_t *packet, int closed)
@@ -117,13 +82,13 @@ static struct dxl_step read_on(uint8_t *held, size_t *count, const uint8_t *chun
         } else {
             step.kind = DXL_BAD_CHECKSUM;
         }
-        end_packet(packet, step.count);
-        hold(&row, right ? at + size : at + 1, decided, held, count);
+        end_packet(packet, step.count, DXL_MAX_PACKET);
+        hold(&row, right ? at + size : at + 1, decided, held, count, DXL_MAX_HELD);
         return step;
     }
-    end_packet(packet, 0);
+    end_packet(packet, 0, DXL_MAX_PACKET);
     step.taken = n;
-    hold(&row, at, row.all, held, count);
+    hold(&row, at, row.all, held, count, DXL_MAX_HELD);
     return step;
 }
 

@@ -237,6 +237,19 @@ static uint16_t record_baseline(uint16_t last, size_t n)
     return read_line(&baseline, last, n);
 }
 
+/* The longest packet of the old boards is shorter, and the same buffers serve. */
+static uint16_t v1_ours(uint16_t last, size_t n)
+{
+    static const struct calls ours = {dxl_p1_feed, dxl_p1_gap, NULL, NULL};
+    return read_line(&ours, last, n);
+}
+
+static uint16_t v1_baseline(uint16_t last, size_t n)
+{
+    static const struct calls baseline = {baseline_p1_feed, baseline_p1_gap, NULL, NULL};
+    return read_line(&baseline, last, n);
+}
+
 typedef struct dxl_event finder(const uint8_t *segment, size_t n, size_t from);
 
 /* The whole line as one segment. */
@@ -661,8 +674,10 @@ static int measure_reader(void)
     for (size_t i = 0; i < LINES; i++)
         if (!measure_line("read", &lines[i], read_ours, read_baseline) || !measure_plain(&lines[i]))
             return 0;
+    static const struct line_kind old = {"packets of 10", packets_v1}, noise = {"worst noise", worst_noise_v1};
     return measure_line("read record", &lines[PACKETS_OF_14], record_ours, record_baseline)
-           && measure_line("read record", &lines[RANDOM_BYTES], record_ours, record_baseline);
+           && measure_line("read record", &lines[RANDOM_BYTES], record_ours, record_baseline)
+           && measure_line("read 1.0", &old, v1_ours, v1_baseline) && measure_line("read 1.0", &noise, v1_ours, v1_baseline);
 }
 
 static int measure_exchange(const char *what, size_t n)

@@ -111,6 +111,25 @@ const struct line_kind lines[LINES] = {
     [REPEATED_FF_FF_FD] = {"repeated FF FF FD", repeated_ff_ff_fd},
 };
 
+size_t packets_v1(uint8_t *line, size_t n)
+{
+    size_t at = 0;
+    for (uint8_t id = 0; at + 10 <= n; id = id < 252 ? id + 1 : 0, at += 10) {
+        uint8_t packet[10] = {0xFF, 0xFF, id, 6, 0x00, 0x06, 0x04, 0x26, 0x11, 0};
+        for (size_t i = 2; i < 9; i++)
+            packet[9] = (uint8_t)(packet[9] + packet[i]);
+        packet[9] ^= 0xFF;
+        memcpy(line + at, packet, sizeof packet);
+    }
+    return at;
+}
+
+size_t worst_noise_v1(uint8_t *line, size_t n)
+{
+    static const uint8_t front[] = {0xFF, 0xFF, 0x01, 0xFF};
+    return repeat(front, sizeof front, line, n);
+}
+
 /*
  * Headers seven bytes apart, each of a packet whose checksum is right and whose body is not well stuffed, since the next header
  * stands in it. The last header has no packet. The checksums follow in the order of the headers.

@@ -1,6 +1,6 @@
 /*
  * Calls the archive from C, with every packet that the maker's pages print: its checksum, and its body unstuffed and encoded
- * again. Those of Protocol 1.0 and Mercury are encoded again.
+ * again. Those of Protocol 1.0 and Mercury are encoded again, and read in chunks.
  * usage: published PACKETS PACKETS_V1
  */
 #include <stdio.h>
@@ -85,6 +85,47 @@ static int encodes_v1_again(encoder *encode, const uint8_t *packet, size_t n)
            && memcmp(out, packet, n) == 0;
 }
 
+struct reader_v1 {
+    struct dxl_step (*feed)(uint8_t held[258], size_t *count, const uint8_t *chunk, size_t n, uint8_t packet[259]);
+    struct dxl_step (*gap)(uint8_t held[258], size_t *count, uint8_t packet[259]);
+};
+
+static const struct reader_v1 p1 = {dxl_p1_feed, dxl_p1_gap}, mercury = {dxl_mercury_feed, dxl_mercury_gap};
+
+/* Behind some FF and a front that promises more than there is, in two chunks: the gap gives the packet, and then nothing. */
+static int reads_v1(const struct reader_v1 *reader, const uint8_t *bytes, size_t n)
+{
+    static const uint8_t noise[] = {0xFF, 0xFF, 0xFF, 0xFF, 0x05, 0xFF};
+    uint8_t held[DXL_V1_MAX_HELD], packet[DXL_V1_MAX_PACKET];
+    size_t count = 0, cut = n / 2;
+    struct dxl_step step = reader->feed(held, &count, noise, sizeof noise, packet);
+    if (step.kind != DXL_NO_EVENT || step.taken != sizeof noise || count != 4)
+        return 0;
+    step = reader->feed(held, &count, bytes, cut, packet);
+    if (step.kind != DXL_NO_EVENT || reader->feed(held, &count, bytes + cut, n - cut, packet).kind != DXL_NO_EVENT)
+        return 0;
+    step = reader->gap(held, &count, packet);
+    if (step.kind != DXL_PACKET || step.id != bytes[2] || step.count != n || memcmp(packet, bytes, n) != 0 || packet[n] != 0)
+        return 0;
+    return reader->gap(held, &count, packet).kind == DXL_NO_EVENT && count == 0 && packet[0] == 0;
+}
+
+/* A damaged packet is told by its ID; a record with too many bytes is refused and stays. */
+static void reads_no_packet_v1(const struct reader_v1 *reader)
+{
+    static const uint8_t damaged[] = {0xFF, 0xFF, 0x01, 0x04, 0x02, 0x2B, 0x01, 0xCD};
+    uint8_t held[DXL_V1_MAX_HELD] = {7}, packet[DXL_V1_MAX_PACKET] = {8};
+    size_t count = DXL_V1_MAX_HELD + 1;
+    struct dxl_step step = reader->feed(held, &count, damaged, sizeof damaged, packet);
+    expect(step.kind == DXL_BAD_READER && step.taken == 0, "259 held bytes are not refused", 0);
+    expect(reader->gap(held, &count, packet).kind == DXL_BAD_READER, "259 held bytes are not refused at a gap", 0);
+    expect(count == DXL_V1_MAX_HELD + 1 && held[0] == 7 && packet[0] == 8, "a refused call has changed what was lent", 0);
+    count = 0;
+    step = reader->feed(held, &count, damaged, sizeof damaged, packet);
+    expect(step.kind == DXL_BAD_CHECKSUM && step.id == 1 && step.count == 0, "a damaged packet is not told", 0);
+    expect(step.taken == sizeof damaged && count == sizeof damaged - 1 && packet[0] == 0, "a damaged packet is skipped", 0);
+}
+
 static void refusals_v1(void)
 {
     static const uint8_t params[254];
@@ -133,6 +174,8 @@ static unsigned published_v1(FILE *file)
     for (size_t n; (n = next_row(file, line, bytes, &number)) != 0; packets++) {
         expect(encodes_v1_again(dxl_p1_encode, bytes, n), "a packet is not what the encoder of Protocol 1.0 writes", number);
         expect(encodes_v1_again(dxl_mercury_encode, bytes, n), "a packet is not what Mercury's encoder writes", number);
+        expect(reads_v1(&p1, bytes, n), "a packet is not read in Protocol 1.0", number);
+        expect(reads_v1(&mercury, bytes, n), "a packet is not read in Mercury", number);
     }
     expect(packets != 0, "the file has no packet of Protocol 1.0", number);
     return packets;
@@ -170,12 +213,14 @@ int main(int argc, char **argv)
     fclose(file_v1);
     refusals();
     refusals_v1();
+    reads_no_packet_v1(&p1);
+    reads_no_packet_v1(&mercury);
     if (good == 0 || misprints == 0)
         expect(0, "the file has no good packet or no misprint", number);
     if (failures != 0)
         return 1;
     printf("C: %u published packets have the right checksum and are encoded again as printed\n", good);
     printf("C: %u misprints have a wrong one\n", misprints);
-    printf("C: %u packets of Protocol 1.0 and Mercury are encoded again as they stand\n", old);
+    printf("C: %u packets of Protocol 1.0 and Mercury are encoded again as they stand, and read\n", old);
     return 0;
 }

@@ -282,6 +282,95 @@ static int64_t gap_record(void)
     return end_segment(1);
 }
 
+static uint8_t held_v1[DXL_V1_MAX_HELD], packet_v1[DXL_V1_MAX_PACKET];
+static size_t count_v1;
+
+typedef struct dxl_step feeder_v1(uint8_t held[258], size_t *count, const uint8_t *chunk, size_t n, uint8_t packet[259]);
+typedef struct dxl_step ender_v1(uint8_t held[258], size_t *count, uint8_t packet[259]);
+
+/* As read_line, in Protocol 1.0 or Mercury. */
+static int64_t read_v1(feeder_v1 *feed)
+{
+    int64_t events = 0;
+    for (size_t at = 0; at < given.n;) {
+        size_t left = given.n - at < given.chunk ? given.n - at : given.chunk;
+        struct dxl_step step = feed(held_v1, &count_v1, lent.line + at, left, packet_v1);
+        if (step.kind == DXL_BAD_READER)
+            return -DXL_BAD_READER;
+        events += step.kind != DXL_NO_EVENT;
+        at += step.taken;
+    }
+    return events;
+}
+
+static int64_t end_v1(ender_v1 *gap)
+{
+    for (int64_t events = 0;; events++) {
+        struct dxl_step step = gap(held_v1, &count_v1, packet_v1);
+        if (step.kind == DXL_BAD_READER)
+            return -DXL_BAD_READER;
+        if (step.kind == DXL_NO_EVENT)
+            return events;
+    }
+}
+
+static int64_t p1_feed(void)
+{
+    return read_v1(dxl_p1_feed);
+}
+
+static int64_t mercury_feed(void)
+{
+    return read_v1(dxl_mercury_feed);
+}
+
+static int64_t p1_gap(void)
+{
+    return end_v1(dxl_p1_gap);
+}
+
+static int64_t mercury_gap(void)
+{
+    return end_v1(dxl_mercury_gap);
+}
+
+static void count_feed_v1(const char *input, size_t n, size_t chunk, int64_t events)
+{
+    given.n = n;
+    given.chunk = chunk;
+    count_v1 = 0;
+    count(NAME(dxl_p1_feed), input, p1_feed, events);
+    count_v1 = 0;
+    count(NAME(dxl_mercury_feed), input, mercury_feed, events);
+}
+
+/* So many bytes of the line are held. */
+static void count_gap_v1(const char *input, size_t held, int64_t events)
+{
+    memcpy(held_v1, lent.line, sizeof held_v1);
+    count_v1 = held;
+    count(NAME(dxl_p1_gap), input, p1_gap, events);
+    memcpy(held_v1, lent.line, sizeof held_v1);
+    count_v1 = held;
+    count(NAME(dxl_mercury_gap), input, mercury_gap, events);
+}
+
+static void count_old_boards(void)
+{
+    size_t n = packets_v1(lent.line, 2560);
+    count_feed_v1("a packet of 10", 10, 10, 1);
+    count_feed_v1("a packet of 10, chunks of 1", 10, 1, 1);
+    count_feed_v1("packets of 10, chunks of 64", n, 64, 256);
+    count_feed_v1("packets of 10, one chunk", n, n, 256);
+    memmove(lent.line + 4, lent.line, 250);
+    worst_noise_v1(lent.line, 4);
+    count_gap_v1("25 packets held", 254, 25);
+    n = worst_noise_v1(lent.line, 2560);
+    count_feed_v1("worst noise, chunks of 64", n, 64, (int64_t)(n - 259) / 4 + 1);
+    count_gap_v1("worst noise held", DXL_V1_MAX_HELD, 0);
+    count_gap_v1("refused", DXL_V1_MAX_HELD + 1, -DXL_BAD_READER);
+}
+
 /* So many bytes of the line are held. */
 static void count_gap(const char *input, size_t held, int64_t events)
 {
@@ -632,6 +721,7 @@ int main(void)
     count_feeds();
     count_lines();
     count_gaps();
+    count_old_boards();
     count_segments();
     count_logs();
     count_table();

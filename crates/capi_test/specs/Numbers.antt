@@ -2,10 +2,8 @@
 use Prim.Native.Nat.{ℕ}
 use Rattle.stuffing.specs.declared.Checked.{Checked}
 use Rattle.stuffing.specs.declared.Checked.the-variants.{Good, Bad}
-use Rattle.packet.specs.declared.Judgement.{Judgement}
-use Rattle.packet.specs.declared.Judgement.the-variants.{Packet, BadChecksum, Waiting, Nothing}
-use Rattle.packet_rules.specs.declared.Judgement.{Judgement as JudgementV1}
-use Rattle.packet_rules.specs.declared.Judgement.the-variants.{Packet as PacketV1, BadChecksum as BadChecksumV1, Waiting as WaitingV1, Nothing as NothingV1}
+use Rattle.packet_rules.specs.declared.Judgement.{Judgement}
+use Rattle.packet_rules.specs.declared.Judgement.the-variants.{Packet, BadChecksum, Waiting, Nothing}
 use Rattle.capi_test.specs.declared.VerdictNumbers.{VerdictNumbers}
 
 -- [K5]
@@ -19,10 +17,3 @@ verdictNumbers Nothing = record { kind = 0; id = 0; count = 0 }
 verdictNumbers (Packet n) = record { kind = 1; id = 0; count = n }
 verdictNumbers (BadChecksum id) = record { kind = 2; id = id; count = 0 }
 verdictNumbers (Waiting n) = record { kind = 3; id = 0; count = n }
-
--- of Protocol 1.0 and Mercury, likewise [K5]
-abbrev pub verdictV1Numbers : JudgementV1 → VerdictNumbers
-verdictV1Numbers NothingV1 = record { kind = 0; id = 0; count = 0 }
-verdictV1Numbers (PacketV1 n) = record { kind = 1; id = 0; count = n }
-verdictV1Numbers (BadChecksumV1 id) = record { kind = 2; id = id; count = 0 }
-verdictV1Numbers (WaitingV1 n) = record { kind = 3; id = 0; count = n }

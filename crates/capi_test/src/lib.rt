@@ -1,7 +1,7 @@
 // Exports that only the comparison tests and the benchmark call: parts that firmware does not need by themselves.
 use numbers::StepNumbers;
-use packet::Judgement;
-use packet_rules::Judgement as JudgementV1;
+use packet_rules::Judgement;
+use protocols::Protocol;
 use reader::Reader;
 use stuffing::Checked;
 ghost use mathlib.Core.Path.{_≡_};
@@ -15,16 +15,15 @@ ghost use Rattle.stuffing.specs.Stuffing.{stuff};
 ghost use Rattle.stuffing.specs.Answers.{checked};
 ghost use Rattle.reading.specs.Calls.{feed as Call·feed};
 ghost use Rattle.reading.specs.Progress.{Settles};
-ghost use Rattle.packet_front.specs.Begun.{lacks};
-ghost use Rattle.packet.specs.Verdict.{verdict, answerFor, protocol2, settledBy};
-ghost use Rattle.packet_rules.specs.Shape.{rules};
-ghost use Rattle.packet_rules.specs.Answers.{answerBy};
+ghost use Rattle.packet_rules.specs.Answers.{answerBy, settledBy};
+ghost use Rattle.packet.specs.Verdict.{shape, protocol2};
 ghost use Rattle.packet_v1.specs.Packet.{lastOfP1, lastOfMercury};
-ghost use Rattle.packet_v1.specs.Verdict.{shapeUpTo, protocol1, mercury};
+ghost use Rattle.packet_v1.specs.Verdict.{protocol1, mercury};
 ghost use Rattle.packet_v1.specs.Kept.{RulesKept};
+ghost use Rattle.protocols.specs.Protocols.{rulesOf};
 ghost use Rattle.reader.specs.Records.{stepOn, leftBy, lent, packetOn, ReaderPromises};
 ghost use Rattle.numbers.specs.Exported.{stepNumbers};
-ghost use Rattle.capi_test.specs.Numbers.{testNumber, verdictNumbers, verdictV1Numbers};
+ghost use Rattle.capi_test.specs.Numbers.{testNumber, verdictNumbers};
 
 // A verdict as numbers. kind 0: nothing; 1: a packet of `count` bytes; 2: a bad checksum of `id`; 3: waiting for `count` bytes.
 #[repr(C)]
@@ -71,12 +70,11 @@ pub extern "C" fn dxl_test_stuff(first: u8, rest: &[u8], out: &mut [u8]) -> usiz
     stuffing_writer::write_stuffed(first, rest, out)
 }
 
-#[no_mangle]
-pub extern "C" fn dxl_test_verdict(segment: &[u8], offset: usize) -> VerdictNumbers
-    ensures { λ r. ⌜ r ≡ verdictNumbers (answerFor (verdict (drop offset (now (segment .entry)))) (lacks (drop offset (now (segment .entry))))) ⌝ }
-    ensures { λ _. ⌜ Settles protocol2 settledBy ⌝ }
+// The verdict of a protocol.
+fn verdict_of(protocol: Protocol, segment: &[u8], offset: usize) -> VerdictNumbers
+    ensures { λ r. ⌜ r ≡ verdictNumbers (answerBy (rulesOf protocol) (drop offset (now (segment .entry)))) ⌝ }
 {
-    match packet::judge(segment, offset) {
+    match protocols::judge(protocol, segment, offset) {
         Judgement::Nothing => VerdictNumbers {
             kind: 0,
             id: 0,
@@ -100,50 +98,30 @@ pub extern "C" fn dxl_test_verdict(segment: &[u8], offset: usize) -> VerdictNumb
     }
 }
 
-// The verdict of Protocol 1.0 or Mercury, by the largest ID of a device.
-fn verdict_v1(last: u8, segment: &[u8], offset: usize) -> VerdictNumbers
-    ensures { λ r. ⌜ r ≡ verdictV1Numbers (answerBy (rules (shapeUpTo last)) (drop offset (now (segment .entry)))) ⌝ }
+#[no_mangle]
+pub extern "C" fn dxl_test_verdict(segment: &[u8], offset: usize) -> VerdictNumbers
+    ensures { λ r. ⌜ r ≡ verdictNumbers (answerBy protocol2 (drop offset (now (segment .entry)))) ⌝ }
+    ensures { λ _. ⌜ Settles protocol2 (settledBy shape) ⌝ }
 {
-    match packet_v1::judge(last, segment, offset) {
-        JudgementV1::Nothing => VerdictNumbers {
-            kind: 0,
-            id: 0,
-            count: 0,
-        },
-        JudgementV1::Packet(n) => VerdictNumbers {
-            kind: 1,
-            id: 0,
-            count: n,
-        },
-        JudgementV1::BadChecksum(id) => VerdictNumbers {
-            kind: 2,
-            id,
-            count: 0,
-        },
-        JudgementV1::Waiting(n) => VerdictNumbers {
-            kind: 3,
-            id: 0,
-            count: n,
-        },
-    }
+    verdict_of(Protocol::Two, segment, offset)
 }
 
 // The verdict of Protocol 1.0. That its rules keep the laws of packet rules is promised too. [O1-O8]
 #[no_mangle]
 pub extern "C" fn dxl_test_p1_verdict(segment: &[u8], offset: usize) -> VerdictNumbers
-    ensures { λ r. ⌜ r ≡ verdictV1Numbers (answerBy protocol1 (drop offset (now (segment .entry)))) ⌝ }
+    ensures { λ r. ⌜ r ≡ verdictNumbers (answerBy protocol1 (drop offset (now (segment .entry)))) ⌝ }
     ensures { λ _. ⌜ RulesKept lastOfP1 ⌝ }
 {
-    verdict_v1(packet_v1::LAST_OF_P1, segment, offset)
+    verdict_of(Protocol::One, segment, offset)
 }
 
 // The verdict of Mercury, likewise. [O1-O8]
 #[no_mangle]
 pub extern "C" fn dxl_test_mercury_verdict(segment: &[u8], offset: usize) -> VerdictNumbers
-    ensures { λ r. ⌜ r ≡ verdictV1Numbers (answerBy mercury (drop offset (now (segment .entry)))) ⌝ }
+    ensures { λ r. ⌜ r ≡ verdictNumbers (answerBy mercury (drop offset (now (segment .entry)))) ⌝ }
     ensures { λ _. ⌜ RulesKept lastOfMercury ⌝ }
 {
-    verdict_v1(packet_v1::LAST_OF_MERCURY, segment, offset)
+    verdict_of(Protocol::Mercury, segment, offset)
 }
 
 // What a feeding call by value returns: its step as numbers, the packet's bytes followed by 0, and the record from now on.

@@ -220,5 +220,5 @@ each (d ∷ cs) e c m =
 
 -- the test is computed here
 pub cases-hold : CasesHold
-unfolding reachesAcross readFuel readFrom reading lastPacket lastFrom indexFrom laid directory logOf reduceIf shift shifts crcByte crcFrom stuffAfter wellAfter unstuffAfter lengthOf bodyOf checksumRight withChecksum packetOf frontAgrees lengthAgrees verdict registers permitsBy numberAt valueAt bytesOf put freshened everyByte everyTouched goalInside limitsKept writeRule readRule read write sameLimits regWrite action occurs searchFrom heardInstruction executed stateRefusal roomRefusal callRefusal removalRefusal idHeard shapeVerdict sum sumRight frontAgreesV1 lengthAgreesV1 packetV1Of
+unfolding reachesAcross readFuel readFrom reading lastPacket lastFrom indexFrom laid directory logOf reduceIf shift shifts crcByte crcFrom stuffAfter wellAfter unstuffAfter lengthOf bodyOf checksumRight withChecksum packetOf frontAgrees lengthAgrees registers permitsBy numberAt valueAt bytesOf put freshened everyByte everyTouched goalInside limitsKept writeRule readRule read write sameLimits regWrite action occurs searchFrom heardInstruction executed stateRefusal roomRefusal callRefusal removalRefusal idHeard shapeVerdict sum sumRight frontAgreesV1 lengthAgreesV1 packetV1Of
 cases-hold = each table refl

@@ -19,16 +19,17 @@ use Rattle.stuffing.specs.declared.Checked.the-variants.{Good, Bad}
 use Rattle.stuffing.proofs.Answers.{checked-bad, checked-good, Removed}
 use Rattle.reading.specs.Rules.{Verdict, isPacket, isBadChecksum, isWaiting, isNothing}
 use Rattle.packet_front.specs.Front.{header, idOf}
-use Rattle.packet_front.specs.Begun.{begunBy}
-use Rattle.packet_front.specs.declared.Begun.{Begun}
-use Rattle.packet_front.specs.declared.Begun.the-variants.{Nothing, Waiting, Whole}
+use Rattle.packet_rules.specs.Answers.{begunBy, answerFor}
+use Rattle.packet_rules.specs.declared.Begun.{Begun}
+use Rattle.packet_rules.specs.declared.Begun.the-variants.{Nothing, Waiting, Whole}
 use Rattle.packet.specs.Packet.{bodyOf, checksumRight, WellFormed}
-use Rattle.packet.specs.Verdict.{verdict, answerFor, wholeAnswer}
-use Rattle.packet.specs.declared.Judgement.{Judgement}
-use Rattle.packet.specs.declared.Judgement.the-variants.{Packet as Judgement·Packet, Nothing as Judgement·Nothing, Waiting as Judgement·Waiting}
+use Rattle.packet.specs.Verdict.{shape, verdict, wholeAnswer}
+use Rattle.packet_rules.specs.declared.Judgement.{Judgement}
+use Rattle.packet_rules.specs.declared.Judgement.the-variants.{Packet as Judgement·Packet, Nothing as Judgement·Nothing, Waiting as Judgement·Waiting}
 use Rattle.packet.proofs.Header.{headed}
-use Rattle.packet.proofs.Laws.{laws}
-use Rattle.packet.proofs.Looks.{look-nothing, look-waiting, look-size, look-long, look-header, look-whole}
+use Rattle.packet_rules.proofs.Looks.{look-nothing, look-waiting, look-size, look-long}
+use Rattle.packet.proofs.Laws.{shape-laws, laws}
+use Rattle.packet.proofs.Looks.{look-header, look-whole}
 use Rattle.instructions.specs.Registered.{keptBy}
 use Rattle.instructions.specs.declared.RegisteredWrite.{RegisteredWrite}
 use Rattle.status.specs.declared.Reply.{Reply}
@@ -90,21 +91,21 @@ module _ (packet : List ℕ) where
     told-other other = heard-other (verdict packet) refl (λ n i. other n (e ∙ ap (λ (v : Verdict). answerFor v k) i))
 
   -- by what header, ID and length field say
-  pub not-begun : (b : Begun) → begunBy packet ≡ b → ((n : ℕ) → b ≡ Whole n → ⊥) → idHeard packet ≡ 255
-  not-begun Nothing e other = told-other Judgement·Nothing _ (look-nothing packet e) (λ n i. let z : _≡_ {A = ℕ} 0 1 = cc in absurd (omega arith))
-  not-begun (Waiting m) e other = told-other (Judgement·Waiting m) _ (look-waiting packet m e) (λ n i. let z : _≡_ {A = ℕ} 0 1 = cc in absurd (omega arith))
+  pub not-begun : (b : Begun) → begunBy shape packet ≡ b → ((n : ℕ) → b ≡ Whole n → ⊥) → idHeard packet ≡ 255
+  not-begun Nothing e other = told-other Judgement·Nothing _ (look-nothing shape packet e) (λ n i. let z : _≡_ {A = ℕ} 0 1 = cc in absurd (omega arith))
+  not-begun (Waiting m) e other = told-other (Judgement·Waiting m) _ (look-waiting shape packet m e) (λ n i. let z : _≡_ {A = ℕ} 0 1 = cc in absurd (omega arith))
   not-begun (Whole m) e other = absurd (other m refl)
 
-  module _ (n : ℕ) (e : begunBy packet ≡ Whole n) where
+  module _ (n : ℕ) (e : begunBy shape packet ≡ Whole n) where
     pub begun-beyond : (n ≡ length packet → ⊥) → idHeard packet ≡ 255
-    begun-beyond other = heard-nobody (λ f. other (omega (arith, look-size packet n e, f .counted)))
+    begun-beyond other = heard-nobody (λ f. other (omega (arith, look-size shape packet shape-laws n e, f .counted)))
 
     module _ (l : n ≡ length packet) where
       all : take n packet ≡ packet
       all = take-all n packet (omega arith)
 
       pub begun-long : 10 ≤ length packet
-      begun-long = subst (λ (w : List ℕ). 10 ≤ length w) all (look-long packet n e)
+      begun-long = subst (λ (w : List ℕ). 10 ≤ length w) all (look-long shape packet shape-laws n e)
 
       pub begun-header : take 4 packet ≡ header
       begun-header = ap (take 4) (sym all) ∙ look-header packet n e

@@ -1,7 +1,8 @@
 // One exchange on the bus: from a packet as received to the device's answer.
 use device::Replied;
 use instructions::RegisteredWrite;
-use packet_front::Begun;
+use packet_rules::Begun;
+use protocols::Protocol;
 use reactions::Heard;
 use status::MIN_REPLY;
 use status::Reply;
@@ -35,7 +36,7 @@ fn id_heard(packet: &[u8]) -> u8
     requires { ⌜ wellStuffed (bodyOf (now packet)) ≡ true ⌝ }
     ensures { λ r. ⌜ r ≡ idHeard (now (packet .entry)) ⌝ }
 {
-    let Begun::Whole(n) = packet_front::look(packet) else {
+    let Begun::Whole(n) = protocols::look(Protocol::Two, packet) else {
         return NO_ID;
     };
     if n != packet.len() {

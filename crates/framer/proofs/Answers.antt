@@ -11,12 +11,12 @@ use Rattle.lists.specs.Write.{padded}
 use Rattle.reading.specs.Reading.{Event, packet, badChecksum}
 use Rattle.reading.specs.Calls.{CallResult, Call, call}
 use Rattle.reading.proofs.Held.{packet-good}
-use Rattle.packet.specs.Packet.{WellFormed}
-use Rattle.packet.specs.Verdict.{protocol2}
-use Rattle.packet.proofs.Laws.{laws}
-use Rattle.packet_front.specs.Front.{idOf}
+use Rattle.protocols.specs.declared.Protocol.{Protocol}
+use Rattle.protocols.specs.declared.Protocol.the-variants.{Two, One, Mercury}
+use Rattle.protocols.specs.Protocols.{rulesOf, idPlace, idIn}
+use Rattle.protocols.proofs.Shapes.{laws}
 use Rattle.framer.specs.declared.Step.{Step}
-use Rattle.framer.specs.Results.{eventFor, packetBytes, stepFor, heldFor, packetFor}
+use Rattle.framer.specs.Results.{mostHeld, eventFor, packetBytes, stepFor, heldFor, packetFor}
 use Rattle.framer.specs.Delivered.{eventWith, sizeIn, Delivered}
 
 -- the buffer after its end is cleared
@@ -35,14 +35,31 @@ size-is id none = refl
 size-is id (some (packet w)) = refl
 size-is id (some (badChecksum id′)) = refl
 
+-- a packet has its ID, and so has a buffer for the longest
+id-inside : (p : Protocol) (w : List ℕ) → rulesOf p .WellFormed w → idPlace p < length w
+id-inside Two w f = omega (arith, f .counted)
+id-inside One w f = omega (arith, f .counted)
+id-inside Mercury w f = omega (arith, f .counted)
+
+pub id-short : (p : Protocol) → idPlace p < rulesOf p .longest
+id-short Two = omega arith
+id-short One = omega arith
+id-short Mercury = omega arith
+
+-- some bytes can be held
+pub some-room : (p : Protocol) → 0 < mostHeld p
+some-room Two = omega arith
+some-room One = omega arith
+some-room Mercury = omega arith
+
 -- the buffer's ID is the packet's, which has so many bytes
-event-is : (a : Option Event) (bytes : List ℕ) → ((w : List ℕ) → a ≡ some (packet w) → WellFormed w)
-    → take (length (packetBytes a)) bytes ≡ packetBytes a → eventWith (idOf bytes) a ≡ eventFor a
-event-is none bytes g b = refl
-event-is (some (badChecksum id)) bytes g b = refl
-event-is (some (packet w)) bytes g b =
-    let h : 4 < length w = omega (arith, g w refl .counted) in
-    let e : idOf bytes ≡ idOf w = sym (getD-take (length w) bytes 4 0 h) ∙ ap (λ (s : List ℕ). getD s 4 0) b in
+event-is : (p : Protocol) (a : Option Event) (bytes : List ℕ) → ((w : List ℕ) → a ≡ some (packet w) → rulesOf p .WellFormed w)
+    → take (length (packetBytes a)) bytes ≡ packetBytes a → eventWith (idIn p bytes) a ≡ eventFor p a
+event-is p none bytes g b = refl
+event-is p (some (badChecksum id)) bytes g b = refl
+event-is p (some (packet w)) bytes g b =
+    let h = id-inside p w (g w refl) in
+    let e : idIn p bytes ≡ idIn p w = sym (getD-take (length w) bytes (idPlace p) 0 h) ∙ ap (λ (s : List ℕ). getD s (idPlace p) 0) b in
     rw e
 
 -- ---- the call
@@ -51,22 +68,22 @@ of-fields : (step step′ : Step) → step .taken ≡ step′ .taken → step .h
     → step ≡ step′
 of-fields step step′ i j k = λ x. record { taken = i x; held = j x; event = k x }
 
-abbrev Answered : (count : ℕ) (r : CallResult) (held bytes : List ℕ) (step : Step) (held′ bytes′ : List ℕ) → Type 0
-Answered count r held bytes step held′ bytes′ =
-    (step ≡ stepFor count r) × (held′ ≡ heldFor count held r) × (bytes′ ≡ packetFor count bytes r)
+abbrev Answered : (p : Protocol) (count : ℕ) (r : CallResult) (held bytes : List ℕ) (step : Step) (held′ bytes′ : List ℕ) → Type 0
+Answered p count r held bytes step held′ bytes′ =
+    (step ≡ stepFor p count r) × (held′ ≡ heldFor p count held r) × (bytes′ ≡ packetFor p count bytes r)
 
-pub answered : (count : ℕ) (h : List ℕ) (c : Call) (held₀ bytes₀ held bytes held′ bytes′ : List ℕ) (step : Step)
-    → count ≤ 1030 → length held ≡ 1030 → length bytes ≡ 1031 → Delivered (call protocol2 h c) step held bytes
+pub answered : (p : Protocol) (count : ℕ) (h : List ℕ) (c : Call) (held₀ bytes₀ held bytes held′ bytes′ : List ℕ) (step : Step)
+    → count ≤ mostHeld p → length held ≡ mostHeld p → length bytes ≡ rulesOf p .longest → Delivered p (call (rulesOf p) h c) step held bytes
     → (held′ ≡ cleared held (step .held)) × (bytes′ ≡ cleared bytes (sizeIn (step .event)))
-    → Answered count (call protocol2 h c) held₀ bytes₀ step held′ bytes′
-answered count h c held₀ bytes₀ held bytes held′ bytes′ step l m n w e =
-    let r = call protocol2 h c in
+    → Answered p count (call (rulesOf p) h c) held₀ bytes₀ step held′ bytes′
+answered p count h c held₀ bytes₀ held bytes held′ bytes′ step l m n w e =
+    let r = call (rulesOf p) h c in
     let size : sizeIn (step .event) ≡ length (packetBytes (r .answer)) =
-    ap sizeIn (w .event-is) ∙ size-is (idOf bytes) (r .answer) in
+    ap sizeIn (w .event-is) ∙ size-is (idIn p bytes) (r .answer) in
     let front = ap (λ (k : ℕ). take k bytes) size ∙ w .bytes-are in
-    let event = w .event-is ∙ event-is (r .answer) bytes (packet-good protocol2 laws h c) (w .bytes-are) in
-    rw (le-leb count 1030 l) (
+    let event = w .event-is ∙ event-is p (r .answer) bytes (packet-good (rulesOf p) (laws p) h c) (w .bytes-are) in
+    rw (le-leb count (mostHeld p) l) (
       of-fields step _ (w .taken-is) (w .count-is) event,
-      cleared-is held held′ (r .held) (step .held) 1030 m (w .count-is) (w .held-is) (e .0),
-      cleared-is bytes bytes′ (packetBytes (r .answer)) (sizeIn (step .event)) 1031 n size front (e .1),
+      cleared-is held held′ (r .held) (step .held) (mostHeld p) m (w .count-is) (w .held-is) (e .0),
+      cleared-is bytes bytes′ (packetBytes (r .answer)) (sizeIn (step .event)) (rulesOf p .longest) n size front (e .1),
     )

@@ -8,7 +8,8 @@ use lib.ListN.{length, take, drop, length-drop}
 use lib.Seq.{length-take-le, take-at, take-take}
 use Rattle.lists.specs.Write.{overwritten, placed}
 use Rattle.reading.specs.Reading.{packet}
-use Rattle.packet_front.specs.Front.{idOf}
+use Rattle.protocols.specs.declared.Protocol.{Protocol}
+use Rattle.protocols.specs.Protocols.{idIn}
 use Rattle.framer.specs.declared.StepEvent.{StepEvent}
 use Rattle.framer.specs.declared.StepEvent.the-variants.{Packet, BadChecksum}
 use Rattle.windows.specs.declared.Scanned.{Scanned}
@@ -35,15 +36,15 @@ front old new buffer n e l = ap (λ (b : List ℕ). take n b) e ∙ take-at new 
 
 -- ---- the event
 
-module _ (src : List ℕ) (v : Scanned) (bytes : List ℕ) where
+module _ (p : Protocol) (src : List ℕ) (v : Scanned) (bytes : List ℕ) where
   abbrev Told : StepEvent → Type 0
   Told e =
-      (e ≡ eventWith (idOf bytes) (answerOf src v))
+      (e ≡ eventWith (idIn p bytes) (answerOf src v))
       × (take (length (packetBytes (answerOf src v))) bytes ≡ packetBytes (answerOf src v))
 
   pub told-packet : (old : List ℕ) (at n : ℕ) → v ≡ Seen·Packet at n → at + n ≤ length src → n ≤ length old
       → bytes ≡ placed old 0 (take (length old - 0) (take (at + n - at) (drop at src))) → (id : ℕ)
-      → id ≡ idOf bytes → Told (Packet id n)
+      → id ≡ idIn p bytes → Told (Packet id n)
   told-packet old at n i h k b id d =
       let z : at + n - at ≡ n = omega arith in
       let l : length (take n (drop at src)) ≡ n = length-take-le n (drop at src) (simp length-drop (omega arith)) in
@@ -70,19 +71,19 @@ answer-within src end (Seen·Packet at n) h k =
 answer-within src end (Seen·BadChecksum at id) h k = refl
 answer-within src end (Seen·Waiting at) h k = refl
 
-pub replied : (src old held bytes : List ℕ) (end taken on : ℕ) (v : Scanned) (event : StepEvent) (r : Step)
+pub replied : (p : Protocol) (src old held bytes : List ℕ) (end taken on : ℕ) (v : Scanned) (event : StepEvent) (r : Step)
     → r ≡ record { taken = taken; held = end - on; event = event } → on ≡ onFrom v → onFrom v ≤ end → end ≤ length src
-    → event ≡ eventWith (idOf bytes) (answerOf src v) → take (length (packetBytes (answerOf src v))) bytes ≡ packetBytes (answerOf src v)
-    → held ≡ overwritten old (take (end - on) (drop on src)) → Delivered (resultOf (take end src) taken v) r held bytes
-replied src old held bytes end taken on v event r i o h k e b s =
-    let p = part-is (onFrom v) end src h (omega arith) in
+    → event ≡ eventWith (idIn p bytes) (answerOf src v) → take (length (packetBytes (answerOf src v))) bytes ≡ packetBytes (answerOf src v)
+    → held ≡ overwritten old (take (end - on) (drop on src)) → Delivered p (resultOf (take end src) taken v) r held bytes
+replied p src old held bytes end taken on v event r i o h k e b s =
+    let q = part-is (onFrom v) end src h (omega arith) in
     let n : length (take (end - onFrom v) (drop (onFrom v) src)) ≡ end - onFrom v =
     length-take-le (end - onFrom v) (drop (onFrom v) src) (simp length-drop (omega arith)) in
     rw (i, answer-within src end v h k)
     (record {
       taken-is = refl;
       event-is = e;
-      count-is = rw o (sym (ap length (sym p) ∙ n));
-      held-is = rw o (front old (take (end - onFrom v) (drop (onFrom v) src)) held (end - onFrom v) (rw o at s) n ∙ p);
+      count-is = rw o (sym (ap length (sym q) ∙ n));
+      held-is = rw o (front old (take (end - onFrom v) (drop (onFrom v) src)) held (end - onFrom v) (rw o at s) n ∙ q);
       bytes-are = b;
     })

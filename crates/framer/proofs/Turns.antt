@@ -16,7 +16,9 @@ use Rattle.windows.specs.declared.Scanned.{Scanned}
 use Rattle.windows.specs.declared.Scanned.the-variants.{Packet, BadChecksum, Waiting}
 use Rattle.windows.specs.declared.Stop.{Stop}
 use Rattle.windows.specs.declared.Stop.the-variants.{Done, Passed, Full}
-use Rattle.packet_front.specs.Front.{idOf}
+use Rattle.protocols.specs.declared.Protocol.{Protocol}
+use Rattle.protocols.specs.Protocols.{rulesOf, idIn}
+use Rattle.protocols.proofs.Shapes.{laws}
 use Rattle.framer.specs.declared.Step.{Step}
 use Rattle.framer.specs.declared.StepEvent.the-variants.{Packet as Gave·Packet, BadChecksum as Gave·BadChecksum, Silent}
 use Rattle.windows.specs.Scan.{onFrom, sizeSeen, Waits, Seen, resultOf, Ends, Stops, Filled}
@@ -41,7 +43,13 @@ module _ (chunk : List ℕ) (from : ℕ) where
   pub rest-here : (n : ℕ) → n < length (drop from chunk) → from + n < length chunk
   rest-here n h = omega (arith, length-drop from chunk)
 
-module _ (R : Rules) (L : Laws R) where
+module _ (p : Protocol) where
+  abbrev R : Rules
+  R = rulesOf p
+
+  abbrev L : Laws R
+  L = laws p
+
   -- ---- a call that has come to its end
 
   module _ (h c src : List ℕ) (end n : ℕ) (v : Scanned) (within : end ≤ length src) (w : Ends R h c (take end src) n v) where
@@ -77,7 +85,7 @@ module _ (R : Rules) (L : Laws R) where
 
   -- a gap call whose scan found nothing
   pub gap-nothing : (s held bytes : List ℕ) (at : ℕ) (step : Step) → Waits R closed s 0 at
-      → step ≡ record { taken = 0; held = 0; event = Silent } → Delivered (gapped (first R closed s)) step held bytes
+      → step ≡ record { taken = 0; held = 0; event = Silent } → Delivered p (gapped (first R closed s)) step held bytes
   gap-nothing s held bytes at step w e =
       rw (w .first-is, e)
       (record { taken-is = refl; event-is = refl; count-is = refl; held-is = refl; bytes-are = refl })
@@ -128,8 +136,8 @@ module _ (R : Rules) (L : Laws R) where
         rw y at (reached-more R h₀ c₀ h more taken (past + 1) a t)
 
     pub full-packet : (n id : ℕ) (r : Step) (held′ bytes : List ℕ) → R .verdict more ≡ isPacket n
-        → r ≡ record { taken = next + 1; held = 0; event = Gave·Packet id n } → id ≡ idOf bytes → bytes ≡ more
-        → Delivered (fed R h₀ c₀) r held′ bytes
+        → r ≡ record { taken = next + 1; held = 0; event = Gave·Packet id n } → id ≡ idIn p bytes → bytes ≡ more
+        → Delivered p (fed R h₀ c₀) r held′ bytes
     full-packet n id r held′ bytes e i d j =
         let m : n ≡ suc (length held) = last-byte R L held held (getD c₀ next 0) n (w .waits) e in
         let l : n ≡ length more = omega (arith, more-length) in
@@ -148,7 +156,7 @@ module _ (R : Rules) (L : Laws R) where
 
     pub full-bad : (id n : ℕ) (r : Step) (held′ bytes : List ℕ) → R .verdict more ≡ isBadChecksum id
         → r ≡ record { taken = next + 1; held = n; event = Gave·BadChecksum id } → n ≡ length held → held′ ≡ drop 1 more
-        → Delivered (fed R h₀ c₀) r held′ bytes
+        → Delivered p (fed R h₀ c₀) r held′ bytes
     full-bad id n r held′ bytes e i m j =
         let f : first R open′ more ≡ event (badChecksum id) (drop 1 more) =
         first-at R open′ more (isBadChecksum id) (omega (arith, more-length)) e in
@@ -166,10 +174,10 @@ module _ (R : Rules) (L : Laws R) where
     pub full-other : (n : ℕ) (held′ : List ℕ) → ((size : ℕ) → R .verdict more ≡ isPacket size → ⊥)
         → ((id : ℕ) → R .verdict more ≡ isBadChecksum id → ⊥) → n ≡ length held → held′ ≡ drop 1 more
         → Reached R h₀ c₀ (take n held′) (next + 1)
-    full-other n held′ p q m j = by (R .verdict more) refl
+    full-other n held′ x q m j = by (R .verdict more) refl
       where
         by : (v : Verdict) → R .verdict more ≡ v → Reached R h₀ c₀ (take n held′) (next + 1)
-        by (isPacket size) e = absurd (p size e)
+        by (isPacket size) e = absurd (x size e)
         by (isBadChecksum id) e = absurd (q id e)
         by isWaiting e = absurd (omega (arith, L .room more e, L .lacking more e, more-length))
         by isNothing e =

@@ -6,7 +6,8 @@ use Prim.Native.Nat.{ℕ}
 use lib.ListN.{length, take}
 use Rattle.reading.specs.Reading.{Event, packet, badChecksum}
 use Rattle.reading.specs.Calls.{CallResult}
-use Rattle.packet_front.specs.Front.{idOf}
+use Rattle.protocols.specs.declared.Protocol.{Protocol}
+use Rattle.protocols.specs.Protocols.{idIn}
 use Rattle.framer.specs.declared.StepEvent.{StepEvent}
 use Rattle.framer.specs.declared.StepEvent.the-variants.{Packet, BadChecksum, Silent, Refused}
 use Rattle.framer.specs.declared.Step.{Step}
@@ -26,9 +27,9 @@ sizeIn Silent = 0
 sizeIn Refused = 0
 
 -- the step says what the result says; the held bytes and the packet's bytes stand at the start of their buffers
-pub record Delivered (r : CallResult) (step : Step) (held bytes : List ℕ) : Type 0 where
+pub record Delivered (p : Protocol) (r : CallResult) (step : Step) (held bytes : List ℕ) : Type 0 where
   pub taken-is : step .taken ≡ r .taken
-  pub event-is : step .event ≡ eventWith (idOf bytes) (r .answer)
+  pub event-is : step .event ≡ eventWith (idIn p bytes) (r .answer)
   pub count-is : step .held ≡ length (r .held)
   pub held-is : take (step .held) held ≡ r .held
   pub bytes-are : take (length (packetBytes (r .answer))) bytes ≡ packetBytes (r .answer)

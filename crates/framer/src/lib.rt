@@ -1,5 +1,6 @@
 // The reader's feeding and gap calls, in place on the caller's held bytes and packet buffer.
-use packet::Judgement;
+use packet_rules::Judgement;
+use protocols::Protocol;
 use windows::Scanned;
 use windows::Stop;
 ghost use mathlib.Core.Path.{_≡_};
@@ -10,15 +11,15 @@ ghost use Rattle.reading.specs.Reading.{closed};
 ghost use Rattle.reading.specs.Calls.{first, fed, gapped, call};
 ghost use Rattle.reading.specs.Calls.{feed as Call·feed, gap as Call·gap};
 ghost use Rattle.reading.specs.Progress.{afterTaking};
-ghost use Rattle.packet_front.specs.Front.{idOf};
-ghost use Rattle.packet_front.specs.Begun.{lacks};
-ghost use Rattle.packet.specs.Verdict.{protocol2, answerFor, verdict};
+ghost use Rattle.packet_rules.specs.Answers.{answerBy};
+ghost use Rattle.protocols.specs.declared.Protocol.the-variants.{Two, One, Mercury};
+ghost use Rattle.protocols.specs.Protocols.{rulesOf, idIn};
 ghost use Rattle.windows.specs.Scan.{onFrom, sizeSeen, answerOf, resultOf};
-ghost use Rattle.framer.specs.Results.{packetBytes, stepFor, heldFor, packetFor};
+ghost use Rattle.framer.specs.Results.{mostHeld, packetBytes, stepFor, heldFor, packetFor};
 ghost use Rattle.framer.specs.Delivered.{eventWith, sizeIn, Delivered};
 
 // The event of a call: a packet with its ID and its byte count, a bad checksum with its ID, none (of a gap call: nothing is
-// left), or the refusal of a count of held bytes above 1,030.
+// left), or the refusal of a count of held bytes above what can be held.
 pub enum StepEvent {
     Packet { id: u8, size: usize },
     BadChecksum { id: u8 },
@@ -52,24 +53,24 @@ fn on_from(seen: Scanned) -> usize
 }
 
 // The ID of the packet at the start of the buffer.
-fn id_in(packet: &[u8]) -> u8
-    requires { ⌜ length (now packet) ≡ 1031 ⌝ }
-    ensures { λ r. ⌜ r ≡ idOf (now (packet .entry)) ⌝ }
+fn id_in(protocol: Protocol, packet: &[u8]) -> u8
+    requires { ⌜ length (now packet) ≡ rulesOf protocol .longest ⌝ }
+    ensures { λ r. ⌜ r ≡ idIn protocol (now (packet .entry)) ⌝ }
 {
-    packet[4]
+    packet[protocols::id_place(protocol)]
 }
 
 // The event for what was found in src. A packet's bytes are copied to the packet buffer, and its ID is read there.
-fn report(src: &[u8], seen: Scanned, packet: &mut [u8]) -> StepEvent
-    requires { ⌜ (onFrom seen ≤ length (now src)) × (sizeSeen seen ≤ length (now packet)) × (length (now packet) ≡ 1031) ⌝ }
-    ensures { λ r. ⌜ r ≡ eventWith (idOf (now (packet .exit))) (answerOf (now (src .entry)) seen) ⌝ }
+fn report(protocol: Protocol, src: &[u8], seen: Scanned, packet: &mut [u8]) -> StepEvent
+    requires { ⌜ (onFrom seen ≤ length (now src)) × (sizeSeen seen ≤ length (now packet)) × (length (now packet) ≡ rulesOf protocol .longest) ⌝ }
+    ensures { λ r. ⌜ r ≡ eventWith (idIn protocol (now (packet .exit))) (answerOf (now (src .entry)) seen) ⌝ }
     ensures { λ _. ⌜ take (length (packetBytes (answerOf (now (src .entry)) seen))) (now (packet .exit))
         ≡ packetBytes (answerOf (now (src .entry)) seen) ⌝ }
 {
     match seen {
         Scanned::Packet { at, count } => {
             buffers::place(packet, 0, &src[at..at + count]);
-            let id = id_in(packet);
+            let id = id_in(protocol, packet);
             StepEvent::Packet { id, size: count }
         }
         Scanned::BadChecksum { at: _, id } => StepEvent::BadChecksum { id },
@@ -78,12 +79,19 @@ fn report(src: &[u8], seen: Scanned, packet: &mut [u8]) -> StepEvent
 }
 
 // Gives the event and keeps the held bytes from where reading goes on.
-fn deliver(held: &mut [u8], seen: Scanned, end: usize, taken: usize, packet: &mut [u8]) -> Step
+fn deliver(
+    protocol: Protocol,
+    held: &mut [u8],
+    seen: Scanned,
+    end: usize,
+    taken: usize,
+    packet: &mut [u8],
+) -> Step
     requires { ⌜ (onFrom seen ≤ end) × (end ≤ length (now held)) × (sizeSeen seen ≤ length (now packet))
-        × (length (now packet) ≡ 1031) ⌝ }
-    ensures { λ r. ⌜ Delivered (resultOf (take end (now (held .entry))) taken seen) r (now (held .exit)) (now (packet .exit)) ⌝ }
+        × (length (now packet) ≡ rulesOf protocol .longest) ⌝ }
+    ensures { λ r. ⌜ Delivered protocol (resultOf (take end (now (held .entry))) taken seen) r (now (held .exit)) (now (packet .exit)) ⌝ }
 {
-    let event = report(held, seen, packet);
+    let event = report(protocol, held, seen, packet);
     let on = on_from(seen);
     buffers::shift(held, on, end);
     stepped(taken, end - on, event)
@@ -91,6 +99,7 @@ fn deliver(held: &mut [u8], seen: Scanned, end: usize, taken: usize, packet: &mu
 
 // Gives the event and holds the chunk's bytes from where reading goes on. `before` bytes were taken before the chunk.
 fn deliver_chunk(
+    protocol: Protocol,
     held: &mut [u8],
     chunk: &[u8],
     seen: Scanned,
@@ -99,19 +108,19 @@ fn deliver_chunk(
     packet: &mut [u8],
 ) -> Step
     requires { ⌜ (onFrom seen ≤ end) × (end ≤ length (now chunk)) × (end - onFrom seen ≤ length (now held))
-        × (sizeSeen seen ≤ length (now packet)) × (length (now packet) ≡ 1031) × (before + end < 2 ^ 64) ⌝ }
-    ensures { λ r. ⌜ Delivered (resultOf (take end (now (chunk .entry))) (before + end) seen) r (now (held .exit)) (now (packet .exit)) ⌝ }
+        × (sizeSeen seen ≤ length (now packet)) × (length (now packet) ≡ rulesOf protocol .longest) × (before + end < 2 ^ 64) ⌝ }
+    ensures { λ r. ⌜ Delivered protocol (resultOf (take end (now (chunk .entry))) (before + end) seen) r (now (held .exit)) (now (packet .exit)) ⌝ }
 {
-    let event = report(chunk, seen, packet);
+    let event = report(protocol, chunk, seen, packet);
     let on = on_from(seen);
     buffers::place(held, 0, &chunk[on..end]);
     stepped(before + end, end - on, event)
 }
 
 // The held bytes fill their buffer: with one byte more they are judged in the packet buffer. All but the first stay held.
-fn judge_longest(held: &mut [u8], byte: u8, packet: &mut [u8]) -> Judgement
+fn judge_longest(protocol: Protocol, held: &mut [u8], byte: u8, packet: &mut [u8]) -> Judgement
     requires { ⌜ (0 < length (now held)) × (length (now packet) ≡ length (now held) + 1) ⌝ }
-    ensures { λ r. ⌜ r ≡ answerFor (verdict (now (held .entry) ++ byte ∷ [])) (lacks (now (held .entry) ++ byte ∷ [])) ⌝ }
+    ensures { λ r. ⌜ r ≡ answerBy (rulesOf protocol) (now (held .entry) ++ byte ∷ []) ⌝ }
     ensures { λ _. ⌜ (now (packet .exit) ≡ now (held .entry) ++ byte ∷ [])
         × (now (held .exit) ≡ drop 1 (now (held .entry) ++ byte ∷ [])) ⌝ }
 {
@@ -120,36 +129,62 @@ fn judge_longest(held: &mut [u8], byte: u8, packet: &mut [u8]) -> Judgement
     packet[n] = byte;
     buffers::shift(held, 1, n);
     held[n - 1] = byte;
-    packet::judge(packet, 0)
+    protocols::judge(protocol, packet, 0)
 }
 
 // Reads the chunk from `from` on, where no bytes are held.
-fn read_chunk(held: &mut [u8], chunk: &[u8], from: usize, packet: &mut [u8]) -> Step
-    requires { ⌜ (from ≤ length (now chunk)) × (length (now held) ≡ 1030) × (length (now packet) ≡ 1031) ⌝ }
-    ensures { λ r. ⌜ Delivered (afterTaking from (fed protocol2 [] (drop from (now (chunk .entry))))) r
+fn read_chunk(
+    protocol: Protocol,
+    held: &mut [u8],
+    chunk: &[u8],
+    from: usize,
+    packet: &mut [u8],
+) -> Step
+    requires { ⌜ (from ≤ length (now chunk)) × (length (now held) ≡ mostHeld protocol) × (length (now packet) ≡ rulesOf protocol .longest) ⌝ }
+    ensures { λ r. ⌜ Delivered protocol (afterTaking from (fed (rulesOf protocol) [] (drop from (now (chunk .entry))))) r
         (now (held .exit)) (now (packet .exit)) ⌝ }
 {
-    let ahead = windows::advance(&chunk[from..]);
+    let ahead = windows::advance(protocol, &chunk[from..]);
     let seen = ahead.seen;
-    deliver_chunk(held, &chunk[from..], seen, ahead.end, from, packet)
+    deliver_chunk(
+        protocol,
+        held,
+        &chunk[from..],
+        seen,
+        ahead.end,
+        from,
+        packet,
+    )
 }
 
 // Reads the held bytes first, then the chunk. Each turn takes one byte past a full buffer.
-fn feed_slices(held: &mut [u8], count: usize, chunk: &[u8], packet: &mut [u8]) -> Step
-    requires { ⌜ (count ≤ 1030) × (length (now held) ≡ 1030) × (length (now packet) ≡ 1031) ⌝ }
-    ensures { λ r. ⌜ Delivered (fed protocol2 (take count (now (held .entry))) (now (chunk .entry))) r
+fn feed_slices(
+    protocol: Protocol,
+    held: &mut [u8],
+    count: usize,
+    chunk: &[u8],
+    packet: &mut [u8],
+) -> Step
+    requires { ⌜ (count ≤ mostHeld protocol) × (length (now held) ≡ mostHeld protocol) × (length (now packet) ≡ rulesOf protocol .longest) ⌝ }
+    ensures { λ r. ⌜ Delivered protocol (fed (rulesOf protocol) (take count (now (held .entry))) (now (chunk .entry))) r
         (now (held .exit)) (now (packet .exit)) ⌝ }
 {
     let mut n = count;
     let mut taken = 0;
     loop {
-        match windows::fill(held, n, &chunk[taken..]) {
+        match windows::fill(protocol, held, n, &chunk[taken..]) {
             Stop::Done {
                 seen,
                 end,
                 taken: more,
-            } => return deliver(held, seen, end, taken + more, packet),
-            Stop::Passed { taken: more } => return read_chunk(held, chunk, taken + more, packet),
+            } => return deliver(protocol, held, seen, end, taken + more, packet),
+            Stop::Passed { taken: more } => return read_chunk(
+                protocol,
+                held,
+                chunk,
+                taken + more,
+                packet,
+            ),
             Stop::Full { taken: more } => {
                 taken += more;
             }
@@ -157,9 +192,9 @@ fn feed_slices(held: &mut [u8], count: usize, chunk: &[u8], packet: &mut [u8]) -
         let byte = chunk[taken];
         taken += 1;
         n = held.len();
-        match judge_longest(held, byte, packet) {
+        match judge_longest(protocol, held, byte, packet) {
             Judgement::Packet(size) => {
-                let id = id_in(packet);
+                let id = id_in(protocol, packet);
                 return stepped(taken, 0, StepEvent::Packet { id, size });
             }
             Judgement::BadChecksum(id) => return stepped(taken, n, StepEvent::BadChecksum { id }),
@@ -169,16 +204,16 @@ fn feed_slices(held: &mut [u8], count: usize, chunk: &[u8], packet: &mut [u8]) -
 }
 
 // Reads the held bytes as if the segment ended with them.
-fn gap_slices(held: &mut [u8], count: usize, packet: &mut [u8]) -> Step
-    requires { ⌜ (count ≤ 1030) × (length (now held) ≡ 1030) × (length (now packet) ≡ 1031) ⌝ }
-    ensures { λ r. ⌜ Delivered (gapped (first protocol2 closed (take count (now (held .entry))))) r
+fn gap_slices(protocol: Protocol, held: &mut [u8], count: usize, packet: &mut [u8]) -> Step
+    requires { ⌜ (count ≤ mostHeld protocol) × (length (now held) ≡ mostHeld protocol) × (length (now packet) ≡ rulesOf protocol .longest) ⌝ }
+    ensures { λ r. ⌜ Delivered protocol (gapped (first (rulesOf protocol) closed (take count (now (held .entry))))) r
         (now (held .exit)) (now (packet .exit)) ⌝ }
 {
-    let seen = windows::scan_closed(&held[..count]);
+    let seen = windows::scan_closed(protocol, &held[..count]);
     if let Scanned::Waiting { at: _ } = seen {
         return stepped(0, 0, StepEvent::Silent);
     }
-    deliver(held, seen, count, 0, packet)
+    deliver(protocol, held, seen, count, 0, packet)
 }
 
 fn size_of(event: StepEvent) -> usize
@@ -205,33 +240,111 @@ fn clear_rest(held: &mut [u8], packet: &mut [u8], step: Step)
     buffers::clear(packet, size);
 }
 
+// A feeding call by the protocol, where the buffers are one byte less than, and as long as, its longest packet, and no more bytes
+// are held than there is room for.
+fn feed_by(
+    protocol: Protocol,
+    held: &mut [u8],
+    count: usize,
+    chunk: &[u8],
+    packet: &mut [u8],
+) -> Step
+    requires { ⌜ (count ≤ mostHeld protocol) × (length (now held) ≡ mostHeld protocol) × (length (now packet) ≡ rulesOf protocol .longest) ⌝ }
+    ensures { λ r. ⌜ (r ≡ stepFor protocol count (call (rulesOf protocol) (take count (now (held .entry))) (Call·feed (now (chunk .entry)))))
+        × (now (held .exit) ≡ heldFor protocol count (now (held .entry)) (call (rulesOf protocol) (take count (now (held .entry))) (Call·feed (now (chunk .entry)))))
+        × (now (packet .exit) ≡ packetFor protocol count (now (packet .entry)) (call (rulesOf protocol) (take count (now (held .entry))) (Call·feed (now (chunk .entry))))) ⌝ }
+{
+    let step = feed_slices(protocol, held, count, chunk, packet);
+    clear_rest(held, packet, step);
+    step
+}
+
+// A gap call, likewise.
+fn gap_by(protocol: Protocol, held: &mut [u8], count: usize, packet: &mut [u8]) -> Step
+    requires { ⌜ (count ≤ mostHeld protocol) × (length (now held) ≡ mostHeld protocol) × (length (now packet) ≡ rulesOf protocol .longest) ⌝ }
+    ensures { λ r. ⌜ (r ≡ stepFor protocol count (call (rulesOf protocol) (take count (now (held .entry))) Call·gap))
+        × (now (held .exit) ≡ heldFor protocol count (now (held .entry)) (call (rulesOf protocol) (take count (now (held .entry))) Call·gap))
+        × (now (packet .exit) ≡ packetFor protocol count (now (packet .entry)) (call (rulesOf protocol) (take count (now (held .entry))) Call·gap)) ⌝ }
+{
+    let step = gap_slices(protocol, held, count, packet);
+    clear_rest(held, packet, step);
+    step
+}
+
 // A feeding call on the caller's held bytes, of which there are `count`, and packet buffer. It takes the fewest bytes of the chunk
 // that decide an event, or all of it. Feed the rest again until a call gives no event, even if the rest is empty: events may lie
 // in the held bytes. [F2-F10 F15 F16 K2-K4]
 pub fn feed_in(held: &mut [u8; 1030], count: usize, chunk: &[u8], packet: &mut [u8; 1031]) -> Step
-    ensures { λ r. ⌜ (r ≡ stepFor count (call protocol2 (take count (now (held .entry))) (Call·feed (now (chunk .entry)))))
-        × (now (held .exit) ≡ heldFor count (now (held .entry)) (call protocol2 (take count (now (held .entry))) (Call·feed (now (chunk .entry)))))
-        × (now (packet .exit) ≡ packetFor count (now (packet .entry)) (call protocol2 (take count (now (held .entry))) (Call·feed (now (chunk .entry))))) ⌝ }
+    ensures { λ r. ⌜ (r ≡ stepFor Two count (call (rulesOf Two) (take count (now (held .entry))) (Call·feed (now (chunk .entry)))))
+        × (now (held .exit) ≡ heldFor Two count (now (held .entry)) (call (rulesOf Two) (take count (now (held .entry))) (Call·feed (now (chunk .entry)))))
+        × (now (packet .exit) ≡ packetFor Two count (now (packet .entry)) (call (rulesOf Two) (take count (now (held .entry))) (Call·feed (now (chunk .entry))))) ⌝ }
 {
     if 1030 < count {
         return stepped(0, count, StepEvent::Refused);
     }
-    let step = feed_slices(held, count, chunk, packet);
-    clear_rest(held, packet, step);
-    step
+    feed_by(Protocol::Two, held, count, chunk, packet)
 }
 
 // A gap call, likewise: the next event as if the segment ended with the held bytes. Call it until nothing is left.
 // [F12-F16 K2-K4]
 pub fn gap_in(held: &mut [u8; 1030], count: usize, packet: &mut [u8; 1031]) -> Step
-    ensures { λ r. ⌜ (r ≡ stepFor count (call protocol2 (take count (now (held .entry))) Call·gap))
-        × (now (held .exit) ≡ heldFor count (now (held .entry)) (call protocol2 (take count (now (held .entry))) Call·gap))
-        × (now (packet .exit) ≡ packetFor count (now (packet .entry)) (call protocol2 (take count (now (held .entry))) Call·gap)) ⌝ }
+    ensures { λ r. ⌜ (r ≡ stepFor Two count (call (rulesOf Two) (take count (now (held .entry))) Call·gap))
+        × (now (held .exit) ≡ heldFor Two count (now (held .entry)) (call (rulesOf Two) (take count (now (held .entry))) Call·gap))
+        × (now (packet .exit) ≡ packetFor Two count (now (packet .entry)) (call (rulesOf Two) (take count (now (held .entry))) Call·gap)) ⌝ }
 {
     if 1030 < count {
         return stepped(0, count, StepEvent::Refused);
     }
-    let step = gap_slices(held, count, packet);
-    clear_rest(held, packet, step);
-    step
+    gap_by(Protocol::Two, held, count, packet)
+}
+
+// The calls of Protocol 1.0. [O13-O15]
+pub fn feed_p1(held: &mut [u8; 258], count: usize, chunk: &[u8], packet: &mut [u8; 259]) -> Step
+    ensures { λ r. ⌜ (r ≡ stepFor One count (call (rulesOf One) (take count (now (held .entry))) (Call·feed (now (chunk .entry)))))
+        × (now (held .exit) ≡ heldFor One count (now (held .entry)) (call (rulesOf One) (take count (now (held .entry))) (Call·feed (now (chunk .entry)))))
+        × (now (packet .exit) ≡ packetFor One count (now (packet .entry)) (call (rulesOf One) (take count (now (held .entry))) (Call·feed (now (chunk .entry))))) ⌝ }
+{
+    if 258 < count {
+        return stepped(0, count, StepEvent::Refused);
+    }
+    feed_by(Protocol::One, held, count, chunk, packet)
+}
+
+pub fn gap_p1(held: &mut [u8; 258], count: usize, packet: &mut [u8; 259]) -> Step
+    ensures { λ r. ⌜ (r ≡ stepFor One count (call (rulesOf One) (take count (now (held .entry))) Call·gap))
+        × (now (held .exit) ≡ heldFor One count (now (held .entry)) (call (rulesOf One) (take count (now (held .entry))) Call·gap))
+        × (now (packet .exit) ≡ packetFor One count (now (packet .entry)) (call (rulesOf One) (take count (now (held .entry))) Call·gap)) ⌝ }
+{
+    if 258 < count {
+        return stepped(0, count, StepEvent::Refused);
+    }
+    gap_by(Protocol::One, held, count, packet)
+}
+
+// And of Mercury. [O13-O15]
+pub fn feed_mercury(
+    held: &mut [u8; 258],
+    count: usize,
+    chunk: &[u8],
+    packet: &mut [u8; 259],
+) -> Step
+    ensures { λ r. ⌜ (r ≡ stepFor Mercury count (call (rulesOf Mercury) (take count (now (held .entry))) (Call·feed (now (chunk .entry)))))
+        × (now (held .exit) ≡ heldFor Mercury count (now (held .entry)) (call (rulesOf Mercury) (take count (now (held .entry))) (Call·feed (now (chunk .entry)))))
+        × (now (packet .exit) ≡ packetFor Mercury count (now (packet .entry)) (call (rulesOf Mercury) (take count (now (held .entry))) (Call·feed (now (chunk .entry))))) ⌝ }
+{
+    if 258 < count {
+        return stepped(0, count, StepEvent::Refused);
+    }
+    feed_by(Protocol::Mercury, held, count, chunk, packet)
+}
+
+pub fn gap_mercury(held: &mut [u8; 258], count: usize, packet: &mut [u8; 259]) -> Step
+    ensures { λ r. ⌜ (r ≡ stepFor Mercury count (call (rulesOf Mercury) (take count (now (held .entry))) Call·gap))
+        × (now (held .exit) ≡ heldFor Mercury count (now (held .entry)) (call (rulesOf Mercury) (take count (now (held .entry))) Call·gap))
+        × (now (packet .exit) ≡ packetFor Mercury count (now (packet .entry)) (call (rulesOf Mercury) (take count (now (held .entry))) Call·gap)) ⌝ }
+{
+    if 258 < count {
+        return stepped(0, count, StepEvent::Refused);
+    }
+    gap_by(Protocol::Mercury, held, count, packet)
 }

@@ -1,8 +1,6 @@
 pub mod Header
-mod Rulings
-pub mod Looks
-pub mod Answers
 pub mod Sums
 pub mod Laws
+pub mod Looks
 pub mod Begins
 pub mod Burst

@@ -1,27 +1,14 @@
-// Reading one packet of Protocol 2.0: the verdict on the bytes from an offset on, and the body as a part of the packet.
-use packet_front::Begun;
+// Reading one packet of Protocol 2.0: the verdict on all its bytes, and the body as a part of them.
+use packet_rules::Judgement;
 use stuffing::Checked;
 use stuffing::Unstuffed;
 ghost use mathlib.Core.Path.{_≡_};
 ghost use mathlib.Core.List.{_++_};
-ghost use lib.ListN.{drop};
 ghost use Rattle.crc.specs.Crc.{crcFrom};
 ghost use Rattle.stuffing.specs.Answers.{unstuffedAnswer, removalAnswer, removalOut};
 ghost use Rattle.packet_front.specs.Front.{header};
-ghost use Rattle.packet_front.specs.Begun.{lacks};
 ghost use Rattle.packet.specs.Packet.{bodyOf};
-ghost use Rattle.packet.specs.Verdict.{verdict, answerFor, wholeAnswer};
-
-// What the bytes from an offset on are, while the segment is open.
-pub enum Judgement {
-    // a well-formed packet of so many bytes
-    Packet(usize),
-    // a packet but for its checksum, with its ID
-    BadChecksum(u8),
-    // a beginning that surely lacks so many bytes
-    Waiting(usize),
-    Nothing,
-}
+ghost use Rattle.packet.specs.Verdict.{wholeAnswer};
 
 // The body as a part of the packet, between length field and checksum; empty if there is no room for both. [S2 S7]
 pub fn body(packet: &[u8]) -> &[u8]
@@ -70,27 +57,4 @@ pub fn judge_whole(packet: &[u8]) -> Judgement
         return Judgement::Nothing;
     };
     Judgement::Packet(n)
-}
-
-// The verdict on the bytes from the slice's start on.
-fn judge_start(s: &[u8]) -> Judgement
-    ensures { λ r. ⌜ r ≡ answerFor (verdict (now (s .entry))) (lacks (now (s .entry))) ⌝ }
-{
-    match packet_front::look(s) {
-        Begun::Nothing => Judgement::Nothing,
-        Begun::Waiting(lacks) => Judgement::Waiting(lacks),
-        Begun::Whole(size) => judge_whole(&s[..size]),
-    }
-}
-
-// The verdict on the bytes of a segment from an offset on, while the segment is open; past its end there are none. The
-// checksum is computed at most once, and only if all bytes of the packet are there.
-// [C4 M1 M2 P1-P5 P7-P10 S2 S4 S5 V3-V6 V8 V9 V11]
-pub fn judge(segment: &[u8], offset: usize) -> Judgement
-    ensures { λ r. ⌜ r ≡ answerFor (verdict (drop offset (now (segment .entry)))) (lacks (drop offset (now (segment .entry)))) ⌝ }
-{
-    if segment.len() <= offset {
-        return judge_start(&segment[..0]);
-    }
-    judge_start(&segment[offset..])
 }

@@ -8,33 +8,11 @@ use lib.Dec.{leb, ltb, eqb}
 use lib.ListN.{length, take, getD, length-append, List·getD-append}
 use borrow.Author.Tests.{eqb-true, leb-true, leb-false, ltb-false, lt-leb, le-ltb}
 use Rattle.lists.proofs.Bools.{and-left, and-right, or-right}
+use Rattle.packet_rules.specs.Shape.{soFar}
+use Rattle.packet_rules.proofs.Bytes.{passes, same-test, passes-before}
 use Rattle.packet_front.specs.Front.{header, goodId, lengthOf}
 use Rattle.packet_front.proofs.Lists.{take-four}
-use Rattle.packet_front.specs.Begun.{soFar, frontAgrees, lengthAgrees, sizeOf}
-
--- one byte's test
-module _ (test : ℕ → Bool) (i : ℕ) (a : List ℕ) where
-  pub passes : soFar a i test ≡ true → i < length a → test (getD a i 0) ≡ true
-  passes e h = or-right (leb (length a) i) (test (getD a i 0)) e (lt-leb (length a) i h)
-
-  pub passed : test (getD a i 0) ≡ true → soFar a i test ≡ true
-  passed e = go (leb (length a) i)
-    where
-      go : (x : Bool) → (x || test (getD a i 0)) ≡ true
-      go true = refl
-      go false = e
-
-  module _ (b : List ℕ) where
-    pub same-test : i < length a → soFar (a ++ b) i test ≡ soFar a i test
-    same-test h =
-        rw (lt-leb (length (a ++ b)) i (simp length-append (omega arith)), lt-leb (length a) i h, List·getD-append a b 0 i h)
-
-    pub passes-before : soFar (a ++ b) i test ≡ true → soFar a i test ≡ true
-    passes-before e = go (leb (length a) i) refl
-      where
-        go : (x : Bool) → leb (length a) i ≡ x → soFar a i test ≡ true
-        go true l = rw l
-        go false l = sym (same-test (leb-false (length a) i l)) ∙ e
+use Rattle.packet_front.specs.Begun.{frontAgrees, lengthAgrees, sizeOf}
 
 -- the five tests of header and ID
 pub record Front (s : List ℕ) : Type 0 where

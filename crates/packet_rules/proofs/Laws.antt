@@ -96,7 +96,7 @@ module _ (S : Shape) (l : ShapeLaws S) where
         (λ h. let w = waits-late h in rw (lacks-late S s h) (omega arith))
 
   -- fewer bytes than the shortest packet has decide no event
-  undecided : (u : List ℕ) → length u < S .shortest → Undecided (verdict S u)
+  pub undecided : (u : List ℕ) → length u < S .shortest → Undecided (verdict S u)
   undecided u h =
       by-tests S u (λ i v. inr v) (λ i j v. inl v)
       (λ i j v. absurd (omega (arith, has-all S u j, l .bounds u i (has-front S u j) .0)))

@@ -4,3 +4,5 @@ pub mod Tests
 pub mod Laws
 pub mod Settled
 pub mod Looks
+pub mod Starts
+pub mod Answers

@@ -2,14 +2,17 @@
 use mathlib.Core.Path.{_≡_, refl, sym, ap, ap₂, _∙_}
 use mathlib.Core.Bool.{Bool, true, false}
 use mathlib.Core.List.{List}
-use Prim.Native.Nat.{ℕ, _-_, _≤_, _<_}
+use Prim.Native.Nat.{ℕ, _+_, _-_, _≤_, _<_}
 use native.Mathlib.Omega.{arith}
-use lib.ListN.{length, take}
-use lib.Seq.{length-take-le}
-use Rattle.reading.specs.Rules.{Verdict, isPacket, isBadChecksum, isWaiting, isNothing}
-use Rattle.packet_rules.specs.Shape.{Shape, complete, lacks, rules}
-use Rattle.packet_rules.specs.Answers.{begunAs, begunBy, answerFor, answerBy}
-use Rattle.packet_rules.specs.declared.Judgement.the-variants.{Waiting, Nothing}
+use lib.ListN.{length, take, drop, length-drop}
+use lib.Seq.{length-take-le, take-all}
+use Rattle.reading.specs.Rules.{Verdict, Rules, isPacket, isBadChecksum, isWaiting, isNothing}
+use Rattle.reading.proofs.Ahead.{NoneBegins}
+use Rattle.packet_rules.specs.Shape.{Shape, complete, lacks, verdict, rules}
+use Rattle.packet_rules.specs.Answers.{begunAs, begunBy, settledAs, settledBy, answerFor, answerBy}
+use Rattle.packet_rules.specs.declared.Judgement.{Judgement}
+use Rattle.packet_rules.specs.declared.Judgement.the-variants.{Packet, BadChecksum, Waiting, Nothing}
+use Rattle.packet_rules.specs.declared.Begun.{Begun}
 use Rattle.packet_rules.specs.declared.Begun.the-variants.{Whole}
 use Rattle.packet_rules.specs.declared.Begun.the-variants.{Nothing as Begun·Nothing, Waiting as Begun·Waiting}
 use Rattle.packet_rules.proofs.Asked.{ShapeLaws}
@@ -37,6 +40,26 @@ decided (isBadChecksum id) k h = refl
 decided isWaiting k h = absurd (h refl)
 decided isNothing k h = refl
 
+-- What the look at the bytes s tells of their verdict, by the rules R: no packet begins; they wait and lack so many bytes; or so
+-- many of them settle the verdict.
+abbrev pub Looked : Rules → (List ℕ → ℕ) → List ℕ → Begun → Type 0
+Looked R settled s Begun·Nothing = NoneBegins R settled s
+Looked R settled s (Begun·Waiting k) = (R .verdict s ≡ isWaiting) × (R .lacks s ≡ k)
+Looked R settled s (Whole n) = settled s ≡ n
+
+-- what is said of bytes that are all there is their verdict, and they do not wait
+abbrev pub Judged : Rules → List ℕ → Judgement → Type 0
+Judged R s (Packet n) = R .verdict s ≡ isPacket n
+Judged R s (BadChecksum id) = R .verdict s ≡ isBadChecksum id
+Judged R s (Waiting k) = ⊥
+Judged R s Nothing = R .verdict s ≡ isNothing
+
+judged-as : (R : Rules) (s : List ℕ) (v : Verdict) (k : ℕ) → R .verdict s ≡ v → ¬ (v ≡ isWaiting) → Judged R s (answerFor v k)
+judged-as R s (isPacket n) k e h = e
+judged-as R s (isBadChecksum id) k e h = e
+judged-as R s isWaiting k e h = h refl
+judged-as R s isNothing k e h = e
+
 -- the look, by its tests
 module _ (S : Shape) (s : List ℕ) where
   begun-as : {a c : Bool} → S .agrees s ≡ a → complete S s ≡ c → begunBy S s ≡ begunAs a c (lacks S s) (S .size s)
@@ -56,6 +79,16 @@ module _ (S : Shape) (s : List ℕ) where
 
 -- and the verdict by the look
 module _ (S : Shape) (s : List ℕ) where
+  pub none-begins : S .agrees s ≡ false → NoneBegins (rules S) (settledBy S) s
+  none-begins a = (disagrees S s a, ap settledAs (sym (begun-nothing S s a)))
+
+  pub looked : (b : Begun) → begunBy S s ≡ b → Looked (rules S) (settledBy S) s b
+  looked Begun·Nothing e = none-begins (as-nothing (S .agrees s) (complete S s) (lacks S s) (S .size s) e)
+  looked (Begun·Waiting m) e =
+      let w = as-waiting (S .agrees s) (complete S s) (lacks S s) (S .size s) m e in
+      (waits S s (w .0) (w .1), w .2)
+  looked (Whole n) e = ap settledAs e
+
   pub look-nothing : begunBy S s ≡ Begun·Nothing → Nothing ≡ answerBy (rules S) s
   look-nothing e = rw (disagrees S s (as-nothing (S .agrees s) (complete S s) (lacks S s) (S .size s) e)) refl
 
@@ -69,8 +102,20 @@ module _ (S : Shape) (s : List ℕ) where
     w : (S .agrees s ≡ true) × (complete S s ≡ true) × (S .size s ≡ m)
     w = as-whole (S .agrees s) (complete S s) (lacks S s) (S .size s) m e
 
+    pub look-size : S .size s ≡ m
+    look-size = w .2
+
+    pub look-agrees : S .agrees s ≡ true
+    look-agrees = w .0
+
+    pub look-fits : m ≤ length s
+    look-fits = omega (arith, has-all S s (w .1), w .2)
+
+    pub look-front : S .front ≤ length s
+    look-front = has-front S s (w .1)
+
     pub look-length : length (take m s) ≡ m
-    look-length = length-take-le m s (omega (arith, has-all S s (w .1), w .2))
+    look-length = length-take-le m s look-fits
 
     pub look-long : S .shortest ≤ length (take m s)
     look-long = omega (arith, look-length, l .bounds s (w .0) (has-front S s (w .1)) .0, w .2)
@@ -80,3 +125,20 @@ module _ (S : Shape) (s : List ℕ) where
         decided (S .judged (take m s)) (lacks S s) (l .never-waits (take m s))
         ∙ ap (λ (n : ℕ). answerFor (S .judged (take n s)) (lacks S s)) (sym (w .2))
         ∙ ap (λ (v : Verdict). answerFor v (lacks S s)) (sym (judges S s (w .0) (w .1)))
+
+    pub judged : Judged (rules S) s (answerBy (rules S) s)
+    judged =
+        judged-as (rules S) s (verdict S s) (lacks S s) refl
+        (λ e. l .never-waits (take (S .size s) s) (sym (judges S s (w .0) (w .1)) ∙ e))
+
+-- the same for code that lends the bytes from an offset on
+module _ (S : Shape) (s : List ℕ) (at : ℕ) where
+  pub begun-at : (b b′ : Begun) → b ≡ begunBy S (take (length s - at) (drop at s)) → b ≡ b′ → begunBy S (drop at s) ≡ b′
+  begun-at b b′ e i =
+      ap (begunBy S) (sym (take-all (length s - at) (drop at s) (simp length-drop (omega arith)))) ∙ sym e ∙ i
+
+  pub whole-fits : (l : ShapeLaws S) (n : ℕ) → begunBy S (drop at s) ≡ Whole n → at + n ≤ length s
+  whole-fits l n e =
+      let f = look-fits S (drop at s) l n e in
+      let g = look-front S (drop at s) l n e in
+      omega (arith, length-drop at s, l .some)

@@ -6,7 +6,7 @@ use Prim.Native.Nat.{ℕ, _+_, _≤_, _<_}
 use native.Mathlib.Omega.{arith}
 use lib.Dec.{leb, ltb, eqb}
 use lib.ListN.{length, take, getD, length-append, List·getD-append}
-use borrow.Author.Tests.{eqb-true, eq-eqb, leb-true, le-ltb, le-leb, ltb-false}
+use borrow.Author.Tests.{eqb-true, eq-eqb, leb-true, lt-ltb, le-ltb, le-leb, ltb-false}
 use Rattle.lists.proofs.Bools.{and-left, and-right, or-right}
 use Rattle.reading.specs.Rules.{Verdict, Laws, isPacket, isBadChecksum, isWaiting, isNothing}
 use Rattle.reading.specs.Progress.{Settles}
@@ -17,7 +17,7 @@ use Rattle.packet_rules.proofs.Bytes.{passes, passed, same-test, passes-before}
 use Rattle.packet_rules.proofs.Laws.{laws as rule-laws}
 use Rattle.packet_rules.proofs.Settled.{settles as rule-settles}
 use Rattle.packet_v1.specs.Packet.{header, idOf, lengthOf, checksumRight, WellFormed}
-use Rattle.packet_v1.specs.Verdict.{frontAgrees, lengthAgrees, sizeOf, judged, shapeFor}
+use Rattle.packet_v1.specs.Verdict.{frontAgrees, lengthAgrees, mayBegin, sizeOf, judged, shapeFor}
 use Rattle.packet_v1.proofs.Lengths.{length-good}
 
 -- ---- the first two bytes
@@ -165,6 +165,14 @@ module _ (good : ℕ → Bool) where
         third = passed good 2 w (f .identified);
       }) in
       (both w front (length-good w (omega arith) (f .shortest) (f .longest)), omega arith, f .counted, judged-right w h (f .summed))
+
+  -- where they agree a packet may begin
+  pub front-begins : (b : ℕ) (s : List ℕ) → agrees (b ∷ s) ≡ true → mayBegin (b ∷ s) ≡ true
+  unfolding mayBegin
+  front-begins b s e =
+      let f = front-tests (b ∷ s) (parts (b ∷ s) e .0) in
+      let z = eqb-true 0xFF b (passes (eqb 0xFF) 0 (b ∷ s) (f .first) (omega arith)) in
+      rw (lt-ltb 0 (length (b ∷ s)) (omega arith), eq-eqb b 0xFF (sym z))
 
   pub shape-laws : ShapeLaws (shapeFor good)
   shape-laws =

@@ -3,7 +3,7 @@ use mathlib.Core.Bool.{Bool, cond, _&&_, _||_}
 use mathlib.Core.List.{List}
 use Prim.Native.Nat.{ℕ, _+_}
 use lib.Dec.{leb, ltb, eqb}
-use lib.ListN.{length}
+use lib.ListN.{length, getD}
 use Rattle.reading.specs.Rules.{Verdict, isPacket, isBadChecksum, isNothing, Rules}
 use Rattle.packet_rules.specs.Shape.{soFar, Shape, rules}
 use Rattle.packet_v1.specs.Packet.{upTo, lastOfP1, lastOfMercury, idOf, lengthOf, checksumRight, WellFormed}
@@ -11,6 +11,10 @@ use Rattle.packet_v1.specs.Packet.{upTo, lastOfP1, lastOfMercury, idOf, 
 -- the length byte, tested when it is there, is 2 to 255 [O3 O6]
 unfoldable pub lengthAgrees : List ℕ → Bool
 lengthAgrees s = ltb (length s) 4 || (leb 2 (lengthOf s) && leb (lengthOf s) 255)
+
+-- a packet may begin here: FF is there [O1 O6]
+unfoldable pub mayBegin : List ℕ → Bool
+mayBegin s = ltb 0 (length s) && eqb (getD s 0 0) 0xFF
 
 abbrev pub sizeOf : List ℕ → ℕ
 sizeOf s = 4 + lengthOf s

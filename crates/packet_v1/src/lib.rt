@@ -1,15 +1,13 @@
-// Reading one packet of Protocol 1.0 or Mercury: what its front says, and the verdict on the bytes from an offset on. The two
+// Reading one packet of Protocol 1.0 or Mercury: whether bytes agree with header and ID, and the verdict on all its bytes. The two
 // protocols differ in `last`, the largest ID of a device.
-use packet_rules::Begun;
 use packet_rules::Judgement;
 ghost use mathlib.Core.Path.{_≡_};
 ghost use Prim.Native.Nat.{_+_, _%_};
 ghost use lib.Dec.{eqb};
-ghost use lib.ListN.{drop};
-ghost use Rattle.packet_rules.specs.Shape.{soFar, rules};
-ghost use Rattle.packet_rules.specs.Answers.{begunBy, answerFor, answerBy};
+ghost use Rattle.packet_rules.specs.Shape.{soFar};
+ghost use Rattle.packet_rules.specs.Answers.{answerFor};
 ghost use Rattle.packet_v1.specs.Packet.{upTo, sum};
-ghost use Rattle.packet_v1.specs.Verdict.{frontAgrees, judged, shapeUpTo};
+ghost use Rattle.packet_v1.specs.Verdict.{frontAgrees, mayBegin, judged};
 
 // The largest ID of a device: in Protocol 1.0, and in Mercury.
 pub const LAST_OF_P1: u8 = 253;
@@ -42,8 +40,8 @@ fn id_agrees(last: u8, s: &[u8]) -> bool
     good_id(last, s[2])
 }
 
-// Whether the bytes that are there agree with header and ID.
-fn front_agrees(last: u8, s: &[u8]) -> bool
+// Whether the bytes that are there agree with header and ID. [O1 O2 O6]
+pub fn front_agrees(last: u8, s: &[u8]) -> bool
     ensures { λ r. ⌜ r ≡ frontAgrees (upTo last) (now (s .entry)) ⌝ }
 {
     if !ff_agrees(s, 0) {
@@ -55,26 +53,14 @@ fn front_agrees(last: u8, s: &[u8]) -> bool
     id_agrees(last, s)
 }
 
-// What header, ID and length say of the bytes from the slice's start on. [O1-O3 O6 O7]
-pub fn look(last: u8, s: &[u8]) -> Begun
-    ensures { λ r. ⌜ r ≡ begunBy (shapeUpTo last) (now (s .entry)) ⌝ }
+// Whether a packet may begin with these bytes. [O1 O6]
+pub fn may_begin(s: &[u8]) -> bool
+    ensures { λ r. ⌜ r ≡ mayBegin (now (s .entry)) ⌝ }
 {
-    if !front_agrees(last, s) {
-        return Begun::Nothing;
+    if s.len() == 0 {
+        return false;
     }
-    let n = s.len();
-    if n < 4 {
-        return Begun::Waiting(6 - n);
-    }
-    let length = s[3] as usize;
-    if length < 2 {
-        return Begun::Nothing;
-    }
-    let size = 4 + length;
-    if n < size {
-        return Begun::Waiting(size - n);
-    }
-    Begun::Whole(size)
+    s[0] == 0xFF
 }
 
 // The low byte of a sum that goes on over these bytes.
@@ -103,26 +89,4 @@ pub fn judge_whole(packet: &[u8]) -> Judgement
         return Judgement::BadChecksum(packet[2]);
     }
     Judgement::Packet(n)
-}
-
-// The verdict on the bytes from the slice's start on.
-fn judge_start(last: u8, s: &[u8]) -> Judgement
-    ensures { λ r. ⌜ r ≡ answerBy (rules (shapeUpTo last)) (now (s .entry)) ⌝ }
-{
-    match look(last, s) {
-        Begun::Nothing => Judgement::Nothing,
-        Begun::Waiting(lacks) => Judgement::Waiting(lacks),
-        Begun::Whole(size) => judge_whole(&s[..size]),
-    }
-}
-
-// The verdict on the bytes of a segment from an offset on, while the segment is open; past its end there are none. The checksum
-// is computed at most once, and only if all bytes of the packet are there. [O1-O7]
-pub fn judge(last: u8, segment: &[u8], offset: usize) -> Judgement
-    ensures { λ r. ⌜ r ≡ answerBy (rules (shapeUpTo last)) (drop offset (now (segment .entry))) ⌝ }
-{
-    if segment.len() <= offset {
-        return judge_start(last, &segment[..0]);
-    }
-    judge_start(last, &segment[offset..])
 }

@@ -10,16 +10,22 @@ use lib.Seq.{length-take-le, getD-take, getD-drop, drop-drop}
 use Rattle.reading.specs.Rules.{Verdict, Undecided, isPacket, isBadChecksum, isWaiting, isNothing}
 use Rattle.reading.specs.Reading.{closed, atOffset, readFrom}
 use Rattle.reading.proofs.Offsets.{step, nil}
-use Rattle.packet.specs.Verdict.{protocol2, answerFor, wholeAnswer}
-use Rattle.packet.specs.declared.Judgement.{Judgement}
-use Rattle.packet.specs.declared.Judgement.the-variants.{Packet as Judgement·Packet, BadChecksum as Judgement·BadChecksum, Waiting, Nothing as Judgement·Nothing}
-use Rattle.packet.proofs.Laws.{laws, undecided}
-use Rattle.packet.proofs.Looks.{look-nothing, look-waiting, look-whole, none-before-ff, begun-at, whole-fits, whole-at}
-use Rattle.packet_front.specs.Begun.{begunBy, beforeFF}
-use Rattle.packet_front.specs.declared.Begun.{Begun}
-use Rattle.packet_front.specs.declared.Begun.the-variants.{Whole}
-use Rattle.packet_front.specs.declared.Begun.the-variants.{Nothing as Nothing·begun, Waiting as Waiting·begun}
-use Rattle.packet_front.proofs.Starts.{before-fits}
+use Rattle.packet_rules.specs.Answers.{begunBy, answerFor}
+use Rattle.packet_rules.specs.Starts.{beforeStart}
+use Rattle.packet.specs.Verdict.{shape, protocol2, wholeAnswer}
+use Rattle.packet_rules.specs.declared.Judgement.{Judgement}
+use Rattle.packet_rules.specs.declared.Judgement.the-variants.{Packet as Judgement·Packet, BadChecksum as Judgement·BadChecksum, Waiting, Nothing as Judgement·Nothing}
+use Rattle.packet_rules.proofs.Laws.{undecided}
+use Rattle.packet_rules.proofs.Looks.{look-nothing, look-waiting, begun-at, whole-fits}
+use Rattle.packet_rules.proofs.Starts.{before-fits}
+use Rattle.packet_front.specs.Begun.{mayBegin}
+use Rattle.packet.proofs.Laws.{shape-laws, laws}
+use Rattle.packet.proofs.Looks.{look-whole}
+use Rattle.protocols.specs.declared.Protocol.the-variants.{Two}
+use Rattle.protocols.proofs.Shapes.{none-before-start, whole-at}
+use Rattle.packet_rules.specs.declared.Begun.{Begun}
+use Rattle.packet_rules.specs.declared.Begun.the-variants.{Whole}
+use Rattle.packet_rules.specs.declared.Begun.the-variants.{Nothing as Nothing·begun, Waiting as Waiting·begun}
 use Rattle.plain_reader.specs.declared.Next.the-variants.{Packet, BadChecksum, Nothing}
 use Rattle.plain_reader.specs.Next.{firstTold, nextEvent}
 
@@ -79,13 +85,13 @@ passes s p (suc k) n h =
     ∙ on s (p + k) l
     ∙ ap (nextEvent s) z
 
--- so are those before the next FF
-pub next-start : (s : List ℕ) (p r : ℕ) → r ≡ p + beforeFF (drop p s) → nextEvent s p ≡ nextEvent s r
-next-start s p r e =
-    passes s p (beforeFF (drop p s)) (λ q h. none-before-ff (drop p s) q h .0) (before-fits (drop p s)) ∙ ap (nextEvent s) (sym e)
+-- so are those before the next offset at which one may begin
+pub start-turn : (s : List ℕ) (p r : ℕ) → r ≡ p + beforeStart mayBegin (drop p s) → nextEvent s p ≡ nextEvent s r
+start-turn s p r e =
+    passes s p (beforeStart mayBegin (drop p s)) (λ q h. none-before-start Two (drop p s) q h .0) (before-fits mayBegin (drop p s)) ∙ ap (nextEvent s) (sym e)
 
-pub ff-within : (s : List ℕ) (p r : ℕ) → p ≤ length s → r ≡ p + beforeFF (drop p s) → r ≤ length s
-ff-within s p r h e = omega (arith, h, e, before-fits (drop p s), length-drop p s)
+pub start-within : (s : List ℕ) (p r : ℕ) → p ≤ length s → r ≡ p + beforeStart mayBegin (drop p s) → r ≤ length s
+start-within s p r h e = omega (arith, h, e, before-fits mayBegin (drop p s), length-drop p s)
 
 -- fewer bytes than the shortest packet has are left
 pub next-few : (s : List ℕ) (n p : ℕ) → length s ≤ p + n → n < 10 → nextEvent s p ≡ Nothing
@@ -97,25 +103,25 @@ next-few s (suc n) p h l = by (decLt p (length s)) (next-few s n (p + 1) (omega 
     passed i (inr w) later = here s p i isNothing w ∙ on s p i ∙ later
 
     by : Dec (p < length s) → nextEvent s (p + 1) ≡ Nothing → nextEvent s p ≡ Nothing
-    by (yes i) later = passed i (undecided (drop p s) (simp length-drop (omega arith))) later
+    by (yes i) later = passed i (undecided shape shape-laws (drop p s) (simp length-drop (omega arith))) later
     by (no i) later = next-end s p (omega arith)
 
 -- what the look at offset p, and the judgement of the bytes that are all there, come to
-module _ (s : List ℕ) (p : ℕ) (h : p < length s) (b : Begun) (e : b ≡ begunBy (take (length s - p) (drop p s))) where
+module _ (s : List ℕ) (p : ℕ) (h : p < length s) (b : Begun) (e : b ≡ begunBy shape (take (length s - p) (drop p s))) where
   pub fits : (n : ℕ) → b ≡ Whole n → p + n ≤ length s
-  fits n i = whole-fits s p n (begun-at s p b (Whole n) e i)
+  fits n i = whole-fits shape s p shape-laws n (begun-at shape s p b (Whole n) e i)
 
   pub judged-turn : (n : ℕ) → b ≡ Whole n → (j r : Judgement) → j ≡ wholeAnswer (take (p + n - p) (drop p s)) → j ≡ r → Turn s p r
   judged-turn n i j r k l =
-      turn s p h r _ (sym (look-whole (drop p s) n (begun-at s p b (Whole n) e i)) ∙ whole-at s p n j r k l)
+      turn s p h r _ (sym (look-whole (drop p s) n (begun-at shape s p b (Whole n) e i)) ∙ whole-at Two s p n j r k l)
 
   -- not all bytes of a packet are there
   pub look-turn : ((n : ℕ) → b ≡ Whole n → ⊥) → nextEvent s p ≡ nextEvent s (p + 1)
   look-turn w = by b refl
     where
       by : (b′ : Begun) → b ≡ b′ → nextEvent s p ≡ nextEvent s (p + 1)
-      by Nothing·begun i = turn s p h Judgement·Nothing _ (sym (look-nothing (drop p s) (begun-at s p b Nothing·begun e i)))
-      by (Waiting·begun k) i = turn s p h (Waiting k) _ (sym (look-waiting (drop p s) k (begun-at s p b (Waiting·begun k) e i)))
+      by Nothing·begun i = turn s p h Judgement·Nothing _ (sym (look-nothing shape (drop p s) (begun-at shape s p b Nothing·begun e i)))
+      by (Waiting·begun k) i = turn s p h (Waiting k) _ (sym (look-waiting shape (drop p s) k (begun-at shape s p b (Waiting·begun k) e i)))
       by (Whole n) i = absurd (w n i)
 
   -- they are, and neither packet nor bad checksum

@@ -1,7 +1,8 @@
 // A plain reader: the next event of a whole segment, which lies in one slice, by the rule of reading and nothing else. It keeps no
 // bytes of its own.
-use packet::Judgement;
-use packet_front::Begun;
+use packet_rules::Begun;
+use packet_rules::Judgement;
+use protocols::Protocol;
 ghost use mathlib.Core.Path.{_≡_};
 ghost use Rattle.plain_reader.specs.Next.{nextEvent};
 
@@ -30,10 +31,10 @@ pub fn next_event(segment: &[u8], from: usize) -> Next
     if segment.len() < from {
         return Next::Nothing;
     }
-    let mut offset = packet_front::next_ff(segment, from);
+    let mut offset = protocols::next_start(Protocol::Two, segment, from);
     while 10 <= segment.len() - offset {
-        if let Begun::Whole(size) = packet_front::look(&segment[offset..]) {
-            match packet::judge_whole(&segment[offset..offset + size]) {
+        if let Begun::Whole(size) = protocols::look(Protocol::Two, &segment[offset..]) {
+            match protocols::judge_whole(Protocol::Two, &segment[offset..offset + size]) {
                 Judgement::Packet(count) => {
                     return Next::Packet {
                         offset,
@@ -52,7 +53,7 @@ pub fn next_event(segment: &[u8], from: usize) -> Next
                 _ => {}
             }
         }
-        offset = packet_front::next_ff(segment, offset + 1);
+        offset = protocols::next_start(Protocol::Two, segment, offset + 1);
     }
     Next::Nothing
 }

@@ -10,8 +10,7 @@ use lib.ListN.{length, take, drop, getD, length-append, take-append-drop, drop-o
 use lib.Seq.{take-append-seam, drop-append-seam, drop-drop}
 use Rattle.reading.specs.Rules.{Verdict, isPacket, isBadChecksum, isWaiting, isNothing}
 use Rattle.reading.specs.Promise.{joined}
-use Rattle.packet.specs.Verdict.{verdict, answerFor}
-use Rattle.packet.specs.declared.Judgement.the-variants.{Packet}
+use Rattle.packet.specs.Verdict.{verdict}
 use Rattle.packet.proofs.Laws.{laws}
 use Rattle.plan.specs.Goals.{wanted}
 use Rattle.plan.specs.Plan.{goalFound, paramsOf, goalsIn, GoalWrite, Plan}
@@ -195,10 +194,3 @@ module _ (goals : List ℤ) (plan : List ℕ) where
     pub halfway-end : (r : Bool) → length plan ≤ at → Decides r (AllStood goals stood) → Decides r (Plan goals plan)
     halfway-end true h a = x .back (subst (Rest goals stood) (sym (drop-of-length-le plan h)) (at-end goals stood a))
     halfway-end false h a = λ p. a (ends goals stood (subst (Rest goals stood) (drop-of-length-le plan h) (x .on p)))
-
--- the code's verdict on a packet
-pub told : (v : Verdict) (k n : ℕ) → answerFor v k ≡ Packet n → v ≡ isPacket n
-told (isPacket m) k n e = cc
-told (isBadChecksum id) k n e = let z : _≡_ {A = ℕ} 0 1 = cc in absurd (omega arith)
-told isWaiting k n e = let z : _≡_ {A = ℕ} 0 1 = cc in absurd (omega arith)
-told isNothing k n e = let z : _≡_ {A = ℕ} 0 1 = cc in absurd (omega arith)

@@ -1,7 +1,8 @@
 // The test of a plan: whether bytes are Sync Writes end to end that set the wanted goals, each once, and nothing else.
-use packet::Judgement;
+use packet_rules::Judgement;
 use parameters::Found;
 use plan::Goals;
+use protocols::Protocol;
 use stuffing::Unstuffed;
 ghost use mathlib.Core.Path.{_≡_};
 ghost use mathlib.Core.Option.{none};
@@ -161,7 +162,7 @@ fn is_plan(goals: &[i32], plan: &[u8]) -> bool
     let mut stood = [0u8; 253];
     let mut at = 0;
     while at < plan.len() {
-        let Judgement::Packet(n) = packet::judge(plan, at) else {
+        let Judgement::Packet(n) = protocols::judge(Protocol::Two, plan, at) else {
             return false;
         };
         if !mark_packet(goals, &plan[at..at + n], &mut stood) {

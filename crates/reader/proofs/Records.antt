@@ -1,6 +1,6 @@
 -- The records keep to the rules, so demand 3 holds of them; from a fresh one on no call is refused.
 use mathlib.Core.Path.{_≡_, refl, sym, ap, _∙_}
-use mathlib.Core.List.{List, []}
+use mathlib.Core.List.{List, [], _∷_}
 use mathlib.Core.Option.{Option, none, some}
 use Prim.Native.Nat.{ℕ, _-_, _≤_}
 use native.Mathlib.Omega.{arith}
@@ -13,110 +13,141 @@ use Rattle.reading.specs.Lists.{after, Follows}
 use Rattle.reading.proofs.Held.{held-bound}
 use Rattle.reading.proofs.Follows.{follows-after}
 use Rattle.reading.proofs.Clean.{call-promises}
-use Rattle.packet_front.specs.Front.{idOf}
-use Rattle.packet.specs.Verdict.{protocol2}
-use Rattle.packet.proofs.Laws.{laws}
+use Rattle.reading.specs.Across.{NoneWithout}
+use Rattle.reading.proofs.Across.{none-without}
+use Rattle.packet_v1.specs.Packet.{header}
 use Rattle.packet.proofs.Begins.{none-without-ff}
+use Rattle.protocols.specs.declared.Protocol.{Protocol}
+use Rattle.protocols.specs.declared.Protocol.the-variants.{Two, One, Mercury}
+use Rattle.protocols.specs.Protocols.{rulesOf, idIn}
+use Rattle.protocols.proofs.Shapes.{laws}
 use Rattle.framer.specs.declared.Step.{Step}
 use Rattle.framer.specs.declared.StepEvent.the-variants.{Refused}
-use Rattle.framer.specs.Results.{eventFor, packetBytes, heldFor}
+use Rattle.framer.specs.Results.{mostHeld, eventFor, packetBytes, heldFor}
 use Rattle.reader.specs.declared.Reader.{Reader}
 use Rattle.lists.specs.Write.{padded}
-use Rattle.reader.specs.Records.{heldIn, stepOn, leftBy, packetOn, eventIn, records, NeverRefused, FollowedBy1030, ReaderPromises}
+use Rattle.reader.specs.Records.{heldIn, stepIn, leftIn, packetIn, eventIn, recordsOf, NeverRefusedIn, FollowedBy1030, ReaderPromises, ProtocolPromises, EveryProtocol}
 
 -- ---- one call on a record that is not refused
 
-module _ (r : Reader) (c : Call) (h : r .count ≤ 1030) where
+module _ (p : Protocol) (r : Reader) (c : Call) (h : r .count ≤ mostHeld p) where
   abbrev result : CallResult
-  result = call protocol2 (heldIn r) c
+  result = call (rulesOf p) (heldIn r) c
 
-  step-is : stepOn r c ≡ record { taken = result .taken; held = length (result .held); event = eventFor (result .answer) }
-  unfolding stepOn
-  step-is = rw (le-leb (r .count) 1030 h)
+  step-is : stepIn p r c ≡ record { taken = result .taken; held = length (result .held); event = eventFor p (result .answer) }
+  unfolding stepIn
+  step-is = rw (le-leb (r .count) (mostHeld p) h)
 
-  packet-padded : (old : List ℕ) → packetOn r c old ≡ padded 1031 (packetBytes (result .answer))
-  unfolding packetOn
-  packet-padded old = rw (le-leb (r .count) 1030 h)
+  packet-padded : (old : List ℕ) → packetIn p r c old ≡ padded (rulesOf p .longest) (packetBytes (result .answer))
+  unfolding packetIn
+  packet-padded old = rw (le-leb (r .count) (mostHeld p) h)
 
-  left-padded : leftBy r c .bytes ≡ padded 1030 (result .held)
-  unfolding leftBy
-  left-padded = rw (le-leb (r .count) 1030 h)
+  left-padded : leftIn p r c .bytes ≡ padded (mostHeld p) (result .held)
+  unfolding leftIn
+  left-padded = rw (le-leb (r .count) (mostHeld p) h)
 
-  left-count : leftBy r c .count ≡ length (result .held)
-  unfolding leftBy
+  left-count : leftIn p r c .count ≡ length (result .held)
+  unfolding leftIn
   left-count = ap (λ (s : Step). s .held) step-is
 
-  left-held : heldIn (leftBy r c) ≡ result .held
+  left-held : heldIn (leftIn p r c) ≡ result .held
   left-held =
       let t = result .held in
-      ap (λ (s : List ℕ). take (leftBy r c .count) s) left-padded
-      ∙ take-at t (replicate (1030 - length t) 0) (leftBy r c .count) (sym left-count)
+      ap (λ (s : List ℕ). take (leftIn p r c .count) s) left-padded
+      ∙ take-at t (replicate (mostHeld p - length t) 0) (leftIn p r c .count) (sym left-count)
 
-  left-legal : leftBy r c .count ≤ 1030
+  left-legal : leftIn p r c .count ≤ mostHeld p
   left-legal =
-      let k = held-bound protocol2 laws (heldIn r) c (simp length-take (omega arith)) in
+      let k = held-bound (rulesOf p) (laws p) (heldIn r) c (simp length-take (omega arith)) in
       rw left-count k
 
-  event-told : eventIn (stepOn r c .event) (packetOn r c (replicate 1031 0)) ≡ result .answer
-  event-told = rw (step-is, packet-padded (replicate 1031 0)) (by (result .answer))
+  event-told : eventIn p (stepIn p r c .event) (packetIn p r c (replicate (rulesOf p .longest) 0)) ≡ result .answer
+  event-told = rw (step-is, packet-padded (replicate (rulesOf p .longest) 0)) (by (result .answer))
     where
-      by : (a : Option Event) → eventIn (eventFor a) (padded 1031 (packetBytes a)) ≡ a
+      by : (a : Option Event) → eventIn p (eventFor p a) (padded (rulesOf p .longest) (packetBytes a)) ≡ a
       by none = refl
       by (some (packet w)) =
-          let e : take (length w) (padded 1031 w) ≡ w = take-at w (replicate (1031 - length w) 0) (length w) refl in
-          rw (e, eq-eqb (idOf w) (idOf w) refl)
+          let e : take (length w) (padded (rulesOf p .longest) w) ≡ w = take-at w (replicate (rulesOf p .longest - length w) 0) (length w) refl in
+          rw (e, eq-eqb (idIn p w) (idIn p w) refl)
       by (some (badChecksum id)) = refl
 
-  never-told : ¬ (stepOn r c .event ≡ Refused)
+  never-told : ¬ (stepIn p r c .event ≡ Refused)
   never-told e = by (result .answer) (rw step-is at e)
     where
-      by : (a : Option Event) → ¬ (eventFor a ≡ Refused)
+      by : (a : Option Event) → ¬ (eventFor p a ≡ Refused)
       by none e = let z : _≡_ {A = ℕ} 0 1 = cc in omega arith
       by (some (packet w)) e = let z : _≡_ {A = ℕ} 0 1 = cc in omega arith
       by (some (badChecksum id)) e = let z : _≡_ {A = ℕ} 0 1 = cc in omega arith
 
 -- ---- lists of calls
 
-abbrev Legal : Reader → Type 0
-Legal r = r .count ≤ 1030
+module _ (p : Protocol) where
+  abbrev Legal : Reader → Type 0
+  Legal r = r .count ≤ mostHeld p
 
-pub follows : Follows protocol2 records Legal heldIn
-follows =
-    record {
-      fresh = λ r e. (rw e (omega arith), rw e);
-      same-taken = λ r c h. ap (λ (s : Step). s .taken) (step-is r c h);
-      same-answer = λ r c h. event-told r c h;
-      same-next = λ r c h. (left-legal r c h, left-held r c h);
-    }
+  pub follows : Follows (rulesOf p) (recordsOf p) Legal heldIn
+  follows =
+      record {
+        fresh = λ r e. (rw e (omega arith), rw e);
+        same-taken = λ r c h. ap (λ (s : Step). s .taken) (step-is p r c h);
+        same-answer = λ r c h. event-told p r c h;
+        same-next = λ r c h. (left-legal p r c h, left-held p r c h);
+      }
 
-never-refused : NeverRefused
-unfolding follows
-never-refused r e cs c =
-    let f = follows .fresh r e in
-    let n = follows-after protocol2 records Legal heldIn follows r [] cs (f .0) (f .1) in
-    let x = after records r cs in
-    never-told x c (n .0)
+  never-refused : NeverRefusedIn p
+  unfolding follows
+  never-refused r e cs c =
+      let f = follows .fresh r e in
+      let n = follows-after (rulesOf p) (recordsOf p) Legal heldIn follows r [] cs (f .0) (f .1) in
+      let x = after (recordsOf p) r cs in
+      never-told p x c (n .0)
 
 -- ---- the record after a call
 
-pub record-left : (step : Step) (bytes : List ℕ) (r : Reader) (c : Call) → step ≡ stepOn r c
-    → bytes ≡ heldFor (r .count) (r .bytes) (call protocol2 (heldIn r) c)
-    → _≡_ {A = Reader} (record { bytes = bytes; count = step .held }) (leftBy r c)
-unfolding leftBy
-record-left step bytes r c e b = λ i. record { bytes = b i; count = e i .held }
+pub record-left : (p : Protocol) (step : Step) (bytes : List ℕ) (r : Reader) (c : Call) → step ≡ stepIn p r c
+    → bytes ≡ heldFor p (r .count) (r .bytes) (call (rulesOf p) (heldIn r) c)
+    → _≡_ {A = Reader} (record { bytes = bytes; count = step .held }) (leftIn p r c)
+unfolding leftIn
+record-left p step bytes r c e b = λ i. record { bytes = b i; count = e i .held }
 
 followed-by-1030 : FollowedBy1030
 followed-by-1030 s = (λ h. omega arith, λ h. omega arith)
 
 -- ---- all that is promised
 
-pub reader-promises : ReaderPromises
-reader-promises =
+-- every packet begins with FF
+begins : (w : List ℕ) → take 2 w ≡ header → (t : List ℕ) × (w ≡ 0xFF ∷ t)
+begins [] e = let z : _≡_ {A = ℕ} 0 1 = cc in absurd (omega arith)
+begins (b ∷ t) e = let h : b ≡ 0xFF = cc in (t, ap (λ (a : ℕ). a ∷ t) h)
+
+without-ff : (p : Protocol) → NoneWithout (rulesOf p) 0xFF
+without-ff Two = none-without-ff
+without-ff One = none-without (rulesOf One) 0xFF (λ w f. begins w (f .headed))
+without-ff Mercury = none-without (rulesOf Mercury) 0xFF (λ w f. begins w (f .headed))
+
+protocol-promises : (p : Protocol) → ProtocolPromises p (mostHeld p)
+protocol-promises p =
     record {
       any-fresh = λ bytes. refl;
-      follows = follows;
-      calls = call-promises protocol2 laws records Legal heldIn follows;
-      never-refused = never-refused;
+      follows = follows p;
+      calls = call-promises (rulesOf p) (laws p) (recordsOf p) (Legal p) heldIn (follows p);
+      never-refused = never-refused p;
+      followed-by = λ s. (λ h. omega arith, λ h. omega arith);
+      none-without-ff = without-ff p;
+    }
+
+pub every-protocol : EveryProtocol
+every-protocol = record { two = protocol-promises Two; one = protocol-promises One; mercury = protocol-promises Mercury }
+
+pub reader-promises : ReaderPromises
+reader-promises =
+    let two = protocol-promises Two in
+    record {
+      any-fresh = two .any-fresh;
+      follows = two .follows;
+      calls = two .calls;
+      never-refused = two .never-refused;
       followed-by-1030 = followed-by-1030;
       none-without-ff = none-without-ff;
+      every-protocol = every-protocol;
     }

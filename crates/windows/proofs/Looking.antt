@@ -1,5 +1,6 @@
--- By the rules of Protocol 2.0: what the look at an offset and the judgement there tell, and the way to the next FF.
-use mathlib.Core.Path.{_≡_, refl, subst}
+-- By the rules of a protocol: what the look at an offset and the judgement there tell, and the way to the next
+-- offset at which a packet may begin.
+use mathlib.Core.Path.{_≡_, refl, sym, subst, _∙_}
 use mathlib.Core.List.{List}
 use Prim.Native.Nat.{ℕ, _+_, _-_, _≤_, _<_}
 use native.Mathlib.Omega.{arith}
@@ -7,16 +8,18 @@ use lib.ListN.{length, take, drop, length-drop}
 use Rattle.reading.specs.Rules.{Rules, Laws, isNothing}
 use Rattle.reading.specs.Reading.{Mode, closed}
 use Rattle.reading.specs.Calls.{first}
-use Rattle.packet_front.specs.Begun.{begunBy, beforeFF}
-use Rattle.packet_front.specs.declared.Begun.{Begun}
-use Rattle.packet_front.specs.declared.Begun.the-variants.{Whole}
-use Rattle.packet_front.specs.declared.Begun.the-variants.{Nothing as Nothing·begun, Waiting as Waiting·begun}
-use Rattle.packet_front.proofs.Starts.{before-fits}
-use Rattle.packet.specs.Verdict.{protocol2, wholeAnswer, settledBy}
-use Rattle.packet.specs.declared.Judgement.{Judgement}
-use Rattle.packet.specs.declared.Judgement.the-variants.{Packet, BadChecksum, Waiting, Nothing}
-use Rattle.packet.proofs.Laws.{laws, settles}
-use Rattle.packet.proofs.Looks.{Looked, Judged, looked, judged, none-before-ff, begun-at, whole-fits, whole-at}
+use Rattle.packet_rules.specs.Answers.{begunBy, settledBy}
+use Rattle.packet_rules.specs.Starts.{beforeStart}
+use Rattle.packet_rules.specs.declared.Begun.{Begun}
+use Rattle.packet_rules.specs.declared.Begun.the-variants.{Whole}
+use Rattle.packet_rules.specs.declared.Begun.the-variants.{Nothing as Nothing·begun, Waiting as Waiting·begun}
+use Rattle.packet_rules.specs.declared.Judgement.{Judgement}
+use Rattle.packet_rules.specs.declared.Judgement.the-variants.{Packet, BadChecksum, Waiting, Nothing}
+use Rattle.packet_rules.proofs.Looks.{Looked, Judged, looked, judged, begun-at, whole-fits}
+use Rattle.packet_rules.proofs.Starts.{before-fits}
+use Rattle.protocols.specs.declared.Protocol.{Protocol}
+use Rattle.protocols.specs.Protocols.{shapeOf, rulesOf, mayBeginOf, wholeOf}
+use Rattle.protocols.proofs.Shapes.{shapes-kept, laws, settles, whole-is, whole-at, none-before-start}
 use Rattle.windows.proofs.Scans.{scan-none, scan-nothing, scan-past}
 use Rattle.windows.proofs.Seeking.{Sought, sought-past}
 
@@ -35,32 +38,38 @@ look-past R L settled s at h Nothing·begun v w = scan-nothing R L closed s at a
 look-past R L settled s at h (Waiting·begun k) v w = scan-past R L s at at (omega arith) h (v .0) refl
 look-past R L settled s at h (Whole n) v w = absurd (w n refl)
 
-module _ (s : List ℕ) (at : ℕ) where
+module _ (p : Protocol) (s : List ℕ) (at : ℕ) where
   -- b is what the look says
-  module _ (b : Begun) (e : b ≡ begunBy (take (length s - at) (drop at s))) where
-    pub look-at : (b′ : Begun) → b ≡ b′ → Looked protocol2 settledBy (drop at s) b′
-    look-at b′ i = looked (drop at s) b′ (begun-at s at b b′ e i)
+  module _ (b : Begun) (e : b ≡ begunBy (shapeOf p) (take (length s - at) (drop at s))) where
+    pub look-at : (b′ : Begun) → b ≡ b′ → Looked (rulesOf p) (settledBy (shapeOf p)) (drop at s) b′
+    look-at b′ i = looked (shapeOf p) (drop at s) b′ (begun-at (shapeOf p) s at b b′ e i)
 
     pub fits-at : (n : ℕ) → b ≡ Whole n → at + n ≤ length s
-    fits-at n i = whole-fits s at n (begun-at s at b (Whole n) e i)
+    fits-at n i = whole-fits (shapeOf p) s at (shapes-kept p) n (begun-at (shapeOf p) s at b (Whole n) e i)
 
-    pub judge-at : (n : ℕ) → b ≡ Whole n → (j j′ : Judgement) → j ≡ wholeAnswer (take (at + n - at) (drop at s)) → j ≡ j′
-        → Judged protocol2 (drop at s) j′
+    pub judge-at : (n : ℕ) → b ≡ Whole n → (j j′ : Judgement) → j ≡ wholeOf p (take (at + n - at) (drop at s)) → j ≡ j′
+        → Judged (rulesOf p) (drop at s) j′
     judge-at n i j j′ k l =
-        subst (λ (x : Judgement). Judged protocol2 (drop at s) x) (whole-at s at n j j′ k l)
-        (judged (drop at s) n (begun-at s at b (Whole n) e i))
+        let w = begun-at (shapeOf p) s at b (Whole n) e i in
+        subst (λ (x : Judgement). Judged (rulesOf p) (drop at s) x) (sym (whole-is p (drop at s) n w) ∙ whole-at p s at n j j′ k l)
+        (judged (shapeOf p) (drop at s) (shapes-kept p) n w)
 
-  -- r is the next FF, or the end
-  module _ (r : ℕ) (e : r ≡ at + beforeFF (drop at s)) where
-    pub next-start : (m : Mode) → at ≤ length s
-        → (at ≤ r) × (r ≤ length s) × (first protocol2 m (drop at s) ≡ first protocol2 m (drop r s))
-    next-start m h =
-        let f = before-fits (drop at s) in (
+  -- r is the next offset at which a packet may begin, or the end
+  module _ (r : ℕ) (e : r ≡ at + beforeStart (mayBeginOf p) (drop at s)) where
+    abbrev passed : ℕ
+    passed = beforeStart (mayBeginOf p) (drop at s)
+
+    pub start-at : (m : Mode) → at ≤ length s
+        → (at ≤ r) × (r ≤ length s) × (first (rulesOf p) m (drop at s) ≡ first (rulesOf p) m (drop r s))
+    start-at m h =
+        let f = before-fits (mayBeginOf p) (drop at s) in (
           omega (arith, e),
           omega (arith, e, f, length-drop at s),
-          rw e (scan-none protocol2 settledBy s at (beforeFF (drop at s)) (none-before-ff (drop at s)) m f),
+          rw e (scan-none (rulesOf p) (settledBy (shapeOf p)) s at passed (none-before-start p (drop at s)) m f),
         )
 
-    pub next-sought : (end : ℕ) → Sought protocol2 settledBy s at end → Sought protocol2 settledBy s r end
-    next-sought end w =
-        rw e (sought-past protocol2 laws settledBy settles s at end w (beforeFF (drop at s)) (none-before-ff (drop at s)) (before-fits (drop at s)))
+    pub start-sought : (end : ℕ) → Sought (rulesOf p) (settledBy (shapeOf p)) s at end → Sought (rulesOf p) (settledBy (shapeOf p)) s r end
+    start-sought end w =
+        rw e
+        (sought-past (rulesOf p) (laws p) (settledBy (shapeOf p)) (settles p) s at end w passed (none-before-start p (drop at s))
+        (before-fits (mayBeginOf p) (drop at s)))

@@ -31,11 +31,11 @@ pub least-first : (a b c n m : ℕ) → n ≡ min a b → m ≡ min n c → m �
 least-first a b c n m e f = omega (arith, e, f)
 
 -- bytes that are not given back to the chunk are some
-pub not-back : (k n : ℕ) → (leb k n && ltb k 10) ≡ false → k ≡ 0 → ⊥
-not-back k n e z =
+pub not-back : (few k n : ℕ) → 0 < few → (leb k n && ltb k few) ≡ false → k ≡ 0 → ⊥
+not-back few k n o e z =
     let l = le-leb k n (omega arith) in
-    let s = lt-ltb k 10 (omega arith) in
-    both-ways (leb k n && ltb k 10) (rw (l, s)) e
+    let s = lt-ltb k few (omega arith) in
+    both-ways (leb k n && ltb k few) (rw (l, s)) e
 
 -- ---- the call's way
 
@@ -171,16 +171,17 @@ module _ (R : Rules) (L : Laws R) (chunk : List ℕ) (most : ℕ) where
           ∙ ap (λ (k : ℕ). drop k (h ++ take taken chunk)) z
 
       -- the bytes that were held are passed, and those that wait are few: they are read in the chunk
-      pub window-back : ((u : List ℕ) → length u < 10 → Undecided (R .verdict u)) → (leb (end - start) taken && ltb (end - start) 10) ≡ true
+      pub window-back : (few : ℕ) → ((u : List ℕ) → length u < few → Undecided (R .verdict u))
+          → (leb (end - start) taken && ltb (end - start) few) ≡ true
           → (end - start ≤ taken) × Reached R h chunk [] (taken - (end - start))
-      window-back q e =
+      window-back few q e =
           let k = end - start in
-          let l = leb-true k taken (and-left (leb k taken) (ltb k 10) e) in
-          let f = ltb-true k 10 (and-right (leb k taken) (ltb k 10) e) in
+          let l = leb-true k taken (and-left (leb k taken) (ltb k few) e) in
+          let f = ltb-true k few (and-right (leb k taken) (ltb k few) e) in
           let y : length h + taken - k ≡ length h + (taken - k) = omega arith in
           let z : taken - (taken - k) ≡ k = omega arith in (
             l,
-            reached-back R 10 q h chunk (drop start (take end held)) taken k (window .reached) l f
+            reached-back R few q h chunk (drop start (take end held)) taken k (window .reached) l f
                 (window-last ∙ ap (λ (n : ℕ). drop n (h ++ take taken chunk)) y ∙ drop-append-add h (take taken chunk) (taken - k)
                 ∙ part (taken - k) taken chunk
                 ∙ ap (λ (n : ℕ). take n (drop (taken - k) chunk)) z),

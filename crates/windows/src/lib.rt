@@ -1,6 +1,7 @@
 // Looking for the first event in held bytes and in a chunk, in place.
-use packet::Judgement;
-use packet_front::Begun;
+use packet_rules::Begun;
+use packet_rules::Judgement;
+use protocols::Protocol;
 ghost use mathlib.Core.Path.{_≡_};
 ghost use mathlib.Core.Bool.{_&&_};
 ghost use mathlib.Core.List.{[], _++_};
@@ -9,7 +10,7 @@ ghost use Prim.Native.Nat.{_+_, _-_, _≤_, min};
 ghost use lib.Dec.{leb, ltb};
 ghost use lib.ListN.{length, take, drop};
 ghost use Rattle.reading.specs.Reading.{open′, closed};
-ghost use Rattle.packet.specs.Verdict.{protocol2};
+ghost use Rattle.protocols.specs.Protocols.{shapeOf, rulesOf};
 ghost use Rattle.windows.specs.Scan.{Seen, Wants, Ends, Filled};
 
 // What stands at the first offset that is not nothing. Waiting stands also at the end, where all has been passed.
@@ -71,23 +72,23 @@ fn greatest(a: usize, b: usize) -> usize
     if a < b { b } else { a }
 }
 
-// The bytes of s from `from` on, offset by offset; those before the next FF at which a packet may begin say nothing.
-fn scan(s: &[u8], from: usize) -> Live
+// The bytes of s from `from` on, offset by offset; those before the next at which a packet may begin say nothing.
+fn scan(protocol: Protocol, s: &[u8], from: usize) -> Live
     requires { ⌜ from ≤ length (now s) ⌝ }
-    ensures { λ r. ⌜ Seen protocol2 open′ (now (s .entry)) from (r .seen) × Wants protocol2 (now (s .entry)) (r .seen) (r .lacks) ⌝ }
+    ensures { λ r. ⌜ Seen (rulesOf protocol) open′ (now (s .entry)) from (r .seen) × Wants (rulesOf protocol) (now (s .entry)) (r .seen) (r .lacks) ⌝ }
 {
     let mut next = from;
     loop {
-        let at = packet_front::next_ff(s, next);
+        let at = protocols::next_start(protocol, s, next);
         if s.len() <= at {
             return wanting(Scanned::Waiting { at }, 0);
         }
-        match packet_front::look(&s[at..]) {
+        match protocols::look(protocol, &s[at..]) {
             Begun::Nothing => {}
             Begun::Waiting(lacks) => {
                 return wanting(Scanned::Waiting { at }, lacks);
             }
-            Begun::Whole(size) => match packet::judge_whole(&s[at..at + size]) {
+            Begun::Whole(size) => match protocols::judge_whole(protocol, &s[at..at + size]) {
                 Judgement::Packet(count) => {
                     return wanting(Scanned::Packet { at, count }, 0);
                 }
@@ -103,20 +104,20 @@ fn scan(s: &[u8], from: usize) -> Live
 
 // The first event of a closed segment, or that it has none: what waits is passed like what says nothing, and fewer bytes than the
 // shortest packet has are left alone. [K4]
-pub fn scan_closed(segment: &[u8]) -> Scanned
-    ensures { λ r. ⌜ Seen protocol2 closed (now (segment .entry)) 0 r ⌝ }
+pub fn scan_closed(protocol: Protocol, segment: &[u8]) -> Scanned
+    ensures { λ r. ⌜ Seen (rulesOf protocol) closed (now (segment .entry)) 0 r ⌝ }
 {
     let mut from = 0;
     loop {
-        let at = packet_front::next_ff(segment, from);
+        let at = protocols::next_start(protocol, segment, from);
         if segment.len() <= at {
             return Scanned::Waiting { at };
         }
-        if segment.len() - at < 10 {
+        if segment.len() - at < protocols::shortest(protocol) {
             return Scanned::Waiting { at: segment.len() };
         }
-        if let Begun::Whole(size) = packet_front::look(&segment[at..]) {
-            match packet::judge_whole(&segment[at..at + size]) {
+        if let Begun::Whole(size) = protocols::look(protocol, &segment[at..]) {
+            match protocols::judge_whole(protocol, &segment[at..at + size]) {
                 Judgement::Packet(count) => return Scanned::Packet { at, count },
                 Judgement::BadChecksum(id) => return Scanned::BadChecksum { at, id },
                 _ => {}
@@ -128,25 +129,25 @@ pub fn scan_closed(segment: &[u8]) -> Scanned
 
 // The chunk, where no bytes are held. Each offset is looked at once, by all the bytes that follow; what is taken are those that
 // settle the offsets up to the event. [K4]
-pub fn advance(chunk: &[u8]) -> Window
+pub fn advance(protocol: Protocol, chunk: &[u8]) -> Window
     ensures { λ r. ⌜ (r .end ≤ length (now (chunk .entry)))
-        × Ends protocol2 [] (now (chunk .entry)) (take (r .end) (now (chunk .entry))) (r .end) (r .seen) ⌝ }
+        × Ends (rulesOf protocol) [] (now (chunk .entry)) (take (r .end) (now (chunk .entry))) (r .end) (r .seen) ⌝ }
 {
     let mut past = 0;
     let mut end = 0;
     loop {
-        let at = packet_front::next_ff(chunk, past);
+        let at = protocols::next_start(protocol, chunk, past);
         if chunk.len() <= at {
             return ending(Scanned::Waiting { at }, chunk.len());
         }
-        match packet_front::look(&chunk[at..]) {
+        match protocols::look(protocol, &chunk[at..]) {
             Begun::Nothing => {}
             Begun::Waiting(_) => {
                 return ending(Scanned::Waiting { at }, chunk.len());
             }
             Begun::Whole(size) => {
                 end = greatest(end, at + size);
-                match packet::judge_whole(&chunk[at..at + size]) {
+                match protocols::judge_whole(protocol, &chunk[at..at + size]) {
                     Judgement::Packet(count) => {
                         return ending(Scanned::Packet { at, count }, end);
                     }
@@ -179,16 +180,16 @@ fn append(held: &mut [u8], at: usize, end: usize, bytes: &[u8]) -> usize
 }
 
 // Whether the bytes that wait were all taken from the chunk, and are fewer than the shortest packet has: they can be read there.
-fn back_in_chunk(waiting: usize, taken: usize) -> bool
-    ensures { λ r. ⌜ r ≡ (leb waiting taken && ltb waiting 10) ⌝ }
+fn back_in_chunk(protocol: Protocol, waiting: usize, taken: usize) -> bool
+    ensures { λ r. ⌜ r ≡ (leb waiting taken && ltb waiting (shapeOf protocol .shortest)) ⌝ }
 {
-    waiting <= taken && waiting < 10
+    waiting <= taken && waiting < protocols::shortest(protocol)
 }
 
 // The held bytes, and where they wait as many of the chunk's as they wait for, as far as there is room. Once those that were held
 // are passed, the few that wait go back to the chunk, and reading goes on there. [K2 K4]
-pub fn fill(held: &mut [u8], count: usize, chunk: &[u8]) -> Stop
-    ensures { λ r. ⌜ Filled protocol2 (take count (now (held .entry))) (now (chunk .entry)) (now (held .entry)) (now (held .exit)) r ⌝ }
+pub fn fill(protocol: Protocol, held: &mut [u8], count: usize, chunk: &[u8]) -> Stop
+    ensures { λ r. ⌜ Filled (rulesOf protocol) (take count (now (held .entry))) (now (chunk .entry)) (now (held .entry)) (now (held .exit)) r ⌝ }
 {
     let mut end = least(count, held.len());
     if end == 0 {
@@ -197,7 +198,7 @@ pub fn fill(held: &mut [u8], count: usize, chunk: &[u8]) -> Stop
     let mut at = 0;
     let mut taken = 0;
     loop {
-        let live = scan(&held[..end], at);
+        let live = scan(protocol, &held[..end], at);
         let seen = live.seen;
         let Scanned::Waiting { at: start } = seen else {
             return Stop::Done { seen, end, taken };
@@ -207,7 +208,7 @@ pub fn fill(held: &mut [u8], count: usize, chunk: &[u8]) -> Stop
             return Stop::Done { seen, end, taken };
         }
         let waiting = end - start;
-        if back_in_chunk(waiting, taken) {
+        if back_in_chunk(protocol, waiting, taken) {
             return Stop::Passed {
                 taken: taken - waiting,
             };

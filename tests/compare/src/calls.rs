@@ -3,6 +3,12 @@ use exports::{Answer, Carried, Event, Found, Reader, Registered, Reply, Salvaged
 /// ID, instruction, parameters, output buffer and offset.
 pub type EncodeCall = fn(u8, u8, &[u8], &mut [u8], usize) -> i64;
 
+/// Held bytes, their count, chunk and packet buffer, in Protocol 1.0 or Mercury.
+pub type FeedV1Call = fn(&mut [u8; 258], &mut usize, &[u8], &mut [u8; 259]) -> Step;
+
+/// The same without a chunk.
+pub type GapV1Call = fn(&mut [u8; 258], &mut usize, &mut [u8; 259]) -> Step;
+
 /// Table, registered write, kind, ID, body and reply buffer.
 pub type DeviceCall = fn(&mut [u8], Registered, u8, u8, &[u8], &mut [u8]) -> Answer;
 
@@ -28,6 +34,10 @@ pub struct Calls {
     pub gap: fn(&mut [u8; 1030], &mut usize, &mut [u8; 1031]) -> Step,
     pub reader_feed: fn(&mut Reader, &[u8], &mut [u8; 1031]) -> Step,
     pub reader_gap: fn(&mut Reader, &mut [u8; 1031]) -> Step,
+    pub p1_feed: FeedV1Call,
+    pub p1_gap: GapV1Call,
+    pub mercury_feed: FeedV1Call,
+    pub mercury_gap: GapV1Call,
     pub next_event: fn(&[u8], usize) -> Event,
     pub log_write: fn(&[u8], &[u32], &mut [u8]) -> i64,
     pub log_check: fn(&[u8]) -> i64,
@@ -55,6 +65,10 @@ pub const PROVED: Calls = Calls {
     gap: exports::gap,
     reader_feed: exports::reader_feed,
     reader_gap: exports::reader_gap,
+    p1_feed: exports::p1_feed,
+    p1_gap: exports::p1_gap,
+    mercury_feed: exports::mercury_feed,
+    mercury_gap: exports::mercury_gap,
     next_event: exports::next_event,
     log_write: exports::log_write,
     log_check: exports::log_check,

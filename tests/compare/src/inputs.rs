@@ -78,6 +78,62 @@ pub fn v1_packet(rng: &mut Rng, length: usize) -> Vec<u8> {
     v1::packet_of(id, &body(rng, length))
 }
 
+/// A part of a segment of Protocol 1.0 or Mercury. Longer bodies have up to so many bytes, at most 240.
+fn v1_part(rng: &mut Rng, longest: usize) -> Vec<u8> {
+    let length = if rng.one_in(3) { rng.between(1, longest) } else { rng.between(1, longest.min(12)) };
+    let mut whole = v1_packet(rng, length);
+    match rng.between(0, 12) {
+        // runs of FF, and fronts that promise few bytes, many, or too few
+        0 | 1 => vec![0xFF; rng.between(1, 5)],
+        2 => vec![0xFF, 0xFF, id(rng), rng.pick(&[0, 1, 2, 3, 9, 254, 255])],
+        3 => rng.bytes(length),
+        4 => {
+            let kept = rng.between(0, whole.len());
+            whole.truncate(kept);
+            whole
+        }
+        5 | 6 => {
+            let place = rng.between(2, whole.len() - 1);
+            whole[place] ^= rng.between(1, 255) as u8;
+            whole
+        }
+        7 | 8 => {
+            // a packet inside one that is well-formed, or whose checksum is wrong
+            let (before, after) = (rng.between(0, 3), rng.between(0, 5));
+            let inside = [vec![0xFF; before], whole, rng.bytes(after)].concat();
+            let mut outer = v1::packet_of(id(rng), &inside);
+            if rng.one_in(2) {
+                *outer.last_mut().expect("no packet is empty") ^= 1;
+            }
+            outer
+        }
+        _ => whole,
+    }
+}
+
+/// Runs of FF, packets good and bad, cut, and inside each other, one after the other.
+pub fn v1_segment(rng: &mut Rng, parts: usize, longest: usize) -> Vec<u8> {
+    (0..parts).flat_map(|_| v1_part(rng, longest)).collect()
+}
+
+/// Any bytes and any count for a record of Protocol 1.0 or Mercury: often full, or with a count that is too large.
+pub fn v1_record(rng: &mut Rng) -> ([u8; v1::MOST_HELD], usize) {
+    let contents = if rng.one_in(3) { rng.bytes(v1::MOST_HELD) } else { v1_segment(rng, 30, 40) };
+    let mut held = [rng.byte(); v1::MOST_HELD];
+    let filled = contents.len().min(v1::MOST_HELD);
+    held[..filled].copy_from_slice(&contents[..filled]);
+    let count = match rng.between(0, 9) {
+        0 => v1::MOST_HELD,
+        1 => rng.between(v1::MOST_HELD - 9, v1::MOST_HELD),
+        // where Protocol 2.0 would still accept it, too
+        2 => rng.between(v1::MOST_HELD + 1, 1_031),
+        3 => rng.pick(&[usize::MAX, usize::MAX - 258, 1 << 63, 1 << 32, (1 << 32) + 5, 1 << 16, 65_541]),
+        4 | 5 => rng.between(0, 20),
+        _ => rng.between(0, v1::MOST_HELD),
+    };
+    (held, count)
+}
+
 /// Noise that looks like the beginnings of packets: header bytes, IDs at the ends of their range, lengths that are soon there,
 /// far off, or out of bounds.
 pub fn noise(rng: &mut Rng, length: usize) -> Vec<u8> {

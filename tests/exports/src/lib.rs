@@ -138,6 +138,10 @@ mod raw {
         pub fn dxl_gap(held: *mut u8, count: *mut usize, packet: *mut u8) -> Step;
         pub fn dxl_reader_feed(reader: *mut Reader, chunk: *const u8, n: usize, packet: *mut u8) -> Step;
         pub fn dxl_reader_gap(reader: *mut Reader, packet: *mut u8) -> Step;
+        pub fn dxl_p1_feed(held: *mut u8, count: *mut usize, chunk: *const u8, n: usize, packet: *mut u8) -> Step;
+        pub fn dxl_p1_gap(held: *mut u8, count: *mut usize, packet: *mut u8) -> Step;
+        pub fn dxl_mercury_feed(held: *mut u8, count: *mut usize, chunk: *const u8, n: usize, packet: *mut u8) -> Step;
+        pub fn dxl_mercury_gap(held: *mut u8, count: *mut usize, packet: *mut u8) -> Step;
         pub fn dxl_next_event(segment: *const u8, n: usize, from: usize) -> Event;
 
         pub fn dxl_log_write(
@@ -258,6 +262,22 @@ pub fn reader_feed(reader: &mut Reader, chunk: &[u8], packet: &mut [u8; 1031]) -
 
 pub fn reader_gap(reader: &mut Reader, packet: &mut [u8; 1031]) -> Step {
     unsafe { raw::dxl_reader_gap(reader, packet.as_mut_ptr()) }
+}
+
+pub fn p1_feed(held: &mut [u8; 258], count: &mut usize, chunk: &[u8], packet: &mut [u8; 259]) -> Step {
+    unsafe { raw::dxl_p1_feed(held.as_mut_ptr(), count, chunk.as_ptr(), chunk.len(), packet.as_mut_ptr()) }
+}
+
+pub fn p1_gap(held: &mut [u8; 258], count: &mut usize, packet: &mut [u8; 259]) -> Step {
+    unsafe { raw::dxl_p1_gap(held.as_mut_ptr(), count, packet.as_mut_ptr()) }
+}
+
+pub fn mercury_feed(held: &mut [u8; 258], count: &mut usize, chunk: &[u8], packet: &mut [u8; 259]) -> Step {
+    unsafe { raw::dxl_mercury_feed(held.as_mut_ptr(), count, chunk.as_ptr(), chunk.len(), packet.as_mut_ptr()) }
+}
+
+pub fn mercury_gap(held: &mut [u8; 258], count: &mut usize, packet: &mut [u8; 259]) -> Step {
+    unsafe { raw::dxl_mercury_gap(held.as_mut_ptr(), count, packet.as_mut_ptr()) }
 }
 
 pub fn next_event(segment: &[u8], from: usize) -> Event {

@@ -90,6 +90,23 @@ pub enum Operation {
     Gap,
     /// Gap calls until one gives no event.
     Finish,
+    /// Another reader of Protocol 1.0 or Mercury. What is not given of its 258 bytes is `past`.
+    RecordV1 {
+        protocol: v1::Protocol,
+        count: usize,
+        past: u8,
+        held: Vec<u8>,
+    },
+    /// One feeding call of that reader.
+    FeedV1 {
+        chunk: Vec<u8>,
+    },
+    /// Its feeding calls until one gives no event.
+    ArriveV1 {
+        chunk: Vec<u8>,
+    },
+    /// One gap call of that reader.
+    GapV1,
     /// Another table and another reply buffer; the registered write stays.
     Board {
         reply: usize,
@@ -153,8 +170,9 @@ impl Operation {
             Operation::Ask { log, .. } | Operation::Salvage { log, .. } => log.len(),
             Operation::Plan { goals, .. } => goals.len(),
             Operation::Check { goals, plan } => goals.len() + plan.len(),
-            Operation::Record { held, .. } => held.len(),
+            Operation::Record { held, .. } | Operation::RecordV1 { held, .. } => held.len(),
             Operation::Feed { chunk } | Operation::Arrive { chunk } | Operation::Exchange { chunk } => chunk.len(),
+            Operation::FeedV1 { chunk } | Operation::ArriveV1 { chunk } => chunk.len(),
             Operation::Board { table, .. } => table.len(),
             Operation::Receive { packet, .. } => packet.len(),
             _ => 0,

@@ -5,7 +5,7 @@ use compare::{compare_checksum, compare_encode, compare_flipped, compare_log_che
 use compare::compare_log_write;
 use compare::{compare_next_event, compare_plan, compare_plan_check, compare_status, compare_unstuff, compare_v1_encode};
 use compare::{BAD_CHECKSUM, PACKET};
-use compare::{hex, Calls, Comparison, DevicePair, Difference, Encoded, Guarded, ReaderPair, Stepped, Told};
+use compare::{hex, Calls, Comparison, DevicePair, Difference, Encoded, Guarded, ReaderPair, Stepped, Told, V1ReaderPair};
 use reference::{fresh, v1, Event, Registered, Rng, MOST_HELD};
 use std::collections::BTreeMap;
 
@@ -59,6 +59,8 @@ struct World<'a> {
     reader: ReaderPair,
     /// What the last feeding call has left.
     rest: Vec<u8>,
+    /// A reader of Protocol 1.0 or Mercury.
+    v1_reader: V1ReaderPair,
     device: DevicePair,
     /// The reader at the other end of the line. It holds nothing between two statuses.
     host: ReaderPair,
@@ -72,7 +74,8 @@ impl<'a> World<'a> {
         let reader = ReaderPair::of(*calls, &mut rng, [past; MOST_HELD], 0);
         let host = ReaderPair::of(*calls, &mut rng, [past; MOST_HELD], 0);
         let device = DevicePair::of(*calls, &mut rng, &fresh(), Registered::default(), REPLY_BYTES);
-        World { calls, rng, reader, rest: Vec::new(), device, host, tally }
+        let v1_reader = V1ReaderPair::of(*calls, v1::Protocol::P1, &mut rng, [past; v1::MOST_HELD], 0);
+        World { calls, rng, reader, rest: Vec::new(), v1_reader, device, host, tally }
     }
 
     fn perform(&mut self, operation: &Operation) -> Result<(), Difference> {
@@ -141,6 +144,19 @@ impl<'a> World<'a> {
             Operation::Arrive { chunk } => self.arrive(chunk, |_, _| Ok(()))?,
             Operation::Gap => drop(self.gap()?),
             Operation::Finish => self.finish(|_, _| Ok(()))?,
+            Operation::RecordV1 { protocol, count, past, held } => {
+                let mut record = [*past; v1::MOST_HELD];
+                record[..held.len()].copy_from_slice(held);
+                self.v1_reader = V1ReaderPair::of(*self.calls, *protocol, &mut self.rng, record, *count);
+            }
+            Operation::FeedV1 { chunk } => drop(self.call_v1(Some(chunk))?),
+            Operation::ArriveV1 { chunk } => {
+                let mut taken = 0;
+                while let (step, Some(_)) = self.call_v1(Some(&chunk[taken..]))? {
+                    taken += step.taken;
+                }
+            }
+            Operation::GapV1 => drop(self.call_v1(None)?),
             Operation::Exchange { chunk } => self.arrive(chunk, World::hear_event)?,
             Operation::Silence => self.finish(World::hear_event)?,
             _ => self.on_device(operation)?,
@@ -211,6 +227,16 @@ impl<'a> World<'a> {
         let (step, event) = self.reader.try_gap()?;
         self.tally.call("dxl_gap", i64::from(step.kind));
         self.tally.call("dxl_reader_gap", i64::from(step.kind));
+        Ok((step, event))
+    }
+
+    /// A feeding call, or a gap call, of the reader of the old boards.
+    fn call_v1(&mut self, chunk: Option<&[u8]>) -> Result<Stepped, Difference> {
+        let (step, event) = match chunk {
+            Some(chunk) => self.v1_reader.try_feed(chunk)?,
+            None => self.v1_reader.try_gap()?,
+        };
+        self.tally.call(self.v1_reader.export(chunk.is_some()), i64::from(step.kind));
         Ok((step, event))
     }
 

@@ -62,6 +62,12 @@ fn line(operation: &Operation) -> String {
         Operation::Arrive { chunk } => format!("arrive chunk={}", hex(chunk)),
         Operation::Gap => "gap".to_string(),
         Operation::Finish => "finish".to_string(),
+        Operation::RecordV1 { protocol, count, past, held } => {
+            format!("record_v1 protocol={} count={count} past=0x{past:02x} held={}", name_of(*protocol), hex(held))
+        }
+        Operation::FeedV1 { chunk } => format!("feed_v1 chunk={}", hex(chunk)),
+        Operation::ArriveV1 { chunk } => format!("arrive_v1 chunk={}", hex(chunk)),
+        Operation::GapV1 => "gap_v1".to_string(),
         Operation::Board { reply, table } => format!("board reply={reply} table={}", hex(table)),
         Operation::Registered { address, count, bytes, min, max } => {
             format!("registered address={address} count={count} bytes={} min={min} max={max}", hex(bytes))
@@ -145,6 +151,10 @@ fn operation(line: &str) -> Result<Operation, String> {
         "arrive" => Operation::Arrive { chunk: fields.bytes("chunk")? },
         "gap" => Operation::Gap,
         "finish" => Operation::Finish,
+        "record_v1" => record_v1(&mut fields)?,
+        "feed_v1" => Operation::FeedV1 { chunk: fields.bytes("chunk")? },
+        "arrive_v1" => Operation::ArriveV1 { chunk: fields.bytes("chunk")? },
+        "gap_v1" => Operation::GapV1,
         "board" => Operation::Board { reply: fields.room("reply")?, table: fields.bytes("table")? },
         "registered" => registered(&mut fields)?,
         "status" => status(&mut fields)?,
@@ -172,11 +182,13 @@ fn log(fields: &mut Fields) -> Result<Operation, String> {
 }
 
 fn record(fields: &mut Fields) -> Result<Operation, String> {
-    let (count, past, held) = (fields.number("count")?, fields.number("past")?, fields.bytes("held")?);
-    if held.len() > MOST_HELD {
-        return Err(format!("`held` has {} bytes, and a record {MOST_HELD}", held.len()));
-    }
+    let (count, past, held) = (fields.number("count")?, fields.number("past")?, fields.held("held", MOST_HELD)?);
     Ok(Operation::Record { count, past, held })
+}
+
+fn record_v1(fields: &mut Fields) -> Result<Operation, String> {
+    let (protocol, count, past) = (fields.protocol("protocol")?, fields.number("count")?, fields.number("past")?);
+    Ok(Operation::RecordV1 { protocol, count, past, held: fields.held("held", v1::MOST_HELD)? })
 }
 
 fn registered(fields: &mut Fields) -> Result<Operation, String> {
@@ -226,6 +238,15 @@ impl<'a> Fields<'a> {
             room if room > MOST_ROOM => Err(format!("`{key}` is above {MOST_ROOM}: {room}")),
             room => Ok(room),
         }
+    }
+
+    /// The first bytes of a record that has so many.
+    fn held(&mut self, key: &str, most: usize) -> Result<Vec<u8>, String> {
+        let held = self.bytes(key)?;
+        if held.len() > most {
+            return Err(format!("`{key}` has {} bytes, and a record {most}", held.len()));
+        }
+        Ok(held)
     }
 
     fn protocol(&mut self, key: &str) -> Result<v1::Protocol, String> {

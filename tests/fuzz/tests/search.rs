@@ -34,7 +34,7 @@ fn other_seeds_other_cases() {
 }
 
 /// What has to come up in a short search, and how each export answers then.
-const ANSWERS: [(&str, &[i64]); 26] = [
+const ANSWERS: [(&str, &[i64]); 30] = [
     ("dxl_crc16", &[0]),
     ("dxl_crc16_flipped", &[0]),
     ("dxl_encode", &[0, -11, -12, -13]),
@@ -45,6 +45,10 @@ const ANSWERS: [(&str, &[i64]); 26] = [
     ("dxl_gap", &[0, 1, 2, 25]),
     ("dxl_reader_feed", &[0, 1, 2, 25]),
     ("dxl_reader_gap", &[0, 1, 2, 25]),
+    ("dxl_p1_feed", &[0, 1, 2, 25]),
+    ("dxl_p1_gap", &[0, 1, 2, 25]),
+    ("dxl_mercury_feed", &[0, 1, 2, 25]),
+    ("dxl_mercury_gap", &[0, 1, 2, 25]),
     ("dxl_next_event", &[0, 1, 2]),
     ("dxl_log_write", &[0, -13, -31]),
     ("dxl_log_check", &[0, -31, -34]),

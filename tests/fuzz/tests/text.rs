@@ -38,6 +38,10 @@ fn every_operation_by_hand() {
         arrive chunk=\n\
         gap\n\
         finish\n\
+        record_v1 protocol=mercury count=259 past=0x07 held=ff\n\
+        feed_v1 chunk=ffff01\n\
+        arrive_v1 chunk=\n\
+        gap_v1\n\
         board reply=32 table=0604\n\
         registered address=104 count=4 bytes=c800000000000000 min=-1 max=4095\n\
         status room=32 slot=7 speaks=255 id=252 error=0x87 count=8 bytes=fffffd0000000000\n\
@@ -70,6 +74,10 @@ fn every_operation_by_hand() {
         Operation::Arrive { chunk: vec![] },
         Operation::Gap,
         Operation::Finish,
+        Operation::RecordV1 { protocol: v1::Protocol::Mercury, count: 259, past: 7, held: vec![0xFF] },
+        Operation::FeedV1 { chunk: vec![0xFF, 0xFF, 1] },
+        Operation::ArriveV1 { chunk: vec![] },
+        Operation::GapV1,
         Operation::Board { reply: 32, table: vec![6, 4] },
         Operation::Registered { address: 104, count: 4, bytes: [200, 0, 0, 0, 0, 0, 0, 0], min: -1, max: 4095 },
         Operation::Status {

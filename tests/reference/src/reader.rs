@@ -1,5 +1,5 @@
 //! The reading of a segment, and a reader's calls by the very words of the rule: a feeding call tries no new byte, then one, then
-//! two, and reads from the start each time.
+//! two, and reads from the start each time. What stands at an offset is said by the packet rules of a protocol.
 
 use crate::{verdict, Verdict};
 
@@ -20,6 +20,9 @@ pub struct Found {
     pub event: Event,
 }
 
+/// What stands at an offset of an open segment, from the bytes there on, in some protocol.
+pub type Rules = fn(&[u8]) -> Verdict;
+
 /// What an offset of an open segment comes to.
 enum Offset {
     Event(Found),
@@ -27,8 +30,8 @@ enum Offset {
     Nothing,
 }
 
-fn offset(segment: &[u8], at: usize) -> Offset {
-    match verdict(&segment[at..]) {
+fn offset(rules: Rules, segment: &[u8], at: usize) -> Offset {
+    match rules(&segment[at..]) {
         Verdict::Packet { id, count } => {
             let next = at + count;
             Offset::Event(Found { at, next, event: Event::Packet { id, bytes: segment[at..next].to_vec() } })
@@ -40,18 +43,18 @@ fn offset(segment: &[u8], at: usize) -> Offset {
 }
 
 /// The first event of a closed segment: where it ends, nothing is waited for.
-fn first_event(segment: &[u8]) -> Option<Found> {
-    (0..segment.len()).find_map(|at| match offset(segment, at) {
+fn first_event(rules: Rules, segment: &[u8]) -> Option<Found> {
+    (0..segment.len()).find_map(|at| match offset(rules, segment, at) {
         Offset::Event(found) => Some(found),
         Offset::Waits | Offset::Nothing => None,
     })
 }
 
 /// Every event of a closed segment, in order.
-pub fn reading(segment: &[u8]) -> Vec<Found> {
+pub fn reading_by(rules: Rules, segment: &[u8]) -> Vec<Found> {
     let mut events = Vec::new();
     let mut start = 0;
-    while let Some(found) = first_event(&segment[start..]) {
+    while let Some(found) = first_event(rules, &segment[start..]) {
         let Found { at, next, event } = found;
         events.push(Found { at: start + at, next: start + next, event });
         start += next;
@@ -59,10 +62,14 @@ pub fn reading(segment: &[u8]) -> Vec<Found> {
     events
 }
 
+pub fn reading(segment: &[u8]) -> Vec<Found> {
+    reading_by(verdict, segment)
+}
+
 /// How far an open segment can be read: to its first event, or to the offset that waits, or to its end.
-fn open(segment: &[u8]) -> Result<Found, usize> {
+fn open(rules: Rules, segment: &[u8]) -> Result<Found, usize> {
     for at in 0..segment.len() {
-        match offset(segment, at) {
+        match offset(rules, segment, at) {
             Offset::Event(found) => return Ok(found),
             Offset::Waits => return Err(at),
             Offset::Nothing => {}
@@ -79,24 +86,32 @@ pub struct Given {
     pub held: Vec<u8>,
 }
 
-pub fn feed(held: &[u8], chunk: &[u8]) -> Given {
+pub fn feed_by(rules: Rules, held: &[u8], chunk: &[u8]) -> Given {
     let all = [held, chunk].concat();
     for taken in 0..=chunk.len() {
         let bytes = &all[..held.len() + taken];
-        if let Ok(found) = open(bytes) {
+        if let Ok(found) = open(rules, bytes) {
             return Given { taken, event: Some(found.event), held: bytes[found.next..].to_vec() };
         }
     }
-    let waiting = open(&all).expect_err("an event was looked for at the last byte too");
+    let waiting = open(rules, &all).expect_err("an event was looked for at the last byte too");
     Given { taken: chunk.len(), event: None, held: all[waiting..].to_vec() }
 }
 
+pub fn feed(held: &[u8], chunk: &[u8]) -> Given {
+    feed_by(verdict, held, chunk)
+}
+
 /// No event means that nothing is left.
-pub fn gap(held: &[u8]) -> Given {
-    match first_event(held) {
+pub fn gap_by(rules: Rules, held: &[u8]) -> Given {
+    match first_event(rules, held) {
         Some(found) => Given { taken: 0, event: Some(found.event), held: held[found.next..].to_vec() },
         None => Given { taken: 0, event: None, held: Vec::new() },
     }
+}
+
+pub fn gap(held: &[u8]) -> Given {
+    gap_by(verdict, held)
 }
 
 /// A call's answer in numbers. Kind 0: no event; 1: a packet of `count` bytes; 2: a bad checksum; 25: refused.
@@ -108,21 +123,22 @@ pub struct Step {
     pub count: usize,
 }
 
-/// A call on a record that is borrowed: 1,030 bytes, how many of them are held, and a buffer for the packet.
-fn on_record(
-    held: &mut [u8; MOST_HELD],
+/// A call on a record that is borrowed: the bytes, how many of them are held, and a buffer for the packet. The protocol's longest
+/// packet has PACKET bytes, and one byte less is held at most.
+pub fn on_record<const HELD: usize, const PACKET: usize>(
+    held: &mut [u8; HELD],
     count: &mut usize,
-    packet: &mut [u8; LONGEST_PACKET],
+    packet: &mut [u8; PACKET],
     call: impl FnOnce(&[u8]) -> Given,
 ) -> Step {
-    if *count > MOST_HELD {
+    if *count > HELD {
         return Step { kind: 25, id: 0, taken: 0, count: 0 };
     }
     let given = call(&held[..*count]);
-    *held = [0; MOST_HELD];
+    *held = [0; HELD];
     held[..given.held.len()].copy_from_slice(&given.held);
     *count = given.held.len();
-    *packet = [0; LONGEST_PACKET];
+    *packet = [0; PACKET];
     match given.event {
         None => Step { kind: 0, id: 0, taken: given.taken, count: 0 },
         Some(Event::BadChecksum { id }) => Step { kind: 2, id, taken: given.taken, count: 0 },

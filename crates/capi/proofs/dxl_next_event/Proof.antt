@@ -3,6 +3,7 @@ use Prim.Native.Nat.{_≤_}
 use Rattle.numbers.specs.Exported.{nextNumbers}
 use Rattle.packet.proofs.Burst.{burst-detected}
 use Rattle.reader.specs.Records.{heldIn, records}
+use Rattle.protocols.specs.declared.Protocol.the-variants.{Two}
 use Rattle.reader.proofs.Records.{follows}
 use Rattle.plain_reader.proofs.Plain.{plain-promises}
 use borrow.Author.Needs.{needs}
@@ -18,7 +19,7 @@ next-requires c κs = search needs
 returns : tie.Need-returns
 returns c = (
   c .next .ensures ∙ ap nextNumbers (c .before .next-event .ensures),
-  (plain-promises records (λ r. r .count ≤ 1030) heldIn follows, burst-detected),
+  (plain-promises records (λ r. r .count ≤ 1030) heldIn (follows Two), burst-detected),
 )
 
 pub dxl-next-event-spec : {M : Type 1} → statement M

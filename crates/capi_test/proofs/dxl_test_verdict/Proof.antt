@@ -1,47 +1,13 @@
-use mathlib.Core.Path.{sym, ap, _∙_}
-use Rattle.packet.proofs.Laws.{settles}
-use Rattle.capi_test.specs.Numbers.{verdictNumbers}
 use borrow.Author.Needs.{needs}
+use Rattle.packet.proofs.Laws.{settles}
 use Rattle.capi_test.proofs.dxl_test_verdict.Statement.{statement}
 use Rattle.capi_test.proofs.dxl_test_verdict.Tie as tie
 
-judge-requires : tie.Need-judge-requires
-judge-requires c κs = search needs
-
-enum-told : tie.Need-enum-told
-enum-told c = search needs
-
-enum-known-n : tie.Need-enum-known-n
-enum-known-n c = search needs
-
-enum-known-id : tie.Need-enum-known-id
-enum-known-id c = search needs
-
-enum-known-n-2 : tie.Need-enum-known-n-2
-enum-known-n-2 c = search needs
+verdict-of-requires : tie.Need-verdict-of-requires
+verdict-of-requires c κs = search needs
 
 returns : tie.Need-returns
-returns c = (ap verdictNumbers (sym (c .enum-told .given .1) ∙ c .before .before .judge .ensures), settles)
-
-returns-2 : tie.Need-returns-2
-returns-2 c = (ap verdictNumbers (sym (c .before .n .given .1) ∙ c .before .before .before .judge .ensures), settles)
-
-returns-3 : tie.Need-returns-3
-returns-3 c = (ap verdictNumbers (sym (c .before .id .given .1) ∙ c .before .before .before .judge .ensures), settles)
-
-returns-4 : tie.Need-returns-4
-returns-4 c = (ap verdictNumbers (sym (c .before .n2 .given .1) ∙ c .before .before .before .judge .ensures), settles)
+returns c = (c .verdict-of .ensures, settles)
 
 pub dxl-test-verdict-spec : {M : Type 1} → statement M
-dxl-test-verdict-spec =
-    tie.close
-    (tie.spec
-    judge-requires
-    enum-told
-    enum-known-n
-    enum-known-id
-    enum-known-n-2
-    returns
-    returns-2
-    returns-3
-    returns-4)
+dxl-test-verdict-spec = tie.close (tie.spec verdict-of-requires returns)

@@ -8,9 +8,10 @@ use lib.ListN.{length, take, getD}
 use borrow.Author.Tests.{eq-eqb, ne-eqb}
 use Rattle.crc.specs.Crc.{crcFrom}
 use Rattle.packet_front.specs.Front.{word}
-use Rattle.packet_front.specs.Begun.{begunBy}
-use Rattle.packet_front.specs.declared.Begun.the-variants.{Whole}
+use Rattle.packet_rules.specs.Answers.{begunBy}
+use Rattle.packet_rules.specs.declared.Begun.the-variants.{Whole}
 use Rattle.packet.specs.Packet.{checksumRight}
+use Rattle.packet.specs.Verdict.{shape}
 use Rattle.packet.proofs.Header.{after-header}
 use Rattle.exchange.proofs.Hearing.{not-begun, begun-beyond, begun-long, begun-header, wrong-sum, right-sum}
 use borrow.Author.Needs.{needs}
@@ -30,7 +31,7 @@ returns c =
     (λ n e. miss (0 ∷ 1 ∷ []) 2 tt (rw e at (c .match .keys2))))
 
 -- all bytes of a packet are there
-begun : (t : tie.After-known-told) → begunBy (t .before .before .before .before .before .args .packet .now) ≡ Whole (t .before .n .given .0 .0)
+begun : (t : tie.After-known-told) → begunBy shape (t .before .before .before .before .before .args .packet .now) ≡ Whole (t .before .n .given .0 .0)
 begun t = sym (t .before .before .before .look .ensures) ∙ t .before .n .given .1
 
 returns-2 : tie.Need-returns-2

@@ -4,11 +4,14 @@ use mathlib.Core.List.{List, [], _∷_}
 use lib.ListN.{length, take, drop, length-drop}
 use Rattle.reading.specs.Progress.{Reached}
 use Rattle.reading.proofs.Progress.{reached-start}
-use Rattle.packet.specs.Verdict.{protocol2}
-use Rattle.packet.proofs.Laws.{laws}
+use Rattle.protocols.specs.declared.Protocol.{Protocol}
+use Rattle.protocols.specs.Protocols.{rulesOf}
+use Rattle.protocols.proofs.Shapes.{some-longest}
+use Rattle.framer.proofs.Answers.{some-room}
+use Rattle.framer.specs.Results.{mostHeld}
 use Rattle.windows.specs.declared.Stop.the-variants.{Full}
 use Rattle.windows.specs.Scan.{Filled}
-use Rattle.packet.proofs.Answers.{was-packet, was-bad}
+use Rattle.packet_rules.proofs.Answers.{was-packet, was-bad}
 use Rattle.framer.proofs.Turns.{rest-here, filled-rest, room-for, ends-on, ends-fed, passed-fed, filled-done, filled-passed, filled-full}
 use Rattle.framer.proofs.Turns.{full-packet, full-bad, full-other}
 use mathlib.Core.Path.{_≡_, refl, sym, ap, _∙_}
@@ -18,14 +21,14 @@ use Rattle.framer.proofs.feed_slices.Statement.{statement}
 use Rattle.framer.proofs.feed_slices.Tie as tie
 
 abbrev Inv-loop : tie.InvT-loop
-Inv-loop held₀ count chunk packet₀ n₀ taken₀ held packet n taken = (n ≤ 1030) × (length held ≡ 1030) ×
-    (length packet ≡ 1031) × Reached protocol2 (take count held₀) chunk (take n held) taken
+Inv-loop protocol held₀ count chunk packet₀ n₀ taken₀ held packet n taken = (n ≤ mostHeld protocol) × (length held ≡ mostHeld protocol) ×
+    (length packet ≡ rulesOf protocol .longest) × Reached (rulesOf protocol) (take count held₀) chunk (take n held) taken
 
 abbrev μ-loop : tie.MeasureT-loop
-μ-loop held₀ count chunk packet₀ n₀ taken₀ held packet n taken = length chunk - taken
+μ-loop protocol held₀ count chunk packet₀ n₀ taken₀ held packet n taken = length chunk - taken
 
 loop-holds : tie.Need-loop-holds Inv-loop μ-loop
-loop-holds c = (search needs, search needs, search needs, reached-start protocol2 _ _)
+loop-holds c = (search needs, search needs, search needs, reached-start (rulesOf (c .before .before .before .args .protocol)) _ _)
 
 sub-fill : tie.Need-sub-fill Inv-loop μ-loop
 sub-fill c = c .before .loop .inv .3 .within
@@ -50,16 +53,19 @@ module _ (g : tie.After-slice-known3 Inv-loop μ-loop) where
   abbrev s : tie.Start Inv-loop μ-loop
   s = p .before .before .before .before
 
-  abbrev held′ : List ℕ
-  held′ = f .fill .last .0
+  abbrev pr : Protocol
+  pr = s .args .protocol
 
-  same : length held′ ≡ 1030
+  abbrev held′ : List ℕ
+  held′ = f .fill .last .1 .0
+
+  same : length held′ ≡ mostHeld pr
   same = g .before .held .given ∙ p .loop .inv .1
 
-  filled : Filled protocol2 (take (p .loop .n) (p .loop .held)) (drop (p .loop .taken) (s .args .chunk .now)) (p .loop .held) held′
+  filled : Filled (rulesOf pr) (take (p .loop .n) (p .loop .held)) (drop (p .loop .taken) (s .args .chunk .now)) (p .loop .held) held′
       (f .fill .result)
   filled =
-      filled-rest protocol2 laws (take (p .loop .n) (p .loop .held)) (s .args .chunk .now) (p .loop .held) held′ (p .loop .taken) (f .fill .result)
+      filled-rest pr (take (p .loop .n) (p .loop .held)) (s .args .chunk .now) (p .loop .held) held′ (p .loop .taken) (f .fill .result)
       (f .fill .ensures)
 
   -- so many bytes of what was left of the chunk
@@ -72,15 +78,15 @@ enum-known-seen c = search needs
 add-deliver : tie.Need-add-deliver Inv-loop μ-loop
 add-deliver c =
     let r = c .before .before .before .before in
-    let d = filled-done protocol2 laws _ _ _ _ _ (filled r) _ _ _ (c .before .before .seen .given .1) in
+    let d = filled-done (pr r) _ _ _ _ _ (filled r) _ _ _ (c .before .before .seen .given .1) in
     omega (arith, within r _ (d .1))
 
 deliver-requires : tie.Need-deliver-requires Inv-loop μ-loop
 deliver-requires c κs =
     let r = c .before .before .before .before .before in
-    let d = filled-done protocol2 laws _ _ _ _ _ (filled r) _ _ _ (c .before .before .before .seen .given .1) in
+    let d = filled-done (pr r) _ _ _ _ _ (filled r) _ _ _ (c .before .before .before .seen .given .1) in
     let l = p r .loop .inv .2 in
-    (ends-on protocol2 laws _ _ (held′ r) _ _ _ (d .2) (d .3), d .2, room-for _ _ _ (d .3 .short) l, l)
+    (ends-on (pr r) _ _ (held′ r) _ _ _ (d .2) (d .3), d .2, room-for _ _ _ (d .3 .short) l, l)
 
 same-length : tie.Need-same-length Inv-loop μ-loop
 same-length c = search needs
@@ -91,8 +97,8 @@ same-length-2 c = search needs
 returns : tie.Need-returns Inv-loop μ-loop
 returns c =
     let r = c .before .before .before .before .before .before .before .before .before .before in
-    let d = filled-done protocol2 laws _ _ _ _ _ (filled r) _ _ _ (c .before .before .before .before .before .before .before .before .seen .given .1) in
-    rw (ends-fed protocol2 laws _ _ _ _ _ _ _ (p r .loop .inv .3) (d .3)) (c .before .before .before .before .deliver .ensures)
+    let d = filled-done (pr r) _ _ _ _ _ (filled r) _ _ _ (c .before .before .before .before .before .before .before .before .seen .given .1) in
+    rw (ends-fed (pr r) _ _ _ _ _ _ _ (p r .loop .inv .3) (d .3)) (c .before .before .before .before .deliver .ensures)
 
 enum-known-more : tie.Need-enum-known-more Inv-loop μ-loop
 enum-known-more c = search needs
@@ -100,13 +106,13 @@ enum-known-more c = search needs
 add-read-chunk : tie.Need-add-read-chunk Inv-loop μ-loop
 add-read-chunk c =
     let r = c .before .before .before .before in
-    let d = filled-passed protocol2 laws _ _ _ _ _ (filled r) _ (c .before .before .more .given .1) in
+    let d = filled-passed (pr r) _ _ _ _ _ (filled r) _ (c .before .before .more .given .1) in
     omega (arith, within r _ (d .1))
 
 read-chunk-requires : tie.Need-read-chunk-requires Inv-loop μ-loop
 read-chunk-requires c κs =
     let r = c .before .before .before .before .before in
-    let d = filled-passed protocol2 laws _ _ _ _ _ (filled r) _ (c .before .before .before .more .given .1) in
+    let d = filled-passed (pr r) _ _ _ _ _ (filled r) _ (c .before .before .before .more .given .1) in
     (within r _ (d .1), same r, p r .loop .inv .2)
 
 same-length-3 : tie.Need-same-length-3 Inv-loop μ-loop
@@ -118,8 +124,8 @@ same-length-4 c = search needs
 returns-2 : tie.Need-returns-2 Inv-loop μ-loop
 returns-2 c =
     let r = c .before .before .before .before .before .before .before .before .before .before in
-    let d = filled-passed protocol2 laws _ _ _ _ _ (filled r) _ (c .before .before .before .before .before .before .before .before .more .given .1) in
-    rw (passed-fed protocol2 laws _ _ _ _ _ (p r .loop .inv .3) (d .2)) (c .before .before .before .before .read-chunk .ensures)
+    let d = filled-passed (pr r) _ _ _ _ _ (filled r) _ (c .before .before .before .before .before .before .before .before .more .given .1) in
+    rw (passed-fed (pr r) _ _ _ _ _ (p r .loop .inv .3) (d .2)) (c .before .before .before .before .read-chunk .ensures)
 
 enum-known-more-2 : tie.Need-enum-known-more-2 Inv-loop μ-loop
 enum-known-more-2 c = search needs
@@ -132,14 +138,14 @@ module _ (g : tie.After-more2 Inv-loop μ-loop) where
   abbrev past : ℕ
   past = g .more2 .given .0 .0
 
-  full : Filled protocol2 (take (p k .loop .n) (p k .loop .held)) (drop (p k .loop .taken) (s k .args .chunk .now)) (p k .loop .held) (held′ k) (Full past)
-  full = filled-full protocol2 laws _ _ _ _ _ (filled k) _ (g .more2 .given .1)
+  full : Filled (rulesOf (pr k)) (take (p k .loop .n) (p k .loop .held)) (drop (p k .loop .taken) (s k .args .chunk .now)) (p k .loop .held) (held′ k) (Full past)
+  full = filled-full (pr k) _ _ _ _ _ (filled k) _ (g .more2 .given .1)
 
   here : p k .loop .taken + past < length (s k .args .chunk .now)
   here = rest-here (s k .args .chunk .now) (p k .loop .taken) past (full .1)
 
-  size : 1031 ≡ length (held′ k) + 1
-  size = ap (λ (n : ℕ). n + 1) (sym (same k))
+  size : rulesOf (pr k) .longest ≡ length (held′ k) + 1
+  size = omega (arith, same k, some-longest (pr k))
 
 add-taken : tie.Need-add-taken Inv-loop μ-loop
 add-taken c = omega (arith, here (c .before))
@@ -153,7 +159,7 @@ add-taken-2 c = omega (arith, here (c .before .before))
 judge-longest-requires : tie.Need-judge-longest-requires Inv-loop μ-loop
 judge-longest-requires c κs =
     let r = c .before .before .before .before .before .before in
-    (rw (same r) (search needs), p r .loop .inv .2 ∙ size (c .before .before .before .before))
+    (omega (arith, same r, some-room (pr r)), p r .loop .inv .2 ∙ size (c .before .before .before .before))
 
 enum-known-size : tie.Need-enum-known-size Inv-loop μ-loop
 enum-known-size c = search needs
@@ -177,7 +183,7 @@ returns-3 c =
     let g = b .before .before .before .before .before in
     let d = full g in
     let j = b .judge-longest .ensures in
-    full-packet protocol2 laws _ _ _ (held′ (k g)) _ _ (p (k g) .loop .inv .3) (d .2) (d .1) (size g) _ _ _ _ _
+    full-packet (pr (k g)) _ _ _ (held′ (k g)) _ _ (p (k g) .loop .inv .3) (d .2) (d .1) (size g) _ _ _ _ _
     (was-packet _ _ _ (sym (j .0) ∙ e .size .given .1)) (c .stepped .ensures) (c .before .id-in .ensures) (j .1 .0)
 
 enum-known-id : tie.Need-enum-known-id Inv-loop μ-loop
@@ -197,7 +203,7 @@ returns-4 c =
     let g = c .before .before .before .before .before .before .before .before .before .before .before .before .before in
     let d = full g in
     let j = c .before .before .before .before .before .before .before .before .judge-longest .ensures in
-    full-bad protocol2 laws _ _ _ (held′ (k g)) _ _ (p (k g) .loop .inv .3) (d .2) (d .1) (size g) _ _ _ _ _
+    full-bad (pr (k g)) _ _ _ (held′ (k g)) _ _ (p (k g) .loop .inv .3) (d .2) (d .1) (size g) _ _ _ _ _
     (was-bad _ _ _ (sym (j .0) ∙ c .before .before .id .given .1)) (c .stepped2 .ensures) refl (j .1 .1)
 
 loop-less : tie.Need-loop-less Inv-loop μ-loop
@@ -212,7 +218,7 @@ loop-again c =
       search needs,
       c .before .before .before .before .held4 .given ∙ same (k g),
       c .before .before .packet3 .given ∙ p (k g) .loop .inv .2,
-      full-other protocol2 laws _ _ _ (held′ (k g)) _ _ (p (k g) .loop .inv .3) (d .2) (d .1) (size g) _ _
+      full-other (pr (k g)) _ _ _ (held′ (k g)) _ _ (p (k g) .loop .inv .3) (d .2) (d .1) (size g) _ _
           (λ n e. miss (2 ∷ 3 ∷ []) 0 tt (rw (j .0, e) at (c .match2 .keys3)))
           (λ i e. miss (2 ∷ 3 ∷ []) 1 tt (rw (j .0, e) at (c .match2 .keys3))) refl (j .1 .1),
     )

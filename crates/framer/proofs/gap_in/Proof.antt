@@ -1,8 +1,5 @@
-use mathlib.Core.Path.{_≡_, refl}
+use mathlib.Core.Path.{refl}
 use borrow.Author.Tests.{lt-leb}
-use lib.ListN.{length, take}
-use Rattle.reading.specs.Calls.{gap, call}
-use Rattle.framer.proofs.Answers.{answered}
 use borrow.Author.Needs.{needs}
 use Rattle.framer.proofs.gap_in.Statement.{statement}
 use Rattle.framer.proofs.gap_in.Tie as tie
@@ -13,21 +10,11 @@ stepped-requires c κs = search needs
 returns : tie.Need-returns
 returns c = rw (lt-leb _ 1030 (c .before .if1 .taken)) (c .stepped .ensures, refl, refl)
 
-gap-slices-requires : tie.Need-gap-slices-requires
-gap-slices-requires c κs = search needs
-
-clear-rest-requires : tie.Need-clear-rest-requires
-clear-rest-requires c κs = search needs
+gap-by-requires : tie.Need-gap-by-requires
+gap-by-requires c κs = search needs
 
 returns-2 : tie.Need-returns-2
-unfolding call
-returns-2 c =
-    let a = c .before .before .before .before .before .before .before .args in
-    let d = c .before .before .before .gap-slices in
-    let l : length (d .last .0) ≡ 1030 = search needs in
-    answered (a .count) (take (a .count) (a .held .now)) gap _ _ _ _ _ _ _ (search needs) l (search needs) (d .ensures) (c .clear-rest .ensures)
+returns-2 c = c .gap-by .ensures
 
 pub gap-in-spec : {M : Type 1} → statement M
-gap-in-spec =
-    tie.close
-    (tie.spec stepped-requires returns gap-slices-requires clear-rest-requires returns-2)
+gap-in-spec = tie.close (tie.spec stepped-requires returns gap-by-requires returns-2)

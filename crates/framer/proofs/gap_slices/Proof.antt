@@ -1,5 +1,3 @@
-use Rattle.packet.specs.Verdict.{protocol2}
-use Rattle.packet.proofs.Laws.{laws}
 use Rattle.framer.proofs.Turns.{room-for, gap-nothing, gap-decided}
 use lib.Seq.{length-take-le}
 use types.Run.{miss}
@@ -30,14 +28,14 @@ same-length c = search needs
 returns : tie.Need-returns
 returns c =
     let g = c .before in
-    gap-nothing protocol2 laws _ _ _ _ _ (rw (g .enum-told .given .1) at (c .before .before .before .scan-closed .ensures))
+    gap-nothing (c .before .before .before .before .before .before .before .args .protocol) _ _ _ _ _ (rw (g .enum-told .given .1) at (c .before .before .before .scan-closed .ensures))
     (c .stepped .ensures)
 
 deliver-requires : tie.Need-deliver-requires
 deliver-requires c κs =
     let s = c .before .before .before .before .before .before .before in
     let k = c .before .before in
-    let d = gap-decided protocol2 laws _ (k .before .scan-closed .result)
+    let d = gap-decided (s .args .protocol) _ (k .before .scan-closed .result)
     (λ at e. miss (0 ∷ 1 ∷ []) 2 tt (rw e at (k .match .keys2))) (k .before .scan-closed .ensures) in
     (room-for _ _ _ (d .0) (sym (length-take-le _ _ (search needs))), search needs, room-for _ _ _ (d .1) (s .pre .2), s .pre .2)
 
@@ -50,7 +48,8 @@ same-length-3 c = search needs
 returns-2 : tie.Need-returns-2
 returns-2 c =
     let k = c .before .before .before .before .before .before .before in
-    let d = gap-decided protocol2 laws _ (k .before .scan-closed .result)
+    let s = k .before .before .before .before .before in
+    let d = gap-decided (s .args .protocol) _ (k .before .scan-closed .result)
     (λ at e. miss (0 ∷ 1 ∷ []) 2 tt (rw e at (k .match .keys2))) (k .before .scan-closed .ensures) in
     rw (d .2) (c .before .before .before .before .deliver .ensures)
 

@@ -1,13 +1,22 @@
-use mathlib.Core.Path.{refl}
+use mathlib.Core.Path.{ap}
+use native.Mathlib.Omega.{arith}
+use Prim.Native.Nat.{ℕ}
+use lib.ListN.{getD}
 use borrow.Author.Needs.{needs}
+use Rattle.framer.proofs.Answers.{id-short}
 use Rattle.framer.proofs.id_in.Statement.{statement}
 use Rattle.framer.proofs.id_in.Tie as tie
 
+id-place-requires : tie.Need-id-place-requires
+id-place-requires c κs = search needs
+
 shared-slice-read-result : tie.Need-shared-slice-read-result
-shared-slice-read-result c = search needs
+shared-slice-read-result c =
+    let s = c .before .before .before in
+    omega (arith, id-short (s .args .protocol), c .before .id-place .ensures, s .pre)
 
 returns : tie.Need-returns
-returns c = refl
+returns c = ap (λ (k : ℕ). getD (c .before .before .before .args .packet .now) k 0) (c .before .id-place .ensures)
 
 pub id-in-spec : {M : Type 1} → statement M
-id-in-spec = tie.close (tie.spec shared-slice-read-result returns)
+id-in-spec = tie.close (tie.spec id-place-requires shared-slice-read-result returns)

@@ -1,6 +1,6 @@
 use lib.Seq.{length-take-le}
-use Rattle.packet_front.specs.Begun.{lacks}
-use Rattle.packet.specs.Verdict.{answerFor, verdict}
+use Rattle.packet_rules.specs.Answers.{answerBy}
+use Rattle.protocols.specs.Protocols.{rulesOf}
 use mathlib.Core.List.{List}
 use Rattle.framer.proofs.Longest.{longest-placed, longest-held}
 use mathlib.Core.Path.{refl, sym, ap, _∙_}
@@ -46,7 +46,7 @@ returns c =
     let held = a .args .held .now in
     let q = longest-placed held (a .args .byte) (length held) refl (a .args .packet .now) _
     (c .before .before .before .before .before .before .before .before .place .ensures) (a .pre .1) in (
-      c .judge .ensures ∙ ap (λ (s : List ℕ). answerFor (verdict s) (lacks s)) q,
+      c .judge .ensures ∙ ap (answerBy (rulesOf (a .args .protocol))) q,
       (
         q,
         longest-held held (a .args .byte) (length held) refl _ (c .before .before .before .before .shift .ensures)

@@ -1,5 +1,3 @@
-use Rattle.packet.specs.Verdict.{protocol2}
-use Rattle.packet.proofs.Laws.{laws}
 use Rattle.framer.proofs.Turns.{rest-within, room-for, ends-on, ends-left, ends-rest}
 use native.Mathlib.Omega.{arith}
 use borrow.Author.Needs.{needs}
@@ -32,9 +30,9 @@ deliver-chunk-requires c κs =
     let s = c .before .before .before .before .before .before .before .before in
     let v = c .before .before .before .advance .result .seen in
     let w = c .before .before .before .advance .ensures in (
-      ends-on protocol2 laws _ _ _ _ _ v (w .0) (w .1),
+      ends-on (s .args .protocol) _ _ _ _ _ v (w .0) (w .1),
       w .0,
-      room-for _ _ _ (ends-left protocol2 laws _ _ _ _ _ v (w .0) (w .1) (search needs)) (s .pre .1),
+      room-for _ _ _ (ends-left (s .args .protocol) _ _ _ _ _ v (w .0) (w .1) (search needs)) (s .pre .1),
       room-for _ _ _ (w .1 .short) (s .pre .2),
       s .pre .2,
       omega (arith, rest-within (s .args .chunk .now) (s .args .from) _ (w .0) (s .pre .0)),
@@ -50,7 +48,7 @@ returns : tie.Need-returns
 returns c =
     let s = c .before .before .before .before .before .before .before .before .before .before .before .before .before in
     let w = c .before .before .before .before .before .before .before .before .advance .ensures in
-    rw (ends-rest protocol2 laws (s .args .chunk .now) _ (s .args .from) _ _ (w .1))
+    rw (ends-rest (s .args .protocol) (s .args .chunk .now) _ (s .args .from) _ _ (w .1))
     (c .before .before .before .before .deliver-chunk .ensures)
 
 pub read-chunk-spec : {M : Type 1} → statement M

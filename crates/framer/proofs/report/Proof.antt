@@ -51,10 +51,10 @@ returns : tie.Need-returns
 returns c =
     let p = c .before .before .before .before in
     let g = p .before .before .before .before in
-    told-packet _ (s g .args .seen) _ (s g .args .packet .now) _ _ (g .seen .given .1) (on g) (size g) (p .place .ensures) _ (c .id-in .ensures)
+    told-packet (s g .args .protocol) _ (s g .args .seen) _ (s g .args .packet .now) _ _ (g .seen .given .1) (on g) (size g) (p .place .ensures) _ (c .id-in .ensures)
 
 returns-2 : tie.Need-returns-2
-returns-2 c = told-bad _ (c .before .before .before .before .before .args .seen) _ _ _ (c .before .seen2 .given .1)
+returns-2 c = told-bad (c .before .before .before .before .before .args .protocol) _ (c .before .before .before .before .before .args .seen) _ _ _ (c .before .seen2 .given .1)
 
 returns-3 : tie.Need-returns-3
 returns-3 c = search needs

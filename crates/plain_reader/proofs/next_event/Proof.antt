@@ -6,9 +6,9 @@ use native.Mathlib.Omega.{arith}
 use types.Run.{miss}
 use lib.ListN.{length}
 use Rattle.plain_reader.specs.Next.{nextEvent}
-use Rattle.packet.specs.declared.Judgement.{Judgement}
-use Rattle.packet.specs.declared.Judgement.the-variants.{Packet}
-use Rattle.plain_reader.proofs.Turns.{Turn, fits, judged-turn, look-turn, passed-turn, next-start, ff-within, next-few, next-end}
+use Rattle.packet_rules.specs.declared.Judgement.{Judgement}
+use Rattle.packet_rules.specs.declared.Judgement.the-variants.{Packet}
+use Rattle.plain_reader.proofs.Turns.{Turn, fits, judged-turn, look-turn, passed-turn, start-turn, start-within, next-few, next-end}
 use borrow.Author.Needs.{needs}
 use Rattle.plain_reader.proofs.next_event.Statement.{statement}
 use Rattle.plain_reader.proofs.next_event.Tie as tie
@@ -22,11 +22,11 @@ abbrev μ-loop : tie.MeasureT-loop
 returns : tie.Need-returns Inv-loop μ-loop
 returns c = sym (next-end _ _ (omega arith))
 
-next-ff-requires : tie.Need-next-ff-requires Inv-loop μ-loop
-next-ff-requires c κs = search needs
+next-start-requires : tie.Need-next-start-requires Inv-loop μ-loop
+next-start-requires c κs = search needs
 
 loop-holds : tie.Need-loop-holds Inv-loop μ-loop
-loop-holds c = (ff-within _ _ _ (omega arith) (c .next-ff .ensures), next-start _ _ _ (c .next-ff .ensures))
+loop-holds c = (start-within _ _ _ (omega arith) (c .next-start .ensures), start-turn _ _ _ (c .next-start .ensures))
 
 sub-loop : tie.Need-sub-loop Inv-loop μ-loop
 sub-loop c = c .loop .inv .0
@@ -98,14 +98,14 @@ abbrev found : (k : tie.After-known-told2 Inv-loop μ-loop)
     → Turn (s (l (k .before .before .before))) (here (l (k .before .before .before))) (Packet (k .before .count .given .0 .0))
 found k = comes-to (k .before .before .before) _ (k .before .count .given .1)
 
-add-t22 : tie.Need-add-t22 Inv-loop μ-loop
-add-t22 c = omega (arith, found c .1)
+add-t25 : tie.Need-add-t25 Inv-loop μ-loop
+add-t25 c = omega (arith, found c .1)
 
-add-t23 : tie.Need-add-t23 Inv-loop μ-loop
-add-t23 c = omega (arith, found c .0)
+add-t26 : tie.Need-add-t26 Inv-loop μ-loop
+add-t26 c = omega (arith, found c .0)
 
-shared-slice-read-t25 : tie.Need-shared-slice-read-t25 Inv-loop μ-loop
-shared-slice-read-t25 c = found (c .before) .0
+shared-slice-read-t28 : tie.Need-shared-slice-read-t28 Inv-loop μ-loop
+shared-slice-read-t28 c = found (c .before) .0
 
 returns-2 : tie.Need-returns-2 Inv-loop μ-loop
 returns-2 c =
@@ -115,19 +115,19 @@ returns-2 c =
 enum-known-id : tie.Need-enum-known-id Inv-loop μ-loop
 enum-known-id c = search needs
 
-add-t26 : tie.Need-add-t26 Inv-loop μ-loop
-add-t26 c = search needs
+add-t29 : tie.Need-add-t29 Inv-loop μ-loop
+add-t29 c = search needs
 
 returns-3 : tie.Need-returns-3 Inv-loop μ-loop
 returns-3 c =
     let j = c .before .before .before in
     sym (l j .before .before .before .loop .inv .1 ∙ comes-to j _ (c .before .id .given .1))
 
-add-next-ff : tie.Need-add-next-ff Inv-loop μ-loop
-add-next-ff c = search needs
+add-next-start : tie.Need-add-next-start Inv-loop μ-loop
+add-next-start c = search needs
 
-next-ff-requires-2 : tie.Need-next-ff-requires-2 Inv-loop μ-loop
-next-ff-requires-2 c κs = search needs
+next-start-requires-2 : tie.Need-next-start-requires-2 Inv-loop μ-loop
+next-start-requires-2 c κs = search needs
 
 loop-less : tie.Need-loop-less Inv-loop μ-loop
 loop-less c = search needs
@@ -152,8 +152,8 @@ loop-again : tie.Need-loop-again Inv-loop μ-loop
 loop-again c =
     let k = c .before in
     let i = inside (k .before) in (
-      ff-within _ _ _ (omega (arith, i)) (c .next-ff2 .ensures),
-      k .before .before .before .before .loop .inv .1 ∙ passed k ∙ next-start _ _ _ (c .next-ff2 .ensures),
+      start-within _ _ _ (omega (arith, i)) (c .next-start2 .ensures),
+      k .before .before .before .before .loop .inv .1 ∙ passed k ∙ start-turn _ _ _ (c .next-start2 .ensures),
     )
 
 returns-4 : tie.Need-returns-4 Inv-loop μ-loop
@@ -169,7 +169,7 @@ next-event-spec =
     Inv-loop
     μ-loop
     returns
-    next-ff-requires
+    next-start-requires
     loop-holds
     sub-loop
     sub-look
@@ -183,15 +183,15 @@ next-event-spec =
     part-judge-whole-end
     judge-whole-requires
     enum-known-count
-    add-t22
-    add-t23
-    shared-slice-read-t25
+    add-t25
+    add-t26
+    shared-slice-read-t28
     returns-2
     enum-known-id
-    add-t26
+    add-t29
     returns-3
-    add-next-ff
-    next-ff-requires-2
+    add-next-start
+    next-start-requires-2
     loop-less
     loop-again
     returns-4)

@@ -5,11 +5,12 @@ use native.Mathlib.Omega.{arith}
 use lib.ListN.{length, take, drop, length-drop}
 use types.Run.{miss}
 use Rattle.reading.specs.Rules.{Verdict, isPacket}
-use Rattle.packet_front.specs.Begun.{lacks}
-use Rattle.packet.specs.Verdict.{verdict, answerFor}
+use Rattle.packet_rules.specs.Answers.{answerFor}
+use Rattle.packet_rules.proofs.Answers.{was-packet}
+use Rattle.packet.specs.Verdict.{protocol2, verdict}
 use Rattle.packet.proofs.Laws.{laws}
 use Rattle.plan_check.proofs.Bodies.{packet-yes, packet-no}
-use Rattle.plan_check.proofs.Rests.{Halfway, halfway-start, halfway-next, halfway-none, halfway-clash, halfway-end, told}
+use Rattle.plan_check.proofs.Rests.{Halfway, halfway-start, halfway-next, halfway-none, halfway-clash, halfway-end}
 use borrow.Author.Needs.{needs}
 use Rattle.plan_check.proofs.is_plan.Statement.{statement}
 use Rattle.plan_check.proofs.is_plan.Tie as tie
@@ -35,7 +36,7 @@ returns c =
     let l = j .before .before in
     let a = l .before .before .args in
     halfway-none (a .goals .now) (a .plan .now) (l .loop .stood) (l .loop .at) (l .loop .inv) (j .before .loop-test .taken)
-    (λ n e. miss (1 ∷ 2 ∷ 3 ∷ []) 0 tt (rw (j .judge .ensures ∙ ap (λ (v : Verdict). answerFor v (lacks (drop (l .loop .at) (a .plan .now)))) e) at (c .match .keys2)))
+    (λ n e. miss (1 ∷ 2 ∷ 3 ∷ []) 0 tt (rw (j .judge .ensures ∙ ap (λ (v : Verdict). answerFor v (protocol2 .lacks (drop (l .loop .at) (a .plan .now)))) e) at (c .match .keys2)))
 
 -- what is known of a packet
 module _ (k : tie.After-known-told Inv-loop μ-loop) where
@@ -49,7 +50,7 @@ module _ (k : tie.After-known-told Inv-loop μ-loop) where
   plan = k .before .before .before .before .before .before .before .args .plan .now
 
   seen : verdict (drop at plan) ≡ isPacket n
-  seen = told _ (lacks (drop at plan)) n (sym (k .before .before .before .judge .ensures) ∙ k .before .n .given .1)
+  seen = was-packet _ (protocol2 .lacks (drop at plan)) n (sym (k .before .before .before .judge .ensures) ∙ k .before .n .given .1)
 
   there : (0 < n) × (at + n ≤ length plan)
   there = let s = laws .sound (drop at plan) n seen in (s .0, omega (arith, s .1, length-drop at plan, k .before .before .before .before .loop-test .taken))

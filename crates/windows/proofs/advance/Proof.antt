@@ -5,43 +5,50 @@ use Prim.Native.Nat.{ℕ, _+_, _-_, _≤_, _<_}
 use native.Mathlib.Omega.{arith}
 use types.Run.{miss}
 use lib.ListN.{length, drop}
-use Rattle.packet_front.specs.declared.Begun.{Begun}
-use Rattle.packet_front.specs.declared.Begun.the-variants.{Nothing, Whole}
-use Rattle.packet.specs.Verdict.{protocol2, settledBy}
-use Rattle.packet.specs.declared.Judgement.{Judgement}
-use Rattle.packet.proofs.Laws.{laws, settles, none-lacks}
-use Rattle.packet.proofs.Looks.{Looked, Judged}
+use Rattle.packet_rules.specs.declared.Begun.{Begun}
+use Rattle.packet_rules.specs.declared.Begun.the-variants.{Nothing, Whole}
+use Rattle.packet_rules.specs.Answers.{settledBy}
+use Rattle.packet_rules.specs.declared.Judgement.{Judgement}
+use Rattle.packet_rules.proofs.Looks.{Looked, Judged}
+use Rattle.protocols.specs.declared.Protocol.{Protocol}
+use Rattle.protocols.specs.Protocols.{shapeOf, rulesOf}
+use Rattle.protocols.proofs.Shapes.{laws, settles, some-lacking, some-longest}
 use Rattle.windows.proofs.Seeking.{Sought, sought-start, sought-none, sought-next, sought-packet, sought-bad, sought-end}
-use Rattle.windows.proofs.Looking.{look-at, fits-at, judge-at, judged-nothing, next-sought}
+use Rattle.windows.proofs.Looking.{look-at, fits-at, judge-at, judged-nothing, start-sought}
 use borrow.Author.Needs.{needs}
 use Rattle.windows.proofs.advance.Statement.{statement}
 use Rattle.windows.proofs.advance.Tie as tie
 
 abbrev Inv-loop : tie.InvT-loop
-Inv-loop chunk past₀ end₀ past end = Sought protocol2 settledBy chunk past end
+Inv-loop protocol chunk past₀ end₀ past end = Sought (rulesOf protocol) (settledBy (shapeOf protocol)) chunk past end
 
 abbrev μ-loop : tie.MeasureT-loop
-μ-loop chunk past₀ end₀ past end = length chunk - past
+μ-loop protocol chunk past₀ end₀ past end = length chunk - past
 
 loop-holds : tie.Need-loop-holds Inv-loop μ-loop
-loop-holds c = sought-start protocol2 laws settledBy settles _
+loop-holds c =
+    let p = c .before .args .protocol in
+    sought-start (rulesOf p) (laws p) (settledBy (shapeOf p)) (settles p) _
 
-next-ff-requires : tie.Need-next-ff-requires Inv-loop μ-loop
-next-ff-requires c κs = search needs
+next-start-requires : tie.Need-next-start-requires Inv-loop μ-loop
+next-start-requires c κs = search needs
 
 -- the offset that is looked at
-module _ (f : tie.After-next-ff Inv-loop μ-loop) where
+module _ (f : tie.After-next-start Inv-loop μ-loop) where
+  abbrev pr : Protocol
+  pr = f .before .before .before .args .protocol
+
   abbrev s : List ℕ
   s = f .before .before .before .args .chunk .now
 
   abbrev here : ℕ
-  here = f .next-ff .result
+  here = f .next-start .result
 
   abbrev so-far : ℕ
   so-far = f .before .loop .end
 
-  sought : Sought protocol2 settledBy s here so-far
-  sought = next-sought s (f .before .loop .past) here (f .next-ff .ensures) so-far (f .before .loop .inv)
+  sought : Sought (rulesOf pr) (settledBy (shapeOf pr)) s here so-far
+  sought = start-sought pr s (f .before .loop .past) here (f .next-start .ensures) so-far (f .before .loop .inv)
 
 ending-requires : tie.Need-ending-requires Inv-loop μ-loop
 ending-requires c κs = search needs
@@ -51,7 +58,7 @@ returns c =
     let d = c .before in
     let f = d .before in
     rw (c .ending .ensures)
-    (sought-end protocol2 laws settledBy settles (s f) (here f) (so-far f) (sought f) (inr (d .if1 .taken)))
+    (sought-end (rulesOf (pr f)) (laws (pr f)) (settledBy (shapeOf (pr f))) (settles (pr f)) (s f) (here f) (so-far f) (sought f) (inr (d .if1 .taken)))
 
 sub-look : tie.Need-sub-look Inv-loop μ-loop
 sub-look c = search needs
@@ -73,14 +80,14 @@ enum-told-2 c = search needs
 
 -- what the look at the offset tells
 module _ (l : tie.After-look Inv-loop μ-loop) where
-  abbrev f : tie.After-next-ff Inv-loop μ-loop
+  abbrev f : tie.After-next-start Inv-loop μ-loop
   f = l .before .before .before
 
   some : here f < length (s f)
   some = l .before .before .if1 .left
 
-  told : (b : Begun) → l .look .result ≡ b → Looked protocol2 settledBy (drop (here f) (s f)) b
-  told b e = look-at (s f) (here f) (l .look .result) (l .look .ensures) b e
+  told : (b : Begun) → l .look .result ≡ b → Looked (rulesOf (pr f)) (settledBy (shapeOf (pr f))) (drop (here f) (s f)) b
+  told b e = look-at (pr f) (s f) (here f) (l .look .result) (l .look .ensures) b e
 
 ending-requires-2 : tie.Need-ending-requires-2 Inv-loop μ-loop
 ending-requires-2 c κs = search needs
@@ -91,7 +98,7 @@ returns-2 c =
     let l = d .before .before in
     let g = f l in
     rw (c .ending2 .ensures)
-    (sought-end protocol2 laws settledBy settles (s g) (here g) (so-far g) (sought g) (inl (told l _ (d .enum-told2 .given .1) .0)))
+    (sought-end (rulesOf (pr g)) (laws (pr g)) (settledBy (shapeOf (pr g))) (settles (pr g)) (s g) (here g) (so-far g) (sought g) (inl (told l _ (d .enum-told2 .given .1) .0)))
 
 enum-known-size : tie.Need-enum-known-size Inv-loop μ-loop
 enum-known-size c = search needs
@@ -104,11 +111,11 @@ module _ (z : tie.After-size Inv-loop μ-loop) where
   abbrev size : ℕ
   size = z .size .given .0 .0
 
-  settled-here : settledBy (drop (here (f l)) (s (f l))) ≡ size
+  settled-here : (settledBy (shapeOf (pr (f l)))) (drop (here (f l)) (s (f l))) ≡ size
   settled-here = told l (Whole size) (z .size .given .1)
 
   whole : here (f l) + size ≤ length (s (f l))
-  whole = fits-at (s (f l)) (here (f l)) (l .look .result) (l .look .ensures) size (z .size .given .1)
+  whole = fits-at (pr (f l)) (s (f l)) (here (f l)) (l .look .result) (l .look .ensures) size (z .size .given .1)
 
 add-greatest : tie.Need-add-greatest Inv-loop μ-loop
 add-greatest c = omega (arith, whole (c .before))
@@ -142,21 +149,21 @@ module _ (j : tie.After-judge-whole Inv-loop μ-loop) where
   abbrev y : tie.After-size Inv-loop μ-loop
   y = g .before .before
 
-  abbrev o : tie.After-next-ff Inv-loop μ-loop
+  abbrev o : tie.After-next-start Inv-loop μ-loop
   o = f (l y)
 
   abbrev last : ℕ
   last = g .greatest .result
 
-  behind : here o + settledBy (drop (here o) (s o)) ≤ last
+  behind : here o + (settledBy (shapeOf (pr o))) (drop (here o) (s o)) ≤ last
   behind = rw (settled-here y) (g .greatest .ensures .1)
 
-  one-of : (last ≡ so-far o) ⊎ (last ≡ here o + settledBy (drop (here o) (s o)))
+  one-of : (last ≡ so-far o) ⊎ (last ≡ here o + (settledBy (shapeOf (pr o))) (drop (here o) (s o)))
   one-of = rw (settled-here y) (g .greatest .ensures .2)
 
-  judgement : (v : Judgement) → j .judge-whole .result ≡ v → Judged protocol2 (drop (here o) (s o)) v
+  judgement : (v : Judgement) → j .judge-whole .result ≡ v → Judged (rulesOf (pr o)) (drop (here o) (s o)) v
   judgement v e =
-      judge-at (s o) (here o) (l y .look .result) (l y .look .ensures) (size y) (y .size .given .1) (j .judge-whole .result) v
+      judge-at (pr o) (s o) (here o) (l y .look .result) (l y .look .ensures) (size y) (y .size .given .1) (j .judge-whole .result) v
       (j .judge-whole .ensures) e
 
 ending-requires-3 : tie.Need-ending-requires-3 Inv-loop μ-loop
@@ -168,8 +175,8 @@ returns-3 c =
     let j = d .before .before .before in
     let a = o j in
     rw (c .ending3 .ensures)
-    (sought-packet protocol2 laws settledBy settles (s a) (here a) (so-far a) (sought a) (last j) (some (l (y j))) (g j .greatest .ensures .0)
-    (behind j) (one-of j) _ (omega (arith, none-lacks)) (judgement j _ (d .before .count .given .1)))
+    (sought-packet (rulesOf (pr a)) (laws (pr a)) (settledBy (shapeOf (pr a))) (settles (pr a)) (s a) (here a) (so-far a) (sought a) (last j) (some (l (y j))) (g j .greatest .ensures .0)
+    (behind j) (one-of j) _ (some-lacking (pr a)) (judgement j _ (d .before .count .given .1)))
 
 enum-known-id : tie.Need-enum-known-id Inv-loop μ-loop
 enum-known-id c = search needs
@@ -183,21 +190,21 @@ returns-4 c =
     let j = d .before .before .before in
     let a = o j in
     rw (c .ending4 .ensures)
-    (sought-bad protocol2 laws settledBy settles (s a) (here a) (so-far a) (sought a) (last j) (some (l (y j))) (g j .greatest .ensures .0)
-    (behind j) (one-of j) _ (omega arith) (omega (arith, none-lacks)) (judgement j _ (d .before .id .given .1)))
+    (sought-bad (rulesOf (pr a)) (laws (pr a)) (settledBy (shapeOf (pr a))) (settles (pr a)) (s a) (here a) (so-far a) (sought a) (last j) (some (l (y j))) (g j .greatest .ensures .0)
+    (behind j) (one-of j) _ (some-longest (pr a)) (some-lacking (pr a)) (judgement j _ (d .before .id .given .1)))
 
 add-past : tie.Need-add-past Inv-loop μ-loop
 add-past c = search needs
 
 -- an offset that is passed: no packet begins, or its bytes are all there and say nothing
 passed : (k : tie.At-match-came Inv-loop μ-loop)
-    → Sought protocol2 settledBy (s (f (k .before))) (here (f (k .before)) + 1) (k .match .end)
+    → Sought (rulesOf (pr (f (k .before)))) (settledBy (shapeOf (pr (f (k .before))))) (s (f (k .before))) (here (f (k .before)) + 1) (k .match .end)
 passed k =
     let a = f (k .before) in
     ⊎-elim
     (λ w.
     rw (w .2)
-    (sought-none protocol2 laws settledBy settles (s a) (here a) (so-far a) (sought a) (some (k .before)) (told (k .before) Nothing (w .1 .given .1))))
+    (sought-none (rulesOf (pr a)) (laws (pr a)) (settledBy (shapeOf (pr a))) (settles (pr a)) (s a) (here a) (so-far a) (sought a) (some (k .before)) (told (k .before) Nothing (w .1 .given .1))))
     (λ w.
     let j : tie.After-judge-whole Inv-loop μ-loop =
     record {
@@ -213,15 +220,15 @@ passed k =
       judge-whole = w .5;
     } in
     rw (w .7)
-    (sought-next protocol2 laws settledBy settles (s a) (here a) (so-far a) (sought a) (last j) (some (k .before)) (g j .greatest .ensures .0)
+    (sought-next (rulesOf (pr a)) (laws (pr a)) (settledBy (shapeOf (pr a))) (settles (pr a)) (s a) (here a) (so-far a) (sought a) (last j) (some (k .before)) (g j .greatest .ensures .0)
     (behind j) (one-of j)
-    (judged-nothing protocol2 (drop (here a) (s a)) (j .judge-whole .result) (judgement j _ refl)
+    (judged-nothing (rulesOf (pr a)) (drop (here a) (s a)) (j .judge-whole .result) (judgement j _ refl)
     (λ n e. miss (2 ∷ 3 ∷ []) 0 tt (rw e at (w .6 .keys3)))
     (λ id e. miss (2 ∷ 3 ∷ []) 1 tt (rw e at (w .6 .keys3))))))
     (k .match .came)
 
 loop-less : tie.Need-loop-less Inv-loop μ-loop
-loop-less c = omega (arith, f (c .before) .next-ff .ensures, some (c .before))
+loop-less c = omega (arith, f (c .before) .next-start .ensures, some (c .before))
 
 loop-again : tie.Need-loop-again Inv-loop μ-loop
 loop-again c = passed c
@@ -233,7 +240,7 @@ advance-spec =
     Inv-loop
     μ-loop
     loop-holds
-    next-ff-requires
+    next-start-requires
     ending-requires
     returns
     sub-look

@@ -4,8 +4,10 @@ use types.Run.{miss}
 use lib.Seq.{length-take-le}
 use Rattle.reading.specs.Reading.{open′}
 use Rattle.reading.specs.Progress.{Patient}
-use Rattle.packet.specs.Verdict.{protocol2}
-use Rattle.packet.proofs.Laws.{laws, undecided}
+use Rattle.packet_rules.proofs.Laws.{undecided}
+use Rattle.protocols.specs.declared.Protocol.{Protocol}
+use Rattle.protocols.specs.Protocols.{shapeOf, rulesOf}
+use Rattle.protocols.proofs.Shapes.{laws, shapes-kept, some-shortest}
 use Rattle.windows.specs.Scan.{Waits}
 use Rattle.windows.proofs.Windows.{not-none, Filling, filling-start, filling-none, filling-fits, filling-ordered}
 use Rattle.windows.proofs.Windows.{filling-decided, window-fits, window-end}
@@ -18,29 +20,33 @@ use Rattle.windows.proofs.fill.Statement.{statement}
 use Rattle.windows.proofs.fill.Tie as tie
 
 abbrev Inv-loop : tie.InvT-loop
-Inv-loop held₀ count chunk end₀ at₀ taken₀ held end at taken = Filling protocol2 (take count held₀) chunk (length held₀)
+Inv-loop protocol held₀ count chunk end₀ at₀ taken₀ held end at taken = Filling (rulesOf protocol) (take count held₀) chunk (length held₀)
     held taken at end
 
 abbrev μ-loop : tie.MeasureT-loop
-μ-loop held₀ count chunk end₀ at₀ taken₀ held end at taken = length chunk - taken
+μ-loop protocol held₀ count chunk end₀ at₀ taken₀ held end at taken = length chunk - taken
+
+-- the protocol
+abbrev pr : tie.At-loop Inv-loop μ-loop → Protocol
+pr c = c .before .before .before .before .before .args .protocol
 
 least-requires : tie.Need-least-requires Inv-loop μ-loop
 least-requires c κs = search needs
 
 returns : tie.Need-returns Inv-loop μ-loop
-returns c = (refl, search needs, filling-none protocol2 laws _ 0 _ _ _ (c .before .least .ensures) (c .if1 .taken))
+returns c = (refl, search needs, filling-none (rulesOf (c .before .before .before .before .args .protocol)) (laws (c .before .before .before .before .args .protocol)) _ 0 _ _ _ (c .before .least .ensures) (c .if1 .taken))
 
 loop-holds : tie.Need-loop-holds Inv-loop μ-loop
-loop-holds c = filling-start protocol2 laws _ _ _ _ _ (c .before .least .ensures) refl
+loop-holds c = filling-start (rulesOf (c .before .before .before .before .args .protocol)) (laws (c .before .before .before .before .args .protocol)) _ _ _ _ _ (c .before .least .ensures) refl
 
 slice-reshare-prefix-scan : tie.Need-slice-reshare-prefix-scan Inv-loop μ-loop
-slice-reshare-prefix-scan c = filling-fits protocol2 laws _ _ _ _ _ _ _ (c .loop .inv)
+slice-reshare-prefix-scan c = filling-fits (rulesOf (pr c)) (laws (pr c)) _ _ _ _ _ _ _ (c .loop .inv)
 
 slice-aggregate-scan : tie.Need-slice-aggregate-scan Inv-loop μ-loop
-slice-aggregate-scan c = sym (length-take-le _ _ (filling-fits protocol2 laws _ _ _ _ _ _ _ (c .before .loop .inv)))
+slice-aggregate-scan c = sym (length-take-le _ _ (filling-fits (rulesOf (pr (c .before))) (laws (pr (c .before))) _ _ _ _ _ _ _ (c .before .loop .inv)))
 
 scan-requires : tie.Need-scan-requires Inv-loop μ-loop
-scan-requires c κs = filling-ordered protocol2 laws _ _ _ _ _ _ _ (c .before .loop .inv)
+scan-requires c κs = filling-ordered (rulesOf (pr (c .before))) (laws (pr (c .before))) _ _ _ _ _ _ _ (c .before .loop .inv)
 
 enum-known-seen : tie.Need-enum-known-seen Inv-loop μ-loop
 enum-known-seen c = search needs
@@ -53,8 +59,8 @@ returns-2 c =
     let w = c .before .before .before .loop .inv in (
       w .size,
       w .taken-within,
-      filling-fits protocol2 laws _ _ _ _ _ _ _ w,
-      filling-decided protocol2 laws _ _ _ _ _ _ _ w (c .before .scan .result .seen)
+      filling-fits (rulesOf (pr (c .before .before .before))) (laws (pr (c .before .before .before))) _ _ _ _ _ _ _ w,
+      filling-decided (rulesOf (pr (c .before .before .before))) (laws (pr (c .before .before .before))) _ _ _ _ _ _ _ w (c .before .scan .result .seen)
           (λ at e. miss (0 ∷ 1 ∷ []) 2 tt (rw e at (c .match .keys2))) (c .before .scan .ensures .0),
     )
 
@@ -69,10 +75,10 @@ module _ (g : tie.After-known-told Inv-loop μ-loop) where
   abbrev lacks : ℕ
   lacks = g .before .before .before .scan .result .lacks
 
-  waits : Waits protocol2 open′ (take (p .loop .end) (p .loop .held)) (p .loop .at) start
+  waits : Waits (rulesOf (pr p)) open′ (take (p .loop .end) (p .loop .held)) (p .loop .at) start
   waits = rw (g .before .seen .given .1) at (g .before .before .before .scan .ensures .0)
 
-  wants : start < length (take (p .loop .end) (p .loop .held)) → Patient protocol2 (drop start (take (p .loop .end) (p .loop .held))) lacks
+  wants : start < length (take (p .loop .end) (p .loop .held)) → Patient (rulesOf (pr p)) (drop start (take (p .loop .end) (p .loop .held))) lacks
   wants = rw (g .before .seen .given .1) at (g .before .before .before .scan .ensures .1)
 
 sub-left : tie.Need-sub-left Inv-loop μ-loop
@@ -85,10 +91,10 @@ returns-3 : tie.Need-returns-3 Inv-loop μ-loop
 returns-3 c =
     let g = c .before in
     let w = p g .loop .inv in
-    (w .size, w .taken-within, filling-fits protocol2 laws _ _ _ _ _ _ _ w, window-end protocol2 laws _ _ _ _ _ _ _ w _ (waits g) (c .if2 .taken))
+    (w .size, w .taken-within, filling-fits (rulesOf (pr (p g))) (laws (pr (p g))) _ _ _ _ _ _ _ w, window-end (rulesOf (pr (p g))) (laws (pr (p g))) _ _ _ _ _ _ _ w _ (waits g) (c .if2 .taken))
 
 sub-waiting : tie.Need-sub-waiting Inv-loop μ-loop
-sub-waiting c = window-fits protocol2 laws _ _ _ _ _ _ _ (p (c .before) .loop .inv) _ (waits (c .before))
+sub-waiting c = window-fits (rulesOf (pr (p (c .before)))) (laws (pr (p (c .before)))) _ _ _ _ _ _ _ (p (c .before) .loop .inv) _ (waits (c .before))
 
 back-in-chunk-requires : tie.Need-back-in-chunk-requires Inv-loop μ-loop
 back-in-chunk-requires c κs = search needs
@@ -96,10 +102,11 @@ back-in-chunk-requires c κs = search needs
 same-length-3 : tie.Need-same-length-3 Inv-loop μ-loop
 same-length-3 c = search needs
 
-sub-t21 : tie.Need-sub-t21 Inv-loop μ-loop
-sub-t21 c =
+sub-t22 : tie.Need-sub-t22 Inv-loop μ-loop
+sub-t22 c =
     let g = c .before .before .before in
-    window-back protocol2 laws _ _ _ _ _ _ _ (p g .loop .inv) _ (waits g) undecided (sym (c .before .back-in-chunk .ensures) ∙ c .if3 .taken) .0
+    window-back (rulesOf (pr (p g))) (laws (pr (p g))) _ _ _ _ _ _ _ (p g .loop .inv) _ (waits g) (shapeOf (pr (p g)) .shortest)
+    (undecided (shapeOf (pr (p g))) (shapes-kept (pr (p g)))) (sym (c .before .back-in-chunk .ensures) ∙ c .if3 .taken) .0
 
 returns-4 : tie.Need-returns-4 Inv-loop μ-loop
 returns-4 c =
@@ -107,11 +114,12 @@ returns-4 c =
     let w = p g .loop .inv in (
       w .size,
       omega (arith, w .taken-within),
-      window-back protocol2 laws _ _ _ _ _ _ _ w _ (waits g) undecided (sym (c .before .back-in-chunk .ensures) ∙ c .if3 .taken) .1,
+      window-back (rulesOf (pr (p g))) (laws (pr (p g))) _ _ _ _ _ _ _ w _ (waits g) (shapeOf (pr (p g)) .shortest)
+          (undecided (shapeOf (pr (p g))) (shapes-kept (pr (p g)))) (sym (c .before .back-in-chunk .ensures) ∙ c .if3 .taken) .1,
     )
 
 sub-room : tie.Need-sub-room Inv-loop μ-loop
-sub-room c = omega (arith, filling-fits protocol2 laws _ _ _ _ _ _ _ (p (c .before .before .before) .loop .inv))
+sub-room c = omega (arith, filling-fits (rulesOf (pr (p (c .before .before .before)))) (laws (pr (p (c .before .before .before)))) _ _ _ _ _ _ _ (p (c .before .before .before) .loop .inv))
 
 same-length-4 : tie.Need-same-length-4 Inv-loop μ-loop
 same-length-4 c = search needs
@@ -120,7 +128,7 @@ returns-5 : tie.Need-returns-5 Inv-loop μ-loop
 returns-5 c =
     let g = c .before .before .before .before in
     let w = p g .loop .inv in
-    let f = window-full protocol2 laws _ _ _ _ _ _ _ w _ (waits g) (c .if4 .taken) (not-none _ (c .before .before .before .if2 .left)) in
+    let f = window-full (rulesOf (pr (p g))) (laws (pr (p g))) _ _ _ _ _ _ _ w _ (waits g) (c .if4 .taken) (not-none _ (c .before .before .before .if2 .left)) in
     (w .size, f .0, f .1)
 
 least-requires-2 : tie.Need-least-requires-2 Inv-loop μ-loop
@@ -140,9 +148,9 @@ module _ (l : tie.After-least3 Inv-loop μ-loop) where
   abbrev m : ℕ
   m = l .least3 .result
 
-  patient : Patient protocol2 (drop (start g) (take (p g .loop .end) (p g .loop .held))) (lacks g)
-  patient = wants g (window-waits protocol2 laws _ _ _ _ _ _ _ (p g .loop .inv) _ (waits g)
-      (not-back _ _ (sym (l .before .before .before .before .back-in-chunk .ensures) ∙ l .before .before .before .if3 .left)))
+  patient : Patient (rulesOf (pr (p g))) (drop (start g) (take (p g .loop .end) (p g .loop .held))) (lacks g)
+  patient = wants g (window-waits (rulesOf (pr (p g))) (laws (pr (p g))) _ _ _ _ _ _ _ (p g .loop .inv) _ (waits g)
+      (not-back (shapeOf (pr (p g)) .shortest) _ _ (some-shortest (pr (p g))) (sym (l .before .before .before .before .back-in-chunk .ensures) ∙ l .before .before .before .if3 .left)))
 
   some : 0 < m
   some =
@@ -176,7 +184,7 @@ part-append-end c = taken-fits (c .before)
 append-requires : tie.Need-append-requires Inv-loop μ-loop
 append-requires c κs =
     let l = c .before .before in
-    window-room protocol2 laws _ _ _ _ _ _ _ (p (g l) .loop .inv) _ (waits (g l)) (m l)
+    window-room (rulesOf (pr (p (g l)))) (laws (pr (p (g l)))) _ _ _ _ _ _ _ (p (g l) .loop .inv) _ (waits (g l)) (m l)
     (omega (arith, l .least3 .ensures, l .before .least2 .ensures))
 
 -- and they stand behind it
@@ -186,7 +194,7 @@ module _ (j : tie.After-held Inv-loop μ-loop) where
 
   room : j .before .append .result + (p (g l2) .loop .end - start (g l2)) + m l2 ≤ length (w l2 .args .held .now)
   room =
-      room-behind protocol2 laws (w l2 .args .chunk .now) (length (w l2 .args .held .now)) _ _ _ (m l2) (p (g l2) .loop .taken)
+      room-behind (rulesOf (pr (p (g l2)))) (laws (pr (p (g l2)))) (w l2 .args .chunk .now) (length (w l2 .args .held .now)) _ _ _ (m l2) (p (g l2) .loop .taken)
       (taken-fits l2) (p (g l2) .loop .inv .size) (j .before .append .ensures .1)
 
 add-end : tie.Need-add-end Inv-loop μ-loop
@@ -205,7 +213,7 @@ loop-again : tie.Need-loop-again Inv-loop μ-loop
 loop-again c =
     let j = c .before in
     let l = l2 j in
-    window-more protocol2 laws _ _ _ _ _ _ _ (p (g l) .loop .inv) _ (waits (g l)) _ _ (m l) _ (patient l) (within l) (taken-fits l) (room j) (j .held .given)
+    window-more (rulesOf (pr (p (g l)))) (laws (pr (p (g l)))) _ _ _ _ _ _ _ (p (g l) .loop .inv) _ (waits (g l)) _ _ (m l) _ (patient l) (within l) (taken-fits l) (room j) (j .held .given)
     (j .before .append .ensures .2)
 
 pub fill-spec : {M : Type 1} → statement M
@@ -228,7 +236,7 @@ fill-spec =
     returns-3
     sub-waiting
     back-in-chunk-requires
-    sub-t21
+    sub-t22
     same-length-3
     returns-4
     sub-room

@@ -8,47 +8,52 @@ use lib.ListN.{length, drop}
 use Rattle.reading.specs.Rules.{isNothing}
 use Rattle.reading.specs.Reading.{open′}
 use Rattle.reading.specs.Calls.{first}
-use Rattle.packet_front.specs.declared.Begun.{Begun}
-use Rattle.packet_front.specs.declared.Begun.the-variants.{Nothing}
-use Rattle.packet.specs.Verdict.{protocol2, settledBy}
-use Rattle.packet.proofs.Laws.{laws}
-use Rattle.packet.specs.declared.Judgement.{Judgement}
-use Rattle.packet.proofs.Looks.{Looked, Judged}
+use Rattle.packet_rules.specs.declared.Begun.{Begun}
+use Rattle.packet_rules.specs.declared.Begun.the-variants.{Nothing}
+use Rattle.packet_rules.specs.Answers.{settledBy}
+use Rattle.packet_rules.specs.declared.Judgement.{Judgement}
+use Rattle.packet_rules.proofs.Looks.{Looked, Judged}
+use Rattle.protocols.specs.declared.Protocol.{Protocol}
+use Rattle.protocols.specs.Protocols.{shapeOf, rulesOf}
+use Rattle.protocols.proofs.Shapes.{laws, some-longest}
 use Rattle.windows.proofs.Scans.{scan-packet, scan-bad, scan-nothing, scan-end, scan-waits, scan-wants}
-use Rattle.windows.proofs.Looking.{look-at, fits-at, judge-at, judged-nothing, next-start}
+use Rattle.windows.proofs.Looking.{look-at, fits-at, judge-at, judged-nothing, start-at}
 use borrow.Author.Needs.{needs}
 use Rattle.windows.proofs.scan.Statement.{statement}
 use Rattle.windows.proofs.scan.Tie as tie
 
 abbrev Inv-loop : tie.InvT-loop
-Inv-loop s from next₀ next =
-    (from ≤ next) × (next ≤ length s) × (first protocol2 open′ (drop from s) ≡ first protocol2 open′ (drop next s))
+Inv-loop protocol s from next₀ next =
+    (from ≤ next) × (next ≤ length s) × (first (rulesOf protocol) open′ (drop from s) ≡ first (rulesOf protocol) open′ (drop next s))
 
 abbrev μ-loop : tie.MeasureT-loop
-μ-loop s from next₀ next = length s - next
+μ-loop protocol s from next₀ next = length s - next
 
 loop-holds : tie.Need-loop-holds Inv-loop μ-loop
 loop-holds c = (omega arith, search needs, refl)
 
-next-ff-requires : tie.Need-next-ff-requires Inv-loop μ-loop
-next-ff-requires c κs = search needs
+next-start-requires : tie.Need-next-start-requires Inv-loop μ-loop
+next-start-requires c κs = search needs
 
 -- the offset that is looked at
-module _ (f : tie.After-next-ff Inv-loop μ-loop) where
+module _ (f : tie.After-next-start Inv-loop μ-loop) where
+  abbrev pr : Protocol
+  pr = f .before .before .before .args .protocol
+
   abbrev s : List ℕ
   s = f .before .before .before .args .s .now
 
   abbrev here : ℕ
-  here = f .next-ff .result
+  here = f .next-start .result
 
   abbrev from : ℕ
   from = f .before .before .before .args .from
 
   start : (from ≤ here) × (f .before .loop .next ≤ here) × (here ≤ length s)
-      × (first protocol2 open′ (drop from s) ≡ first protocol2 open′ (drop here s))
+      × (first (rulesOf pr) open′ (drop from s) ≡ first (rulesOf pr) open′ (drop here s))
   start =
       let i = f .before .loop .inv in
-      let n = next-start s (f .before .loop .next) here (f .next-ff .ensures) open′ (i .1) in
+      let n = start-at pr s (f .before .loop .next) here (f .next-start .ensures) open′ (i .1) in
       (omega (arith, i .0, n .0), n .0, n .1, i .2 ∙ n .2)
 
 wanting-requires : tie.Need-wanting-requires Inv-loop μ-loop
@@ -61,7 +66,7 @@ returns c =
     let i = start f in
     let l = d .if1 .taken in
     rw (c .wanting .ensures)
-    (scan-end protocol2 laws _ (s f) _ (here f) (i .0) (i .3) l (i .2), λ h. absurd (omega arith))
+    (scan-end (rulesOf (pr f)) (laws (pr f)) _ (s f) _ (here f) (i .0) (i .3) l (i .2), λ h. absurd (omega arith))
 
 sub-look : tie.Need-sub-look Inv-loop μ-loop
 sub-look c = search needs
@@ -83,11 +88,11 @@ enum-known-lacks c = search needs
 
 -- what the look at the offset tells
 module _ (l : tie.After-look Inv-loop μ-loop) where
-  abbrev f : tie.After-next-ff Inv-loop μ-loop
+  abbrev f : tie.After-next-start Inv-loop μ-loop
   f = l .before .before .before
 
-  told : (b : Begun) → l .look .result ≡ b → Looked protocol2 settledBy (drop (here f) (s f)) b
-  told b e = look-at (s f) (here f) (l .look .result) (l .look .ensures) b e
+  told : (b : Begun) → l .look .result ≡ b → Looked (rulesOf (pr f)) (settledBy (shapeOf (pr f))) (drop (here f) (s f)) b
+  told b e = look-at (pr f) (s f) (here f) (l .look .result) (l .look .ensures) b e
 
 wanting-requires-2 : tie.Need-wanting-requires-2 Inv-loop μ-loop
 wanting-requires-2 c κs = search needs
@@ -99,8 +104,8 @@ returns-2 c =
     let i = start (f l) in
     let w = told l _ (d .before .lacks .given .1) in
     rw (c .wanting2 .ensures) (
-      scan-waits protocol2 laws (s (f l)) _ (here (f l)) (i .0) (l .before .before .if1 .left) (w .0) (i .3),
-      λ _. scan-wants protocol2 laws (s (f l)) _ (here (f l)) (i .0) (l .before .before .if1 .left) (w .0) _ (w .1),
+      scan-waits (rulesOf (pr (f l))) (laws (pr (f l))) (s (f l)) _ (here (f l)) (i .0) (l .before .before .if1 .left) (w .0) (i .3),
+      λ _. scan-wants (rulesOf (pr (f l))) (laws (pr (f l))) (s (f l)) _ (here (f l)) (i .0) (l .before .before .if1 .left) (w .0) _ (w .1),
     )
 
 enum-known-size : tie.Need-enum-known-size Inv-loop μ-loop
@@ -110,7 +115,7 @@ enum-known-size c = search needs
 whole : (z : tie.After-size Inv-loop μ-loop) → here (f (z .before .before)) + z .size .given .0 .0 ≤ length (s (f (z .before .before)))
 whole z =
     let l = z .before .before in
-    fits-at (s (f l)) (here (f l)) (l .look .result) (l .look .ensures) (z .size .given .0 .0) (z .size .given .1)
+    fits-at (pr (f l)) (s (f l)) (here (f l)) (l .look .result) (l .look .ensures) (z .size .given .0 .0) (z .size .given .1)
 
 add-judge-whole : tie.Need-add-judge-whole Inv-loop μ-loop
 add-judge-whole c = omega (arith, whole (c .before))
@@ -138,9 +143,9 @@ module _ (j : tie.After-judge-whole Inv-loop μ-loop) where
   abbrev l : tie.After-look Inv-loop μ-loop
   l = z .before .before
 
-  judgement : (v : Judgement) → j .judge-whole .result ≡ v → Judged protocol2 (drop (here (f l)) (s (f l))) v
+  judgement : (v : Judgement) → j .judge-whole .result ≡ v → Judged (rulesOf (pr (f l))) (drop (here (f l)) (s (f l))) v
   judgement v e =
-      judge-at (s (f l)) (here (f l)) (l .look .result) (l .look .ensures) (z .size .given .0 .0) (z .size .given .1) (j .judge-whole .result) v
+      judge-at (pr (f l)) (s (f l)) (here (f l)) (l .look .result) (l .look .ensures) (z .size .given .0 .0) (z .size .given .1) (j .judge-whole .result) v
       (j .judge-whole .ensures) e
 
 wanting-requires-3 : tie.Need-wanting-requires-3 Inv-loop μ-loop
@@ -153,7 +158,7 @@ returns-3 c =
     let g = f (l j) in
     let i = start g in
     rw (c .wanting3 .ensures)
-    (scan-packet protocol2 laws _ (s g) _ (here g) (i .0) (i .3) _ (l j .before .before .if1 .left) (judgement j _ (d .before .count .given .1)), refl)
+    (scan-packet (rulesOf (pr g)) (laws (pr g)) _ (s g) _ (here g) (i .0) (i .3) _ (l j .before .before .if1 .left) (judgement j _ (d .before .count .given .1)), refl)
 
 enum-known-id : tie.Need-enum-known-id Inv-loop μ-loop
 enum-known-id c = search needs
@@ -168,7 +173,7 @@ returns-4 c =
     let g = f (l j) in
     let i = start g in
     rw (c .wanting4 .ensures)
-    (scan-bad protocol2 laws _ (s g) _ (here g) (i .0) (i .3) _ (omega arith) (l j .before .before .if1 .left) (judgement j _ (d .before .id .given .1)), refl)
+    (scan-bad (rulesOf (pr g)) (laws (pr g)) _ (s g) _ (here g) (i .0) (i .3) _ (some-longest (pr g)) (l j .before .before .if1 .left) (judgement j _ (d .before .id .given .1)), refl)
 
 add-next : tie.Need-add-next Inv-loop μ-loop
 add-next c = search needs
@@ -177,13 +182,13 @@ loop-less : tie.Need-loop-less Inv-loop μ-loop
 loop-less c = omega (arith, start (f (c .before)) .1, start (f (c .before)) .2)
 
 -- an offset that is passed says nothing
-passed : (k : tie.At-match-came Inv-loop μ-loop) → protocol2 .verdict (drop (here (f (k .before))) (s (f (k .before)))) ≡ isNothing
+passed : (k : tie.At-match-came Inv-loop μ-loop) → (rulesOf (pr (f (k .before)))) .verdict (drop (here (f (k .before))) (s (f (k .before)))) ≡ isNothing
 passed k =
     let g = f (k .before) in
     ⊎-elim (λ w. told (k .before) Nothing (w .1 .given .1) .0)
     (λ w.
-    judged-nothing protocol2 (drop (here g) (s g)) (w .4 .result)
-    (judge-at (s g) (here g) _ (k .before .look .ensures) (w .1 .given .0 .0) (w .1 .given .1) (w .4 .result) (w .4 .result) (w .4 .ensures) refl)
+    judged-nothing (rulesOf (pr g)) (drop (here g) (s g)) (w .4 .result)
+    (judge-at (pr g) (s g) (here g) _ (k .before .look .ensures) (w .1 .given .0 .0) (w .1 .given .1) (w .4 .result) (w .4 .result) (w .4 .ensures) refl)
     (λ n e. miss (2 ∷ 3 ∷ []) 0 tt (rw e at (w .5 .keys3)))
     (λ id e. miss (2 ∷ 3 ∷ []) 1 tt (rw e at (w .5 .keys3))))
     (k .match .came)
@@ -193,7 +198,7 @@ loop-again c =
     let g = f (c .before) in
     let i = start g in
     let h = c .before .before .before .if1 .left in
-    (omega (arith, i .0), omega arith, scan-nothing protocol2 laws open′ (s g) _ (here g) (i .0) (i .3) h (passed c))
+    (omega (arith, i .0), omega arith, scan-nothing (rulesOf (pr g)) (laws (pr g)) open′ (s g) _ (here g) (i .0) (i .3) h (passed c))
 
 pub scan-spec : {M : Type 1} → statement M
 scan-spec =
@@ -202,7 +207,7 @@ scan-spec =
     Inv-loop
     μ-loop
     loop-holds
-    next-ff-requires
+    next-start-requires
     wanting-requires
     returns
     sub-look

@@ -7,56 +7,66 @@ use types.Run.{miss}
 use lib.ListN.{length, drop, length-drop}
 use Rattle.reading.specs.Reading.{closed}
 use Rattle.reading.specs.Calls.{first}
-use Rattle.packet_front.specs.declared.Begun.{Begun}
-use Rattle.packet.specs.Verdict.{protocol2, settledBy}
-use Rattle.packet.specs.declared.Judgement.{Judgement}
-use Rattle.packet.proofs.Laws.{laws, undecided}
-use Rattle.packet.proofs.Looks.{Looked, Judged}
+use Rattle.packet_rules.specs.declared.Begun.{Begun}
+use Rattle.packet_rules.specs.Answers.{settledBy}
+use Rattle.packet_rules.specs.declared.Judgement.{Judgement}
+use Rattle.packet_rules.proofs.Laws.{undecided}
+use Rattle.packet_rules.proofs.Looks.{Looked, Judged}
+use Rattle.protocols.specs.declared.Protocol.{Protocol}
+use Rattle.protocols.specs.Protocols.{shapeOf, rulesOf}
+use Rattle.protocols.proofs.Shapes.{laws, shapes-kept, some-longest}
 use Rattle.windows.proofs.Scans.{scan-packet, scan-bad, scan-nothing, scan-few, scan-end}
-use Rattle.windows.proofs.Looking.{look-at, fits-at, look-past, judge-at, judged-nothing, next-start}
+use Rattle.windows.proofs.Looking.{look-at, fits-at, look-past, judge-at, judged-nothing, start-at}
 use borrow.Author.Needs.{needs}
 use Rattle.windows.proofs.scan_closed.Statement.{statement}
 use Rattle.windows.proofs.scan_closed.Tie as tie
 
 abbrev Inv-loop : tie.InvT-loop
-Inv-loop segment from₀ from = (from ≤ length segment) × (first protocol2 closed segment ≡ first protocol2 closed (drop from segment))
+Inv-loop protocol segment from₀ from = (from ≤ length segment) × (first (rulesOf protocol) closed segment ≡ first (rulesOf protocol) closed (drop from segment))
 
 abbrev μ-loop : tie.MeasureT-loop
-μ-loop segment from₀ from = length segment - from
+μ-loop protocol segment from₀ from = length segment - from
 
 loop-holds : tie.Need-loop-holds Inv-loop μ-loop
 loop-holds c = (omega arith, refl)
 
-next-ff-requires : tie.Need-next-ff-requires Inv-loop μ-loop
-next-ff-requires c κs = search needs
+next-start-requires : tie.Need-next-start-requires Inv-loop μ-loop
+next-start-requires c κs = search needs
 
 -- the offset that is looked at
-module _ (f : tie.After-next-ff Inv-loop μ-loop) where
+module _ (f : tie.After-next-start Inv-loop μ-loop) where
+  abbrev pr : Protocol
+  pr = f .before .before .before .args .protocol
+
   abbrev s : List ℕ
   s = f .before .before .before .args .segment .now
 
   abbrev here : ℕ
-  here = f .next-ff .result
+  here = f .next-start .result
 
-  start : (f .before .loop .from ≤ here) × (here ≤ length s) × (first protocol2 closed s ≡ first protocol2 closed (drop here s))
+  start : (f .before .loop .from ≤ here) × (here ≤ length s) × (first (rulesOf pr) closed s ≡ first (rulesOf pr) closed (drop here s))
   start =
       let i = f .before .loop .inv in
-      let n = next-start s (f .before .loop .from) here (f .next-ff .ensures) closed (i .0) in
+      let n = start-at pr s (f .before .loop .from) here (f .next-start .ensures) closed (i .0) in
       (n .0, n .1, i .1 ∙ n .2)
 
 returns : tie.Need-returns Inv-loop μ-loop
 returns c =
     let f = c .before in
     let i = start f in
-    scan-end protocol2 laws closed (s f) 0 (here f) (omega arith) (i .2) (c .if1 .taken) (i .1)
+    scan-end (rulesOf (pr f)) (laws (pr f)) closed (s f) 0 (here f) (omega arith) (i .2) (c .if1 .taken) (i .1)
 
 sub-if2 : tie.Need-sub-if2 Inv-loop μ-loop
 sub-if2 c = search needs
 
+shortest-requires : tie.Need-shortest-requires Inv-loop μ-loop
+shortest-requires c κs = search needs
+
 returns-2 : tie.Need-returns-2 Inv-loop μ-loop
 returns-2 c =
-    let f = c .before .before in
-    scan-few protocol2 (s f) (here f) 10 undecided (start f .2) (omega (arith, length-drop (here f) (s f)))
+    let f = c .before .before .before in
+    scan-few (rulesOf (pr f)) (s f) (here f) (shapeOf (pr f) .shortest) (undecided (shapeOf (pr f)) (shapes-kept (pr f))) (start f .2)
+    (omega (arith, length-drop (here f) (s f), c .if2 .taken, c .before .shortest .ensures))
 
 sub-look : tie.Need-sub-look Inv-loop μ-loop
 sub-look c = search needs
@@ -75,20 +85,20 @@ enum-known-size c = search needs
 
 -- what the look at the offset tells
 module _ (l : tie.After-look Inv-loop μ-loop) where
-  abbrev f : tie.After-next-ff Inv-loop μ-loop
-  f = l .before .before .before .before
+  abbrev f : tie.After-next-start Inv-loop μ-loop
+  f = l .before .before .before .before .before
 
   some : here f < length (s f)
-  some = l .before .before .before .if1 .left
+  some = l .before .before .before .before .if1 .left
 
-  told : (b : Begun) → l .look .result ≡ b → Looked protocol2 settledBy (drop (here f) (s f)) b
-  told b e = look-at (s f) (here f) (l .look .result) (l .look .ensures) b e
+  told : (b : Begun) → l .look .result ≡ b → Looked (rulesOf (pr f)) (settledBy (shapeOf (pr f))) (drop (here f) (s f)) b
+  told b e = look-at (pr f) (s f) (here f) (l .look .result) (l .look .ensures) b e
 
 -- all bytes of a packet are there
 whole : (z : tie.After-size Inv-loop μ-loop) → here (f (z .before .before)) + z .size .given .0 .0 ≤ length (s (f (z .before .before)))
 whole z =
     let l = z .before .before in
-    fits-at (s (f l)) (here (f l)) (l .look .result) (l .look .ensures) (z .size .given .0 .0) (z .size .given .1)
+    fits-at (pr (f l)) (s (f l)) (here (f l)) (l .look .result) (l .look .ensures) (z .size .given .0 .0) (z .size .given .1)
 
 add-judge-whole : tie.Need-add-judge-whole Inv-loop μ-loop
 add-judge-whole c = omega (arith, whole (c .before))
@@ -116,16 +126,16 @@ module _ (j : tie.After-judge-whole Inv-loop μ-loop) where
   abbrev l : tie.After-look Inv-loop μ-loop
   l = z .before .before
 
-  judgement : (v : Judgement) → j .judge-whole .result ≡ v → Judged protocol2 (drop (here (f l)) (s (f l))) v
+  judgement : (v : Judgement) → j .judge-whole .result ≡ v → Judged (rulesOf (pr (f l))) (drop (here (f l)) (s (f l))) v
   judgement v e =
-      judge-at (s (f l)) (here (f l)) (l .look .result) (l .look .ensures) (z .size .given .0 .0) (z .size .given .1) (j .judge-whole .result) v
+      judge-at (pr (f l)) (s (f l)) (here (f l)) (l .look .result) (l .look .ensures) (z .size .given .0 .0) (z .size .given .1) (j .judge-whole .result) v
       (j .judge-whole .ensures) e
 
 returns-3 : tie.Need-returns-3 Inv-loop μ-loop
 returns-3 c =
     let j = c .before .before .before in
     let g = f (l j) in
-    scan-packet protocol2 laws closed (s g) 0 (here g) (omega arith) (start g .2) _ (some (l j)) (judgement j _ (c .before .count .given .1))
+    scan-packet (rulesOf (pr g)) (laws (pr g)) closed (s g) 0 (here g) (omega arith) (start g .2) _ (some (l j)) (judgement j _ (c .before .count .given .1))
 
 enum-known-id : tie.Need-enum-known-id Inv-loop μ-loop
 enum-known-id c = search needs
@@ -134,7 +144,7 @@ returns-4 : tie.Need-returns-4 Inv-loop μ-loop
 returns-4 c =
     let j = c .before .before .before in
     let g = f (l j) in
-    scan-bad protocol2 laws closed (s g) 0 (here g) (omega arith) (start g .2) _ (omega arith) (some (l j))
+    scan-bad (rulesOf (pr g)) (laws (pr g)) closed (s g) 0 (here g) (omega arith) (start g .2) _ (some-longest (pr g)) (some (l j))
     (judgement j _ (c .before .id .given .1))
 
 add-from : tie.Need-add-from Inv-loop μ-loop
@@ -145,19 +155,19 @@ loop-less c = omega (arith, start (f (c .before)) .0, some (c .before))
 
 -- an offset that is passed: its bytes are all there and say nothing, or they are not
 passed : (k : tie.At-match-came Inv-loop μ-loop)
-    → first protocol2 closed (drop (here (f (k .before))) (s (f (k .before))))
-    ≡ first protocol2 closed (drop (here (f (k .before)) + 1) (s (f (k .before))))
+    → first (rulesOf (pr (f (k .before)))) closed (drop (here (f (k .before))) (s (f (k .before))))
+    ≡ first (rulesOf (pr (f (k .before)))) closed (drop (here (f (k .before)) + 1) (s (f (k .before))))
 passed k =
     let g = f (k .before) in
     ⊎-elim
     (λ w.
-    scan-nothing protocol2 laws closed (s g) (here g) (here g) (omega arith) refl (some (k .before))
-    (judged-nothing protocol2 (drop (here g) (s g)) (w .4 .result)
-    (judge-at (s g) (here g) _ (k .before .look .ensures) (w .1 .given .0 .0) (w .1 .given .1) (w .4 .result) (w .4 .result) (w .4 .ensures) refl)
+    scan-nothing (rulesOf (pr g)) (laws (pr g)) closed (s g) (here g) (here g) (omega arith) refl (some (k .before))
+    (judged-nothing (rulesOf (pr g)) (drop (here g) (s g)) (w .4 .result)
+    (judge-at (pr g) (s g) (here g) _ (k .before .look .ensures) (w .1 .given .0 .0) (w .1 .given .1) (w .4 .result) (w .4 .result) (w .4 .ensures) refl)
     (λ n e. miss (2 ∷ 3 ∷ []) 0 tt (rw e at (w .5 .keys3)))
     (λ id e. miss (2 ∷ 3 ∷ []) 1 tt (rw e at (w .5 .keys3)))))
     (λ w.
-    look-past protocol2 laws settledBy (s g) (here g) (some (k .before)) (k .before .look .result) (told (k .before) _ refl)
+    look-past (rulesOf (pr g)) (laws (pr g)) (settledBy (shapeOf (pr g))) (s g) (here g) (some (k .before)) (k .before .look .result) (told (k .before) _ refl)
     (λ n e. miss (0 ∷ 1 ∷ []) 2 tt (rw e at (w .keys2))))
     (k .match .came)
 
@@ -171,9 +181,10 @@ scan-closed-spec =
     Inv-loop
     μ-loop
     loop-holds
-    next-ff-requires
+    next-start-requires
     returns
     sub-if2
+    shortest-requires
     returns-2
     sub-look
     part-look-start

@@ -2,8 +2,8 @@
 
 use super::board::Board;
 use crate::Operation;
-use compare::{body_of_stuffed_length, noise, record, segment, worst_noise};
-use reference::{framed, packet_of, stuff, Rng};
+use compare::{body_of_stuffed_length, noise, record, segment, v1_record, v1_segment, worst_noise};
+use reference::{framed, packet_of, stuff, v1, Rng};
 
 /// The longest body of a packet.
 const LONGEST_BODY: usize = 1_022;
@@ -18,6 +18,27 @@ pub fn reader(rng: &mut Rng) -> Vec<Operation> {
     for _ in 0..rng.between(1, 3) {
         let line = line(rng);
         calls(rng, &line, &mut operations);
+    }
+    operations
+}
+
+/// The calls of a reader of Protocol 1.0 or Mercury.
+pub fn reader_v1(rng: &mut Rng) -> Vec<Operation> {
+    let (held, count) = if rng.one_in(2) { v1_record(rng) } else { ([rng.byte(); v1::MOST_HELD], 0) };
+    let mut operations = vec![Operation::RecordV1 { protocol: rng.pick(&v1::BOTH), count, past: 0, held: held.to_vec() }];
+    operations.extend(vec![Operation::GapV1; rng.between(0, 5)]);
+    for _ in 0..rng.between(1, 3) {
+        let parts = rng.between(1, 6);
+        let longest = if rng.one_in(5) { 240 } else { 30 };
+        let line = v1_segment(rng, parts, longest);
+        for chunk in chunks(rng, &line) {
+            let chunk = chunk.to_vec();
+            operations.push(if rng.one_in(4) { Operation::FeedV1 { chunk } } else { Operation::ArriveV1 { chunk } });
+            if rng.one_in(12) {
+                operations.push(Operation::GapV1);
+            }
+        }
+        operations.extend(vec![Operation::GapV1; rng.between(0, 4)]);
     }
     operations
 }

@@ -33,6 +33,12 @@ pub fn all() -> Vec<Wrong> {
         wrong("dxl_gap", "the packet buffer", Calls { gap: leaves_the_packet, ..PROVED }),
         wrong("dxl_reader_feed", "the count of held bytes", Calls { reader_feed: forgets_the_count, ..PROVED }),
         wrong("dxl_reader_gap", "the held bytes", Calls { reader_gap: leaves_a_held_byte, ..PROVED }),
+        wrong("dxl_p1_feed", "the answer", Calls { p1_feed: no_packet_of_253, ..PROVED }),
+        wrong("dxl_p1_feed", "the answer", Calls { p1_feed: accepts_what_protocol_2_holds, ..PROVED }),
+        wrong("dxl_p1_gap", "the packet buffer", Calls { p1_gap: leaves_the_v1_packet, ..PROVED }),
+        wrong("dxl_mercury_feed", "the count of held bytes, with the words around it", Calls { mercury_feed: skips_a_failed_v1_packet, ..PROVED }),
+        wrong("dxl_mercury_feed", "the held bytes", Calls { mercury_feed: leaves_a_byte_past_the_count, ..PROVED }),
+        wrong("dxl_mercury_gap", "the count of held bytes, with the words around it", Calls { mercury_gap: never_finishes, ..PROVED }),
         wrong("dxl_next_event", "the answer", Calls { next_event: passes_a_failed_packet, ..PROVED }),
         wrong("dxl_next_event", "the answer", Calls { next_event: counts_from_one, ..PROVED }),
         wrong("dxl_next_event", "the answer", Calls { next_event: loses_the_last, ..PROVED }),
@@ -167,6 +173,65 @@ fn no_longest_packet(held: &mut [u8; 1030], count: &mut usize, chunk: &[u8], pac
     if step.count == 1_031 {
         *packet = [0; 1031];
         return Step { kind: 0, id: 0, count: 0, ..step };
+    }
+    step
+}
+
+fn no_packet_of_253(held: &mut [u8; 258], count: &mut usize, chunk: &[u8], packet: &mut [u8; 259]) -> Step {
+    let step = exports::p1_feed(held, count, chunk, packet);
+    if step.kind == 1 && step.id == 253 {
+        *packet = [0; 259];
+        return Step { kind: 0, id: 0, count: 0, ..step };
+    }
+    step
+}
+
+/// Reading goes on behind a packet with a wrong checksum and not at the next byte.
+fn skips_a_failed_v1_packet(held: &mut [u8; 258], count: &mut usize, chunk: &[u8], packet: &mut [u8; 259]) -> Step {
+    let step = exports::mercury_feed(held, count, chunk, packet);
+    if step.kind == 2 {
+        // the first byte of the failed packet is gone
+        let rest = 3 + usize::from(held[2]);
+        held.copy_within(rest.., 0);
+        held[258 - rest..].fill(0);
+        *count -= rest;
+    }
+    step
+}
+
+/// 25 only above 1,030: of a count between, as much is taken as a record has.
+fn accepts_what_protocol_2_holds(held: &mut [u8; 258], count: &mut usize, chunk: &[u8], packet: &mut [u8; 259]) -> Step {
+    if *count <= 1_030 {
+        *count = (*count).min(258);
+    }
+    exports::p1_feed(held, count, chunk, packet)
+}
+
+/// A gap call that gives no event leaves the packet buffer as it was.
+fn leaves_the_v1_packet(held: &mut [u8; 258], count: &mut usize, packet: &mut [u8; 259]) -> Step {
+    let kept = *packet;
+    let step = exports::p1_gap(held, count, packet);
+    if step.kind == 0 {
+        *packet = kept;
+    }
+    step
+}
+
+fn leaves_a_byte_past_the_count(held: &mut [u8; 258], count: &mut usize, chunk: &[u8], packet: &mut [u8; 259]) -> Step {
+    let last = held[257];
+    let step = exports::mercury_feed(held, count, chunk, packet);
+    if *count < 258 {
+        held[257] = last;
+    }
+    step
+}
+
+/// Where a packet waits, the gap keeps it.
+fn never_finishes(held: &mut [u8; 258], count: &mut usize, packet: &mut [u8; 259]) -> Step {
+    let (before, held_before) = (*count, *held);
+    let step = exports::mercury_gap(held, count, packet);
+    if step.kind == 0 && before > 0 {
+        (*count, *held) = (before, held_before);
     }
     step
 }

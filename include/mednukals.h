@@ -390,8 +390,8 @@ struct dxl_step dxl_gap(uint8_t held[1030], size_t *count, uint8_t packet[1031])
 /*
  * The readers of the old boards, on held bytes and their count, as dxl_feed and dxl_gap and with all that is said above: packets of
  * Protocol 1.0 or Mercury, as dxl_p1_encode and dxl_mercury_encode write them, with 259 in the place of 1,031 and 258 in that of
- * 1,030. A packet has 6 to 259 bytes; its body stands between byte 4 and the checksum, its last byte, and is not stuffed. A
- * DXL_BAD_CHECKSUM is not promised for every change of neighbouring bytes: a sum does not tell all of them.
+ * 1,030. A packet has 6 to 259 bytes; its body stands from byte 4 up to the checksum, which is the packet's last byte, and is not
+ * stuffed. What is said of changed bytes is not promised here: a sum does not show every change of two neighbours.
  *
  * FF is no ID, so that of several FF only the last two may begin a packet. A line keeps to one protocol; a program that does not
  * know which may read it with two readers.

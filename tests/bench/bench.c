@@ -510,6 +510,29 @@ static uint16_t exchange_baseline(uint16_t last, size_t n)
     return exchanged(baseline_exchange, last, n);
 }
 
+/* The same in two calls. */
+typedef struct dxl_carried packet_first(uint8_t *table, size_t n_table, struct dxl_registered registered, const uint8_t *packet,
+                                        size_t n_packet, uint8_t *body, size_t n_body);
+
+static uint16_t exchanged_in_two(packet_first *carry_out, second *status, uint16_t last, size_t n)
+{
+    static uint8_t unstuffed[DXL_MAX_BODY];
+    struct dxl_carried carried =
+        carry_out(table, sizeof table, none, received[last & 255], n, unstuffed, sizeof unstuffed);
+    struct dxl_answer answer = {status(carried.reply, reply, sizeof reply), carried.reply.slot, carried.registered};
+    return folded(last, &answer);
+}
+
+static uint16_t exchange_two_ours(uint16_t last, size_t n)
+{
+    return exchanged_in_two(dxl_carry_out_packet, dxl_status, last, n);
+}
+
+static uint16_t exchange_two_baseline(uint16_t last, size_t n)
+{
+    return exchanged_in_two(baseline_carry_out_packet, baseline_status, last, n);
+}
+
 /* Seconds of so many calls, and what the last one answered. */
 static double seconds(work *f, size_t n, size_t calls, uint16_t *answer)
 {
@@ -701,6 +724,7 @@ static int measure_instructions(void)
     good = good && measure("device in two, Write", two_ours, two_baseline, sizeof put, 1e-6, "Mcalls/s");
     receive(sizeof put);
     good = good && measure_exchange("exchange, Write", sizeof put + 9);
+    good = good && measure("exchange in two, Write", exchange_two_ours, exchange_two_baseline, sizeof put + 9, 1e-6, "Mcalls/s");
     good = good && measure_device("device, Sync Write", instruct_200());
     good = good && measure_device("device, Bulk Read", instruct_bulk(DXL_INST_BULK_READ, 200));
     return good && measure_device("device, Bulk Write", instruct_bulk(DXL_INST_BULK_WRITE, 110));

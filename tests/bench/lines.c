@@ -126,7 +126,7 @@ size_t packets_v1(uint8_t *line, size_t n)
 
 size_t worst_noise_v1(uint8_t *line, size_t n)
 {
-    static const uint8_t front[] = {0xFF, 0xFF, 0x01, 0xFF};
+    static const uint8_t front[] = {0xFF, 0xFF, 0x01};
     return repeat(front, sizeof front, line, n);
 }
 

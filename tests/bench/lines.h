@@ -34,7 +34,7 @@ extern const struct line_kind lines[LINES];
 /* Packets of Protocol 1.0 with ten bytes, one after the other; at most n bytes, and the answer is how many. */
 size_t packets_v1(uint8_t *line, size_t n);
 
-/* Fronts four bytes apart, each promising the longest packet of Protocol 1.0, likewise. */
+/* Fronts three bytes apart, each promising the longest packet of Protocol 1.0 by the next one's first FF, likewise. */
 size_t worst_noise_v1(uint8_t *line, size_t n);
 
 /* A line on which one call judges 112 packets and tells none of them: about 57,000 bytes of checksum. */

@@ -117,7 +117,7 @@ pub extern "C" fn dxl_measure(table: &mut [u8], position: i32, hardware_error: u
 
 // A feeding call on a reader's record in parts, the held bytes and their count. It promises demand 3, and that a packet in which
 // one byte or two neighbours were changed between length field and checksum is a bad checksum.
-// [F1-F16 G5 K3 K7 N9 P11 Q1-Q14 V1-V12]
+// [F1-F16 G5 K3 K7 N9 O15 P11 Q1-Q14 V1-V12]
 #[no_mangle]
 pub extern "C" fn dxl_feed(
     held: &mut [u8; 1030],
@@ -137,7 +137,7 @@ pub extern "C" fn dxl_feed(
     numbers::step(step)
 }
 
-// A gap call, likewise. [F1-F16 G5 N9 Q1-Q14 V1-V12]
+// A gap call, likewise. [F1-F16 G5 N9 O15 Q1-Q14 V1-V12]
 #[no_mangle]
 pub extern "C" fn dxl_gap(
     held: &mut [u8; 1030],
@@ -155,7 +155,7 @@ pub extern "C" fn dxl_gap(
     numbers::step(step)
 }
 
-// A feeding call on a reader's record, in place: its held bytes are passed on without a copy. [F1-F16 N9 Q1-Q14 V1-V12]
+// A feeding call on a reader's record, in place: its held bytes are passed on without a copy. [F1-F16 N9 O15 Q1-Q14 V1-V12]
 #[no_mangle]
 pub extern "C" fn dxl_reader_feed<'r, 'c, 'p>(
     reader: &'r mut Reader,
@@ -173,7 +173,7 @@ pub extern "C" fn dxl_reader_feed<'r, 'c, 'p>(
     numbers::step(step)
 }
 
-// A gap call on a reader's record, likewise. [F1-F16 N9 Q1-Q14 V1-V12]
+// A gap call on a reader's record, likewise. [F1-F16 N9 O15 Q1-Q14 V1-V12]
 #[no_mangle]
 pub extern "C" fn dxl_reader_gap<'r, 'p>(
     reader: &'r mut Reader,

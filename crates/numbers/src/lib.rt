@@ -39,7 +39,7 @@ ghost use Rattle.lists.specs.Answer.{count as Answer·count};
 ghost use Rattle.numbers.specs.Exported.{exported, exportedRefusal, stepNumbers, nextNumbers, deviceNumbers, refusalNumber, carriedNumbers, foundNumbers, salvagedNumbers, testedNumber};
 
 // What a feeding or gap call returns. kind 0: no event, from a gap call: nothing is left; 1: a packet of `count` bytes; 2: a bad
-// checksum; 25: the reader's count is above 1,030. `id` is that of the packet or of the bad checksum.
+// checksum; 25: the reader's count is above what can be held. `id` is that of the packet or of the bad checksum.
 #[repr(C)]
 pub struct StepNumbers {
     pub taken: usize,

@@ -1,4 +1,4 @@
--- One packet of Protocol 1.0 or Mercury, rule by rule: FF FF, ID, length, that many further bytes, the last of which is the checksum.
+-- One packet of Protocol 1.0 or Mercury, rule by rule: FF FF, ID, length, body, checksum; the length counts the last two.
 -- The two differ in the IDs that are allowed. There is no stuffing.
 use mathlib.Core.Path.{_≡_}
 use mathlib.Core.Bool.{Bool, true, _||_}

@@ -76,8 +76,8 @@ recordsOf p =
 abbrev pub records : AnyReader
 records = recordsOf Two
 
--- "at most 1,030 bytes are held, so none of these calls gives 25": from a fresh record on no call is refused, whatever came
--- before [O15 Q2]
+-- "at most 1,030 bytes are held, so none of these calls gives 25", 258 on the old boards: from a fresh record on no call is refused,
+-- whatever came before [O15 Q2]
 abbrev pub NeverRefusedIn : Protocol → Type 0
 NeverRefusedIn p =
     (r : Reader) → r .count ≡ 0 → (cs : List Call) (c : Call) → ¬ (stepIn p (after (recordsOf p) r cs) c .event ≡ Refused)

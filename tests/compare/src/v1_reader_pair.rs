@@ -117,7 +117,7 @@ impl V1ReaderPair {
         }
     }
 
-    /// A chunk has arrived when feeding was repeated with the untaken rest until a call gave no event.
+    /// Feeds the chunk, and what is left of it, until there is no event.
     pub fn arrive(&mut self, mut chunk: &[u8], events: &mut Vec<Event>) {
         while let (step, Some(event)) = self.feed(chunk) {
             chunk = &chunk[step.taken..];

@@ -71,7 +71,7 @@ fn every_two_chunks_of_long_segments() {
     }
 }
 
-/// Any held bytes and any count, then calls in any order: feeds whose rest is dropped, gaps that are not finished.
+/// Any held bytes and any count, then calls in any order: feeds whose rest is dropped, gaps that are not finished. [O13]
 #[test]
 fn odd_lists_of_calls() {
     let mut rng = Rng::new(142);
@@ -94,7 +94,7 @@ fn odd_lists_of_calls() {
     }
 }
 
-/// The count that is refused is the first above 258, also where Protocol 2.0 would accept it; nothing lent changes. [N9]
+/// The count that is refused is the first above 258, also where Protocol 2.0 would accept it; nothing lent changes. [N9 O14]
 #[test]
 fn counts_that_are_refused() {
     let mut rng = Rng::new(143);
@@ -147,7 +147,7 @@ fn runs_of_ff_and_the_id_253() {
     }
 }
 
-/// Damage, then packets: what comes out before the gap are the first events of the reading, and at the gap all of them. [O8]
+/// Damage, then packets: what comes out before the gap are the first events of the reading, and at the gap all of them. [O8 O15]
 #[test]
 fn packets_after_noise_all_come_out() {
     let mut rng = Rng::new(146);

@@ -1,4 +1,4 @@
-//! One packet of Protocol 1.0 or Mercury: FF FF, ID, length, that many further bytes, the last of which is the checksum.
+//! One packet of Protocol 1.0 or Mercury: FF FF, ID, length, body, checksum; the length counts the last two.
 
 use crate::reader::{feed_by, gap_by, on_record, reading_by, Rules};
 use crate::{Answer, Found, Given, Step, Verdict};
@@ -144,7 +144,7 @@ mod tests {
     use super::*;
     use crate::Event;
 
-    /// Read Data to 1, two bytes from 43 on, as the request has it.
+    /// Read Data to 1, one byte at 43, as the request has it.
     const READ: [u8; 8] = [0xFF, 0xFF, 0x01, 0x04, 0x02, 0x2B, 0x01, 0xCC];
 
     fn read() -> Event {

@@ -6,7 +6,7 @@ use lib.Bits.{bitXor}
 use lib.ListN.{length}
 use Rattle.crc.specs.Crc.{crcFrom}
 
--- going on over the second part from the sum of the first is the sum of both joined; either may be empty [C5]
+-- the sum of a, carried on over b, is that of a and b side by side, also where one of them has no bytes [C5]
 abbrev pub Joined : Type 0
 Joined = (start : ℕ) (a b : List ℕ) → crcFrom start (a ++ b) ≡ crcFrom (crcFrom start a) b
 

@@ -40,7 +40,7 @@ unfoldable pub lastFrom : ℕ → ℕ → List (List ℕ) → Last
 lastFrom id k [] = nowhere
 lastFrom id k (s ∷ ss) = orIn (lastFrom id (suc k) ss) k (lastIn id s)
 
--- by a reading of every segment: the last segment that has a packet with the ID, and the last such packet in it [I7 I19]
+-- as all segments are read: where a packet with the ID stands last, in the last of them that has one [I7 I19]
 abbrev pub lastOf : ℕ → List (List ℕ) → Last
 lastOf id segments = lastFrom id 0 segments
 

@@ -156,21 +156,31 @@ class Write(Folder):
             self.assertEqual((status, out, err), (FAILED, "", f"dxl: {self.out}: 31, the log would have more than 4294967295 bytes\n"))
         self.assertEqual(self.names(), ["half", "whole"])
 
-    # [L9]
-    def test_ended(self):
-        """A program that is ended while it writes leaves nothing behind."""
+    def signalled(self, number, disposition):
+        """How a program ends that gets the signal while it writes, and what is there then. The gate itself may have been started with
+        the signal ignored, and its programs with it: so the disposition is set."""
         capture = self.file("capture")
         with capture.open("wb") as file:
             file.truncate(LONG)
+        program = subprocess.Popen([PROGRAM, "log", "write", str(self.out), str(capture)], stderr=subprocess.DEVNULL,
+                                   preexec_fn=lambda: signal.signal(number, disposition))
+        waited = time.monotonic()
+        while len(self.names()) < 2 and program.poll() is None and time.monotonic() < waited + PATIENCE:
+            time.sleep(0.001)
+        program.send_signal(number)
+        return program.wait(PATIENCE), self.names()
+
+    # [L9]
+    def test_ended(self):
+        """A program that is ended while it writes leaves nothing behind."""
         for number in [signal.SIGTERM, signal.SIGINT, signal.SIGQUIT]:
             with self.subTest(number):
-                program = subprocess.Popen([PROGRAM, "log", "write", str(self.out), str(capture)], stderr=subprocess.DEVNULL)
-                waited = time.monotonic()
-                while len(self.names()) < 2 and program.poll() is None and time.monotonic() < waited + PATIENCE:
-                    time.sleep(0.001)
-                program.send_signal(number)
-                self.assertEqual(program.wait(PATIENCE), -number)
-                self.assertEqual(self.names(), ["capture"])
+                self.assertEqual(self.signalled(number, signal.SIG_DFL), (-number, ["capture"]))
+
+    # [L9]
+    def test_signal_ignored(self):
+        """Where its caller ignores a signal, as a shell does for work in the background, so does it."""
+        self.assertEqual(self.signalled(signal.SIGINT, signal.SIG_IGN), (DONE, ["capture", self.out.name]))
 
 
 class Ask(Folder):

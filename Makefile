@@ -42,7 +42,7 @@ define HELP
 use it
   make run                 print the packets and bad checksums in a capture, by the proved program line
       CAPTURE=FILE         a capture of your own; - is standard input
-  make segment             print the same with the place of each, of a capture of any length, by an example in C
+  make segment             print the same with the offset of each, of a capture of any length, by an example in C
       CAPTURE=FILE         a capture of your own; - is standard input
   make checksum            print the checksum and byte count of a file, likewise
       CAPTURE=FILE         a file of your own; - is standard input

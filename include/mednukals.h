@@ -570,8 +570,8 @@ struct dxl_registered {
 /* What a call of the device returns. */
 struct dxl_answer {
     int64_t count; /* the status packet's bytes, 0 for silence, or minus the number of a refusal */
-    size_t slot;   /* when to send it: 0 at once; for a Ping to all devices the own ID; for a Sync Read or Bulk Read the place
-                      in its list, from 0. 0 for silence and for a refusal */
+    size_t slot;   /* when to send it: 0 at once; for a Ping to all devices the own ID; for a Sync Read or Bulk Read the
+                      index of its entry in the list, from 0. 0 for silence and for a refusal */
     struct dxl_registered registered; /* the registered write from now on; if the call is refused, as it was passed */
 };
 

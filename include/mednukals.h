@@ -536,9 +536,9 @@ enum {
  *   -33  n is below 1,032 or above 4,294,967,295
  *   -13  n_out is below n, or n_report below twice the count of entries
  *
- * A sound log comes out byte for byte, with all of the report 0, and so does whatever this call has written. The bytes of out after
- * the log stay as they were, and so do the places of the report that are not used; if the call is refused, all of both do. None of
- * the three may overlap.
+ * Of a sound log, and of whatever this call has written, the same bytes are written, and all of the report is 0. The bytes of out
+ * after the log stay as they were, and so do the places of the report that are not used; if the call is refused, all of both do.
+ * None of the three may overlap.
  */
 struct dxl_salvaged dxl_log_salvage(const uint8_t *log, size_t n, uint8_t *out, size_t n_out, uint32_t *report, size_t n_report);
 

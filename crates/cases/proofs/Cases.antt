@@ -1,5 +1,4 @@
--- Every case of the table holds: one test, which the checker computes over the whole table, and one law that turns it into
--- each case's claim.
+-- All cases of the table hold. The checker runs one test over all of them, and a law leads from that test to the claim of each.
 use mathlib.Core.Path.{_≡_, refl, sym, ap, ap₂, _∙_, subst}
 use mathlib.Core.Bool.{Bool, true, false, not, _&&_}
 use mathlib.Core.List.{List, [], _∷_, List·Memᴰ, List·Memᴰ·cases-cons, List·Memᴰ·not-nil}

@@ -1,4 +1,4 @@
--- The worked examples that are proved. Most are printed in the maker's pages.
+-- The worked examples that are proved: those of RULES X that are marked so, but for the salvage's, and others.
 use mathlib.Core.Path.{_≡_}
 use mathlib.Core.Bool.{true}
 use mathlib.Core.List.{List, [], _∷_, _++_, List·Memᴰ}

@@ -79,7 +79,7 @@ pub record Salvage : Type 0 where
   pub each : (file : List ℕ) → length (keptSegments file) + length (droppedIn file) ≡ entryCount file
   -- [I22]
   pub apart : (file : List ℕ) → Apart (segmentsPlace (entryCount file)) (length file) (keptOf file (entryCount file))
-  -- a sound log is refused only for want of room, and comes out byte for byte, with an empty report [I29]
+  -- a sound log is refused only for want of room; the same bytes are written, and there is nothing to report [I29]
   pub accepted : (file out report : List ℕ) → Sound file → length file ≤ length out → 2 * countIn file ≤ length report
       → salvageRefusal file out report ≡ none
   -- [I29]

@@ -32,8 +32,8 @@ abbrev pub faultOf : Form → Device → Option ℕ
 faultOf inTwo d = stateRefusal (d .table) (d .registered)
 faultOf inOne d = callRefusal (d .table) (d .registered) (d .reply)
 
--- "a board whose table, records and buffers give none of 13 and 21 to 25": its test passes, and the body buffer has room for each
--- packet's unstuffed body. 25 comes from no reader at a start (Q2), and 14 of no well-formed packet. [W10]
+-- No call gives 13, or 21 to 25: the device's test passes, and the body buffer has room for each packet's unstuffed body. 25 comes
+-- from no reader at a start (Q2), and 14 of no well-formed packet. [W10]
 pub record Ready (form : Form) (d : Device) (packets : List (List ℕ)) : Type 0 where
   pub faultless : faultOf form d ≡ none
   pub room : (w : List ℕ) → List·Memᴰ w packets → length (unstuff (bodyOf w)) ≤ length (d .body)

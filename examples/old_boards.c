@@ -23,7 +23,8 @@ enum { CHUNK = 64, BEFORE_BODY = 4, CHECKSUM = 1, MOST_BODY = 254 };
 
 /* The calls of a protocol. Firmware for one protocol calls them by their names. */
 struct protocol {
-    int64_t (*encode)(uint8_t id, uint8_t instruction, const uint8_t *params, size_t n_params, uint8_t *out, size_t n_out, size_t at);
+    int64_t (*encode)(uint8_t id, uint8_t instruction, const uint8_t *params, size_t n_params, uint8_t *out, size_t n_out,
+                      size_t at);
     struct dxl_step (*feed)(uint8_t held[258], size_t *count, const uint8_t *chunk, size_t n, uint8_t packet[259]);
     struct dxl_step (*gap)(uint8_t held[258], size_t *count, uint8_t packet[259]);
 };

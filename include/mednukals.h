@@ -396,7 +396,8 @@ struct dxl_step dxl_gap(uint8_t held[1030], size_t *count, uint8_t packet[1031])
  * FF is no ID, so that of several FF only the last two may begin a packet. A line keeps to one protocol; a program that does not
  * know which may read it with two readers.
  *
- * Refused with kind DXL_BAD_READER if *count is above 258, also where dxl_feed would accept it.
+ * Refused with kind DXL_BAD_READER if *count is above 258, also where dxl_feed would accept it. examples/old_boards.c has the loops
+ * around these calls.
  */
 struct dxl_step dxl_p1_feed(uint8_t held[258], size_t *count, const uint8_t *chunk, size_t n, uint8_t packet[259]);
 struct dxl_step dxl_p1_gap(uint8_t held[258], size_t *count, uint8_t packet[259]);

@@ -525,7 +525,8 @@ enum {
  * log, n             the file, any bytes
  * out, n_out         the buffer for the new log: as long as the file, which is always enough
  * report, n_report   two numbers for each dropped entry, in the directory's order: its number from 0, and why. n_report counts
- *                    numbers, and has to be twice the count of entries: 2 * ((n - DXL_LOG_FRONT) / DXL_LOG_ENTRY) is always enough
+ *                    numbers, and has to be at least twice the count of entries: where n is not below DXL_LOG_FRONT,
+ *                    2 * ((n - DXL_LOG_FRONT) / DXL_LOG_ENTRY) is always enough
  *
  * The entries are as many as the header says, or as there is room for where that is less. The directory is looked for at 16 and the
  * index right behind it, whatever the header says. In the directory's order an entry is kept that starts at the end of this index
@@ -536,9 +537,9 @@ enum {
  *   -33  n is below 1,032 or above 4,294,967,295
  *   -13  n_out is below n, or n_report below twice the count of entries
  *
- * A sound log comes out byte for byte, with all of the report 0, and so does whatever this call has written. The bytes of out after
- * the log stay as they were, and so do the places of the report that are not used; if the call is refused, all of both do. None of
- * the three may overlap.
+ * A sound log comes out byte for byte, with 0 in all that is returned but count, and so does whatever this call has written. The
+ * bytes of out after the log stay as they were, and so do the places of the report that are not used; if the call is refused, all of
+ * both do. None of the three may overlap.
  */
 struct dxl_salvaged dxl_log_salvage(const uint8_t *log, size_t n, uint8_t *out, size_t n_out, uint32_t *report, size_t n_report);
 

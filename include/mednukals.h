@@ -81,7 +81,7 @@ enum {
     DXL_BAD_ID = 11,         /* an ID of 253 or 255; in Protocol 1.0 of 255; of a status, also 254 */
     DXL_TOO_LONG = 12,       /* the packet's length, which counts stuffed body and checksum, would pass 1,024; of an old board's
                                 packet 255; of a status, more than 8 bytes of data */
-    DXL_NO_ROOM = 13,        /* the output buffer has too little room */
+    DXL_NO_ROOM = 13,        /* the output buffer has too little room; of a salvage, also the report */
     DXL_BAD_STUFFING = 14,   /* the body is not well stuffed */
     DXL_NOT_A_TABLE = 21,    /* the control table is not 136 bytes long */
     DXL_BAD_TABLE_ID = 22,   /* the control table's ID, byte 7, is above 252 */

@@ -50,9 +50,9 @@ static const char HELP_SALVAGE[] =
     "Writes to OUT a sound log of what is whole in LOG, whose tail may be cut off or whose directory may be wrong, and prints what was\n"
     "altered: each segment of LOG that was dropped, from 0, with the reason (1, it starts before the end of the index or of the last\n"
     "segment kept; 2, it ends behind the end of the file), whether the header changed, how many of the 254 index numbers did, and how\n"
-    "many bytes behind the old index lie in no segment that was kept. LOG is only read, and OUT must not be the same file. An OUT that\n"
-    "is there is replaced once the new log is complete; until then it stays. A link is replaced itself. A file of fewer than\n"
-    "1032 or of more than 4294967295 bytes is refused, 33.\n";
+    "many bytes behind the old index lie in no segment that was kept. LOG is only read; it must not change meanwhile, and OUT must not\n"
+    "be the same file. An OUT that is there is replaced once the new log is complete; until then it stays, and the folder needs room\n"
+    "for a file as long as LOG. A link is replaced itself. A file of fewer than 1032 or of more than 4294967295 bytes is refused, 33.\n";
 
 int help(const char *text)
 {
@@ -343,7 +343,7 @@ static int log_command(int n, char **words)
     for (size_t i = 0; n >= 1 && i < sizeof COMMANDS / sizeof *COMMANDS; i++) {
         if (strcmp(words[0], COMMANDS[i].name) != 0)
             continue;
-        if (n >= 2 && asks_for_help(words[1]))
+        if ((n >= 2 && asks_for_help(words[1])) || (n >= 3 && asks_for_help(words[2])))
             return printed(help(COMMANDS[i].help));
         return COMMANDS[i].run(n - 1, words + 1);
     }

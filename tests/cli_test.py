@@ -109,6 +109,20 @@ class Write(Folder):
         self.assertEqual(self.out.stat().st_mode & 0o777, 0o600)
 
     # [L9]
+    def test_names(self):
+        """The longest name that a file may have; a link is replaced, and what it leads to stays."""
+        ping, link, long = self.file("ping", PING), self.file("link"), self.file("n" * 255)
+        self.assertEqual((run("log", "write", long, ping), len(long.read_bytes())), ((DONE, "", ""), 1050))
+        long.unlink()
+        for aim in ["ping", "none", "link"]:
+            with self.subTest(aim):
+                link.unlink(missing_ok=True)
+                link.symlink_to(aim)
+                self.assertEqual(run("log", "write", link, self.file("other", b"")), (DONE, "", ""))
+                self.assertEqual((link.is_symlink(), len(link.read_bytes()), ping.read_bytes()), (False, 1040, PING))
+                self.assertEqual(self.names(), ["link", "other", "ping"])
+
+    # [L9]
     def test_no_regular_files(self):
         """What is no regular file is neither replaced by a log nor waited for."""
         ping, pipe, folder = self.file("ping", PING), self.file("pipe"), self.file("folder")
@@ -199,6 +213,14 @@ class Ask(Folder):
         self.out.write_bytes(b"")
         self.assertEqual(run("log", "check", self.out)[:2], (NO, f"{self.out}: not sound: 31, not laid out as a log\n"))
         self.assertEqual(run("log", "check", self.file("none")), (FAILED, "", f"dxl: {self.file('none')}: No such file or directory\n"))
+
+    # [I10]
+    def test_too_long(self):
+        """A file that is longer than a log may be is told by its length; it takes no room on the disk."""
+        with self.out.open("wb") as file:
+            file.truncate(1 << 32)
+        self.assertEqual(run("log", "check", self.out), (NO, f"{self.out}: not sound: 31, not laid out as a log\n", ""))
+        self.assertEqual(run("log", "last", self.out, 1), (FAILED, "", f"dxl: {self.out}: 31, not laid out as a log\n"))
 
     def test_full_output(self):
         self.assertEqual(run("log", "write", self.out, self.file("ping", PING))[0], DONE)
@@ -296,6 +318,7 @@ class Salvage(Folder):
             ended = subprocess.run([PROGRAM, "log", "salvage", str(self.out), str(self.new)], stdout=full, stderr=subprocess.PIPE,
                                    check=False)
         self.assertEqual((ended.returncode, ended.stderr.startswith(b"dxl: standard output: ")), (FAILED, True))
+        self.assertEqual((self.new.read_bytes(), self.names()), (self.log, ["new.log", "out.log"]))
 
     # [L10]
     def test_long_work(self):
@@ -461,6 +484,8 @@ class Words(Folder):
             status, more, err = run("log", name, "--help")
             self.assertEqual((status, err, more.startswith(f"usage: dxl log {name} ")), (DONE, "", True))
             self.assertEqual(run("log", name), (USAGE, "", more))
+            self.assertEqual(run("log", name, self.out, "--help"), (DONE, more, ""))
+        self.assertEqual(self.names(), [])
         header = Path("include/mednukals.h").read_text(encoding="utf-8")
         self.assertIn(f'#define DXL_VERSION "{run("--version")[1].split()[1]}"\n', header)
 

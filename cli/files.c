@@ -342,7 +342,7 @@ static mode_t mode_for(const char *name)
 
 int finish_output(struct output *output)
 {
-    int kept = fchmod(output->file, mode_for(output->name)); /* some file systems have no modes: the log is whole all the same */
+    int kept = fchmod(output->file, mode_for(output->name)); /* some file systems have no modes: the file is whole all the same */
     (void)kept;
     if ((output->count > 0 && munmap(output->bytes, output->count) != 0) || ftruncate(output->file, (off_t)output->length) != 0
         || fsync(output->file) != 0 || close(output->file) != 0 || rename(output->temporary, output->name) != 0)

@@ -413,12 +413,55 @@ class Plan(Folder):
         missing = f"dxl: {none}: No such file or directory\n"
         for words in [["make", none], ["make", none, self.out], ["check", none, goals], ["check", goals, none]]:
             self.assertEqual(run("plan", *words), (FAILED, "", missing))
-        self.assertEqual(run("plan", "make", goals, goals), (FAILED, "", f"dxl: {goals}: the goals and the plan to be written are one file\n"))
-        self.assertEqual(run("plan", "make", goals, self.folder.name), (FAILED, "", f"dxl: {self.folder.name}: not a regular file\n"))
+        folder = f"dxl: {self.folder.name}: not a regular file\n"
+        for words in [["make", self.folder.name], ["make", goals, self.folder.name], ["check", self.folder.name, goals], ["check", goals, self.folder.name]]:
+            self.assertEqual(run("plan", *words), (FAILED, "", folder))
         self.assertEqual((goals.read_bytes(), self.names()), (b"3 7\n", ["goals"]))
         with open("/dev/full", "wb") as full:
             ended = subprocess.run([PROGRAM, "plan", "make", str(goals)], stdout=full, stderr=subprocess.PIPE, check=False)
         self.assertEqual((ended.returncode, ended.stderr.startswith(b"dxl: standard output: ")), (FAILED, True))
+        closed = run("plan", "make", goals, preexec_fn=lambda: os.close(1))
+        self.assertEqual(closed, (FAILED, "", "dxl: standard output: Bad file descriptor\n"))
+
+    # [L11]
+    def test_never_over_the_goals(self):
+        """The plan is not written over the goals, whatever name leads to them."""
+        goals, hard, soft = self.goals("3 7\n"), self.file("hard"), self.file("soft")
+        os.link(goals, hard)
+        soft.symlink_to("goals")
+        for out in [goals, hard, soft]:
+            self.assertEqual(run("plan", "make", goals, out), (FAILED, "", f"dxl: {out}: the goals and the plan to be written are one file\n"))
+        self.assertEqual((goals.read_bytes(), self.names()), (b"3 7\n", ["goals", "hard", "soft"]))
+
+    # [L11]
+    def test_complete_or_not_there(self):
+        """Whatever goes wrong, OUT is as it was, and no other file stays."""
+        goals, pipe = self.goals("3 7\n"), self.file("pipe")
+        os.mkfifo(pipe)
+        self.out.write_bytes(b"an older one")
+        self.out.chmod(0o600)
+
+        def small_files():
+            resource.setrlimit(resource.RLIMIT_FSIZE, (10, 10))
+
+        for words, more in [([pipe, self.out], {}), ([goals, pipe], {}), ([goals, self.file("no/out")], {}),
+                            ([goals, self.out], {"preexec_fn": small_files})]:
+            with self.subTest(words):
+                status, text, err = run("plan", "make", *words, **more)
+                self.assertEqual((status, text, err.startswith("dxl: ") and err.count("\n")), (FAILED, "", 1))
+                self.assertEqual((self.out.read_bytes(), self.names()), (b"an older one", ["goals", "out.log", "pipe"]))
+        self.assertEqual(run("plan", "make", goals, self.out), (DONE, "", ""))
+        self.assertEqual((len(self.out.read_bytes()), self.out.stat().st_mode & 0o777), (19, 0o600))
+
+    # [L11]
+    def test_long_file(self):
+        """What stands behind the first thing that is wrong is not read: these files take no room on the disk, and hours to read."""
+        goals = self.goals("3 7\n9 255\n")
+        for plan in [b"", self.TWO]:
+            self.out.write_bytes(plan)
+            os.truncate(self.out, 1 << 40)
+            why = f"no well-formed packet begins at offset {len(plan)}"
+            self.assertEqual(run("plan", "check", goals, self.out), (NO, f"{self.out}: not accepted: {why}\n", ""))
 
     # [L11 W3-W5 W9]
     def test_not_accepted(self):
@@ -491,13 +534,28 @@ class Words(Folder):
 
     def test_other_words(self):
         for words in [[], ["log"], ["log", "none"], ["none"], ["log", "check"], ["log", "check", "a", "b"], ["log", "write", "a"],
-                      ["log", "last", "a"], ["log", "last", "a", "256"], ["log", "last", "a", "-1"], ["log", "last", "a", "0x1"],
+                      ["log", "last", "a"], ["log", "last", "a", "256"], ["log", "last", "a", "0x1"],
                       ["log", "last", "a", ""], ["log", "last", "a", "1", "2"], ["log", "salvage", "a"],
                       ["log", "salvage", "a", "b", "c"]]:
             with self.subTest(words):
                 status, out, err = run(*words)
                 self.assertEqual((status, out, err.startswith("usage: dxl log ")), (USAGE, "", True))
         self.assertEqual(self.names(), [])
+
+    # [L8]
+    def test_options(self):
+        """No word that begins with - is taken for a name; help is given wherever it is asked for."""
+        goals = self.file("goals", b"3 7\n")
+        for words, option in [(["log", "write", "--to", goals], "--to"), (["log", "check", "-"], "-"), (["log", "last", goals, "-1"], "-1"),
+                              (["log", "salvage", goals, "-o"], "-o"), (["plan", "make", goals, "--hex"], "--hex"), (["plan", "make", "-"], "-"),
+                              (["plan", "make", goals, "-"], "-"), (["plan", "check", goals, "--all", goals], "--all")]:
+            with self.subTest(words):
+                more = run(*words[:2], "--help")[1]
+                said = f"dxl: {option}: no such option; a file of this name is given with ./ before it\n"
+                self.assertEqual(run(*words), (USAGE, "", said + more))
+                self.assertEqual(run(*words[:2], goals, "--help"), (DONE, more, ""))
+                self.assertEqual(run(*words[:2], goals, goals, "-h"), (DONE, more, ""))
+        self.assertEqual(self.names(), ["goals"])
 
     def test_sample(self):
         """What README.md shows."""

@@ -5,7 +5,7 @@ SHELL := /bin/sh
 .DELETE_ON_ERROR:
 # rt works in one target/ folder, so two of its runs must never overlap.
 .NOTPARALLEL:
-.PHONY: help run checksum segment demo lib dxl install test fuzz replay bench counts memory mutants promises fmt clean kit format promises_test constants_test vectors_test c_test header_test demo_test programs_test cli_test install_test docs_test make_test counts_test rust_test leaf_test
+.PHONY: help run checksum segment old_boards demo lib dxl install test fuzz replay bench counts memory mutants promises fmt clean kit format promises_test constants_test vectors_test c_test header_test demo_test programs_test cli_test install_test docs_test make_test counts_test rust_test leaf_test
 .PHONY: fuzz_program replay_file
 
 comma := ,
@@ -42,8 +42,11 @@ define HELP
 use it
   make run                 print the packets and bad checksums in a capture, by the proved program line
       CAPTURE=FILE         a capture of your own; - is standard input
-  make segment             print the same with the place of each, of a capture of any length, by an example in C
+  make segment             print the same with the offset of each, of a capture of any length, by an example in C
       CAPTURE=FILE         a capture of your own; - is standard input
+  make old_boards          print the packets and bad checksums in a capture of Protocol 1.0, by an example in C
+      CAPTURE=FILE         a capture of your own; - is standard input
+      MERCURY=1            of Mercury
   make checksum            print the checksum and byte count of a file, likewise
       CAPTURE=FILE         a file of your own; - is standard input
   make demo                run a device in C on a pseudo-terminal, talk to it and show the exchanges
@@ -105,7 +108,7 @@ help:
 	@:
 
 # The name goes to the shell through the environment, and unexpanded: quotes, dollars and spaces in it are its own.
-run segment checksum: export MEDNUKALS_CAPTURE := $(value CAPTURE)
+run segment old_boards checksum: export MEDNUKALS_CAPTURE := $(value CAPTURE)
 unexport CAPTURE
 
 run: build/bin/line
@@ -113,6 +116,9 @@ run: build/bin/line
 
 segment: build/c/segment
 	@$< "$${MEDNUKALS_CAPTURE:-examples/capture.bin}"
+
+old_boards: build/c/old_boards
+	@$< $(if $(MERCURY),--mercury) "$${MEDNUKALS_CAPTURE:-examples/old_boards.bin}"
 
 checksum: build/bin/checksum
 	@sh tools/run_program.sh $< '[0-9a-f]{4} [0-9]+' 'checksum and byte count of' "$${MEDNUKALS_CAPTURE:-examples/ping.bin}"
@@ -184,13 +190,14 @@ kit:
 format:
 	@$(call step,format,layout of the Rattle files (make fmt puts it right)) rt fmt --check
 
-c_test: build/c/published build/c/exchange build/c/plan build/c/parts build/c/segment build/c/uart_test build/c/log_pages
+c_test: build/c/published build/c/exchange build/c/plan build/c/parts build/c/segment build/c/old_boards build/c/uart_test build/c/log_pages
 	@$(call need,python3)
 	@$(call step,published,published packets through the archive) build/c/published tests/vectors/packets.txt tests/vectors/packets_v1.txt
 	@$(call step,exchange,the loop that the header shows) build/c/exchange
 	@$(call step,plan,the planner and the test of plans from C) build/c/plan
 	@$(call step,parts,example that sends a packet in parts) build/c/parts
 	@$(call step,segment_test,example that prints the events of a capture) python3 tests/segment_test.py build/c/segment
+	@$(call step,old_boards_test,example that reads and writes packets of the old boards) python3 tests/old_boards_test.py build/c/old_boards
 	@$(call step,uart_test,example board on a simulated UART) build/c/uart_test
 	@$(call step,log_pages,questions to a log whose other segments are unreadable) build/c/log_pages
 
@@ -205,10 +212,10 @@ build/c/parts: tests/c/parts.c examples/parts.c examples/parts.h include/mednuka
 	@$(CC) $(WARNINGS) -O2 -Iinclude -Iexamples -o $@ tests/c/parts.c examples/parts.c build/lib/libmednukals.a \
 	    || $(call failed,compiling the example that sends in parts)
 
-build/c/segment: examples/segment.c include/mednukals.h build/lib/libmednukals.a
+build/c/segment build/c/old_boards: build/c/%: examples/%.c include/mednukals.h build/lib/libmednukals.a
 	@$(call need,$(CC))
 	@mkdir -p $(@D)
-	@$(CC) $(WARNINGS) -O2 -Iinclude -o $@ $< build/lib/libmednukals.a || $(call failed,compiling the example that prints events)
+	@$(CC) $(WARNINGS) -O2 -Iinclude -o $@ $< build/lib/libmednukals.a || $(call failed,compiling $<)
 
 build/c/log_pages: tests/c/log_pages.c include/mednukals.h build/lib/libmednukals.a
 	@$(call need,$(CC))

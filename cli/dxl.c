@@ -50,15 +50,9 @@ static const char HELP_SALVAGE[] =
     "Writes to OUT a sound log of what is whole in LOG, whose tail may be cut off or whose directory may be wrong, and prints what was\n"
     "altered: each segment of LOG that was dropped, from 0, with the reason (1, it starts before the end of the index or of the last\n"
     "segment kept; 2, it ends behind the end of the file), whether the header changed, how many of the 254 index numbers did, and how\n"
-    "many bytes behind the old index lie in no segment that was kept. LOG is only read, and OUT must not be the same file. An OUT that\n"
-    "is there is replaced once the new log is complete; until then it stays. A link is replaced itself. A file of fewer than\n"
-    "1032 or of more than 4294967295 bytes is refused, 33.\n";
-
-int help(const char *text)
-{
-    fputs(text, stdout);
-    return DONE;
-}
+    "many bytes behind the old index lie in no segment that was kept. LOG is only read; it must not change meanwhile, and OUT must not\n"
+    "be the same file. An OUT that is there is replaced once the new log is complete; until then it stays, and the folder needs room\n"
+    "for a file as long as LOG. A link is replaced itself. A file of fewer than 1032 or of more than 4294967295 bytes is refused, 33.\n";
 
 int usage(const char *text)
 {
@@ -90,6 +84,12 @@ int printed(int status)
         return status;
     say_failure("standard output", strerror(errno));
     return FAILED;
+}
+
+static int help(const char *text)
+{
+    fputs(text, stdout);
+    return printed(DONE);
 }
 
 static uint32_t number_at(const uint8_t *bytes)
@@ -322,39 +322,59 @@ static int log_salvage(int n, char **words)
 
 /* ---- words */
 
-static const struct command {
-    const char *name;
-    const char *help;
-    int (*run)(int n, char **words);
-} COMMANDS[] = {{"write", HELP_WRITE, log_write},
-                {"check", HELP_CHECK, log_check},
-                {"last", HELP_LAST, log_last},
-                {"salvage", HELP_SALVAGE, log_salvage}};
-
-int asks_for_help(const char *word)
+static int asks_for_help(const char *word)
 {
     return strcmp(word, "--help") == 0 || strcmp(word, "-h") == 0;
 }
 
-static int log_command(int n, char **words)
+static const struct command *find_command(const struct command *commands, size_t count, const char *name)
+{
+    for (size_t i = 0; i < count; i++)
+        if (strcmp(name, commands[i].name) == 0)
+            return &commands[i];
+    return NULL;
+}
+
+/* The first word that begins with -, or null. */
+static const char *find_option(int n, char **words)
+{
+    for (int i = 0; i < n; i++)
+        if (words[i][0] == '-')
+            return words[i];
+    return NULL;
+}
+
+/* An option that is not known is never taken for a name: what is meant for the tool would become a file. */
+int run_command(const struct command *commands, size_t count, const char *text, int n, char **words)
 {
     if (n >= 1 && asks_for_help(words[0]))
-        return printed(help(HELP));
-    for (size_t i = 0; n >= 1 && i < sizeof COMMANDS / sizeof *COMMANDS; i++) {
-        if (strcmp(words[0], COMMANDS[i].name) != 0)
-            continue;
-        if (n >= 2 && asks_for_help(words[1]))
-            return printed(help(COMMANDS[i].help));
-        return COMMANDS[i].run(n - 1, words + 1);
-    }
-    return usage(HELP);
+        return help(text);
+    const struct command *command = n >= 1 ? find_command(commands, count, words[0]) : NULL;
+    if (command == NULL)
+        return usage(text);
+    const char *option = find_option(n - 1, words + 1);
+    if (option == NULL)
+        return command->run(n - 1, words + 1);
+    if (asks_for_help(option))
+        return help(command->help);
+    say_failure(option, "no such option; a file of this name is given with ./ before it");
+    return usage(command->help);
+}
+
+static int log_command(int n, char **words)
+{
+    static const struct command commands[] = {{"write", HELP_WRITE, log_write},
+                                              {"check", HELP_CHECK, log_check},
+                                              {"last", HELP_LAST, log_last},
+                                              {"salvage", HELP_SALVAGE, log_salvage}};
+    return run_command(commands, sizeof commands / sizeof *commands, HELP, n, words);
 }
 
 int main(int n, char **words)
 {
     hold_streams();
     if (n == 2 && asks_for_help(words[1]))
-        return printed(help(HELP));
+        return help(HELP);
     if (n == 2 && strcmp(words[1], "--version") == 0) {
         printf("dxl %s\n", DXL_VERSION);
         return printed(DONE);

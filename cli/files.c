@@ -232,16 +232,18 @@ int append_file(const char *name, uint8_t *out, size_t count)
 
 /* ---- writing */
 
-/* The name with something behind it; null where there is no memory. */
-static char *with_ending(const char *name, const char *ending)
+/* A name for mkstemp in the folder of a file; null where there is no memory. The file's own name may leave no room for an ending. */
+static char *temporary_beside(const char *name)
 {
-    size_t n = strlen(name);
-    char *longer = malloc(n + strlen(ending) + 1);
-    if (longer != NULL) {
-        memcpy(longer, name, n);
-        strcpy(longer + n, ending);
+    static const char template[] = "dxl.XXXXXX";
+    const char *slash = strrchr(name, '/');
+    size_t folder = slash == NULL ? 0 : (size_t)(slash + 1 - name);
+    char *temporary = malloc(folder + sizeof template);
+    if (temporary != NULL) {
+        memcpy(temporary, name, folder);
+        memcpy(temporary + folder, template, sizeof template);
     }
-    return longer;
+    return temporary;
 }
 
 int give_up(struct output *output, const char *why)
@@ -293,7 +295,7 @@ int begin_output(const char *name, size_t count, struct output *output)
 {
     output->name = name;
     output->count = output->length = count;
-    output->temporary = with_ending(name, ".XXXXXX");
+    output->temporary = temporary_beside(name);
     if (output->temporary == NULL)
         return say_failure(name, "no memory");
     listen_to_ends();
@@ -340,7 +342,7 @@ static mode_t mode_for(const char *name)
 
 int finish_output(struct output *output)
 {
-    int kept = fchmod(output->file, mode_for(output->name)); /* some file systems have no modes: the log is whole all the same */
+    int kept = fchmod(output->file, mode_for(output->name)); /* some file systems have no modes: the file is whole all the same */
     (void)kept;
     if ((output->count > 0 && munmap(output->bytes, output->count) != 0) || ftruncate(output->file, (off_t)output->length) != 0
         || fsync(output->file) != 0 || close(output->file) != 0 || rename(output->temporary, output->name) != 0)

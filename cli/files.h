@@ -9,7 +9,7 @@
 /* How the program ends. */
 enum {
     DONE = 0,
-    NO = 1,    /* the answer is no: not sound, no packet */
+    NO = 1,    /* the answer is no: not sound, no packet, not accepted */
     USAGE = 2, /* words that it does not know */
     FAILED = 3 /* a file that cannot be read or written, or a refusal */
 };

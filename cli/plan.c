@@ -149,13 +149,14 @@ static int packet_fits(const struct goals *goals, const uint8_t *packet, const s
     return 1;
 }
 
-/* Packet after packet, and then the IDs that are left. */
+/* Packet after packet, and then the IDs that are left. The reader is shown no more than a packet can have: it would look for the next
+ * one to the end of the file. */
 static int packets_fit(const struct goals *goals, const uint8_t *plan, size_t n, struct reason *why)
 {
     size_t at = 0;
     memset(why, 0, sizeof *why);
     while (at < n) {
-        struct dxl_event event = dxl_next_event(plan, n, at);
+        struct dxl_event event = dxl_next_event(plan, n - at > DXL_MAX_PACKET ? at + DXL_MAX_PACKET : n, at);
         if (event.kind != DXL_PACKET || event.offset != at)
             return is_wrong(why, "no well-formed packet begins at offset %zu", at);
         if (!packet_fits(goals, plan + at, &event, why))
@@ -178,10 +179,8 @@ static int plan_check(int n, char **words)
         return usage(HELP_CHECK);
     if (!read_goals(words[0], &goals) || !map_file(words[1], &plan))
         return FAILED;
-    begin_work("testing the plan");
     int64_t answer = dxl_plan_check(goals.of, IDS, plan.bytes, plan.count);
     packets_fit(&goals, plan.bytes, plan.count, &why);
-    end_work();
     if (answer == 1) {
         printf("%s: accepted, %zu goal%s in %zu packet%s\n", words[1], goals.wanted, goals.wanted == 1 ? "" : "s", why.packets,
                why.packets == 1 ? "" : "s");
@@ -195,19 +194,6 @@ static int plan_check(int n, char **words)
 
 int plan_command(int n, char **words)
 {
-    static const struct {
-        const char *name;
-        const char *help;
-        int (*run)(int n, char **words);
-    } commands[] = {{"make", HELP_MAKE, plan_make}, {"check", HELP_CHECK, plan_check}};
-    if (n >= 1 && asks_for_help(words[0]))
-        return printed(help(HELP));
-    for (size_t i = 0; n >= 1 && i < sizeof commands / sizeof *commands; i++) {
-        if (strcmp(words[0], commands[i].name) != 0)
-            continue;
-        if ((n >= 2 && asks_for_help(words[1])) || (n >= 3 && asks_for_help(words[2])))
-            return printed(help(commands[i].help));
-        return commands[i].run(n - 1, words + 1);
-    }
-    return usage(HELP);
+    static const struct command commands[] = {{"make", HELP_MAKE, plan_make}, {"check", HELP_CHECK, plan_check}};
+    return run_command(commands, sizeof commands / sizeof *commands, HELP, n, words);
 }

@@ -81,7 +81,7 @@ enum {
     DXL_BAD_ID = 11,         /* an ID of 253 or 255; in Protocol 1.0 of 255; of a status, also 254 */
     DXL_TOO_LONG = 12,       /* the packet's length, which counts stuffed body and checksum, would pass 1,024; of an old board's
                                 packet 255; of a status, more than 8 bytes of data */
-    DXL_NO_ROOM = 13,        /* the output buffer has too little room */
+    DXL_NO_ROOM = 13,        /* the output buffer has too little room; of a salvage, also the report */
     DXL_BAD_STUFFING = 14,   /* the body is not well stuffed */
     DXL_NOT_A_TABLE = 21,    /* the control table is not 136 bytes long */
     DXL_BAD_TABLE_ID = 22,   /* the control table's ID, byte 7, is above 252 */
@@ -396,7 +396,8 @@ struct dxl_step dxl_gap(uint8_t held[1030], size_t *count, uint8_t packet[1031])
  * FF is no ID, so that of several FF only the last two may begin a packet. A line keeps to one protocol; a program that does not
  * know which may read it with two readers.
  *
- * Refused with kind DXL_BAD_READER if *count is above 258, also where dxl_feed would accept it.
+ * Refused with kind DXL_BAD_READER if *count is above 258, also where dxl_feed would accept it. examples/old_boards.c has the loops
+ * around these calls.
  */
 struct dxl_step dxl_p1_feed(uint8_t held[258], size_t *count, const uint8_t *chunk, size_t n, uint8_t packet[259]);
 struct dxl_step dxl_p1_gap(uint8_t held[258], size_t *count, uint8_t packet[259]);
@@ -525,7 +526,8 @@ enum {
  * log, n             the file, any bytes
  * out, n_out         the buffer for the new log: as long as the file, which is always enough
  * report, n_report   two numbers for each dropped entry, in the directory's order: its number from 0, and why. n_report counts
- *                    numbers, and has to be twice the count of entries: 2 * ((n - DXL_LOG_FRONT) / DXL_LOG_ENTRY) is always enough
+ *                    numbers, and has to be at least twice the count of entries: where n is not below DXL_LOG_FRONT,
+ *                    2 * ((n - DXL_LOG_FRONT) / DXL_LOG_ENTRY) is always enough
  *
  * The entries are as many as the header says, or as there is room for where that is less. The directory is looked for at 16 and the
  * index right behind it, whatever the header says. In the directory's order an entry is kept that starts at the end of this index
@@ -536,9 +538,9 @@ enum {
  *   -33  n is below 1,032 or above 4,294,967,295
  *   -13  n_out is below n, or n_report below twice the count of entries
  *
- * A sound log comes out byte for byte, with all of the report 0, and so does whatever this call has written. The bytes of out after
- * the log stay as they were, and so do the places of the report that are not used; if the call is refused, all of both do. None of
- * the three may overlap.
+ * Of a sound log, and of whatever this call has written, the same bytes are written, and all that is returned but count is 0. The
+ * bytes of out after the log stay as they were, and so do the places of the report that are not used; if the call is refused, all of
+ * both do. None of the three may overlap.
  */
 struct dxl_salvaged dxl_log_salvage(const uint8_t *log, size_t n, uint8_t *out, size_t n_out, uint32_t *report, size_t n_report);
 
@@ -570,8 +572,8 @@ struct dxl_registered {
 /* What a call of the device returns. */
 struct dxl_answer {
     int64_t count; /* the status packet's bytes, 0 for silence, or minus the number of a refusal */
-    size_t slot;   /* when to send it: 0 at once; for a Ping to all devices the own ID; for a Sync Read or Bulk Read the place
-                      in its list, from 0. 0 for silence and for a refusal */
+    size_t slot;   /* when to send it: 0 at once; for a Ping to all devices the own ID; for a Sync Read or Bulk Read the
+                      index of its entry in the list, from 0. 0 for silence and for a refusal */
     struct dxl_registered registered; /* the registered write from now on; if the call is refused, as it was passed */
 };
 

@@ -109,6 +109,20 @@ class Write(Folder):
         self.assertEqual(self.out.stat().st_mode & 0o777, 0o600)
 
     # [L9]
+    def test_names(self):
+        """The longest name that a file may have; a link is replaced, and what it leads to stays."""
+        ping, link, long = self.file("ping", PING), self.file("link"), self.file("n" * 255)
+        self.assertEqual((run("log", "write", long, ping), len(long.read_bytes())), ((DONE, "", ""), 1050))
+        long.unlink()
+        for aim in ["ping", "none", "link"]:
+            with self.subTest(aim):
+                link.unlink(missing_ok=True)
+                link.symlink_to(aim)
+                self.assertEqual(run("log", "write", link, self.file("other", b"")), (DONE, "", ""))
+                self.assertEqual((link.is_symlink(), len(link.read_bytes()), ping.read_bytes()), (False, 1040, PING))
+                self.assertEqual(self.names(), ["link", "other", "ping"])
+
+    # [L9]
     def test_no_regular_files(self):
         """What is no regular file is neither replaced by a log nor waited for."""
         ping, pipe, folder = self.file("ping", PING), self.file("pipe"), self.file("folder")
@@ -199,6 +213,14 @@ class Ask(Folder):
         self.out.write_bytes(b"")
         self.assertEqual(run("log", "check", self.out)[:2], (NO, f"{self.out}: not sound: 31, not laid out as a log\n"))
         self.assertEqual(run("log", "check", self.file("none")), (FAILED, "", f"dxl: {self.file('none')}: No such file or directory\n"))
+
+    # [I10]
+    def test_too_long(self):
+        """A file that is longer than a log may be is told by its length; it takes no room on the disk."""
+        with self.out.open("wb") as file:
+            file.truncate(1 << 32)
+        self.assertEqual(run("log", "check", self.out), (NO, f"{self.out}: not sound: 31, not laid out as a log\n", ""))
+        self.assertEqual(run("log", "last", self.out, 1), (FAILED, "", f"dxl: {self.out}: 31, not laid out as a log\n"))
 
     def test_full_output(self):
         self.assertEqual(run("log", "write", self.out, self.file("ping", PING))[0], DONE)
@@ -296,6 +318,7 @@ class Salvage(Folder):
             ended = subprocess.run([PROGRAM, "log", "salvage", str(self.out), str(self.new)], stdout=full, stderr=subprocess.PIPE,
                                    check=False)
         self.assertEqual((ended.returncode, ended.stderr.startswith(b"dxl: standard output: ")), (FAILED, True))
+        self.assertEqual((self.new.read_bytes(), self.names()), (self.log, ["new.log", "out.log"]))
 
     # [L10]
     def test_long_work(self):
@@ -390,12 +413,55 @@ class Plan(Folder):
         missing = f"dxl: {none}: No such file or directory\n"
         for words in [["make", none], ["make", none, self.out], ["check", none, goals], ["check", goals, none]]:
             self.assertEqual(run("plan", *words), (FAILED, "", missing))
-        self.assertEqual(run("plan", "make", goals, goals), (FAILED, "", f"dxl: {goals}: the goals and the plan to be written are one file\n"))
-        self.assertEqual(run("plan", "make", goals, self.folder.name), (FAILED, "", f"dxl: {self.folder.name}: not a regular file\n"))
+        folder = f"dxl: {self.folder.name}: not a regular file\n"
+        for words in [["make", self.folder.name], ["make", goals, self.folder.name], ["check", self.folder.name, goals], ["check", goals, self.folder.name]]:
+            self.assertEqual(run("plan", *words), (FAILED, "", folder))
         self.assertEqual((goals.read_bytes(), self.names()), (b"3 7\n", ["goals"]))
         with open("/dev/full", "wb") as full:
             ended = subprocess.run([PROGRAM, "plan", "make", str(goals)], stdout=full, stderr=subprocess.PIPE, check=False)
         self.assertEqual((ended.returncode, ended.stderr.startswith(b"dxl: standard output: ")), (FAILED, True))
+        closed = run("plan", "make", goals, preexec_fn=lambda: os.close(1))
+        self.assertEqual(closed, (FAILED, "", "dxl: standard output: Bad file descriptor\n"))
+
+    # [L11]
+    def test_never_over_the_goals(self):
+        """The plan is not written over the goals, whatever name leads to them."""
+        goals, hard, soft = self.goals("3 7\n"), self.file("hard"), self.file("soft")
+        os.link(goals, hard)
+        soft.symlink_to("goals")
+        for out in [goals, hard, soft]:
+            self.assertEqual(run("plan", "make", goals, out), (FAILED, "", f"dxl: {out}: the goals and the plan to be written are one file\n"))
+        self.assertEqual((goals.read_bytes(), self.names()), (b"3 7\n", ["goals", "hard", "soft"]))
+
+    # [L11]
+    def test_complete_or_not_there(self):
+        """Whatever goes wrong, OUT is as it was, and no other file stays."""
+        goals, pipe = self.goals("3 7\n"), self.file("pipe")
+        os.mkfifo(pipe)
+        self.out.write_bytes(b"an older one")
+        self.out.chmod(0o600)
+
+        def small_files():
+            resource.setrlimit(resource.RLIMIT_FSIZE, (10, 10))
+
+        for words, more in [([pipe, self.out], {}), ([goals, pipe], {}), ([goals, self.file("no/out")], {}),
+                            ([goals, self.out], {"preexec_fn": small_files})]:
+            with self.subTest(words):
+                status, text, err = run("plan", "make", *words, **more)
+                self.assertEqual((status, text, err.startswith("dxl: ") and err.count("\n")), (FAILED, "", 1))
+                self.assertEqual((self.out.read_bytes(), self.names()), (b"an older one", ["goals", "out.log", "pipe"]))
+        self.assertEqual(run("plan", "make", goals, self.out), (DONE, "", ""))
+        self.assertEqual((len(self.out.read_bytes()), self.out.stat().st_mode & 0o777), (19, 0o600))
+
+    # [L11]
+    def test_long_file(self):
+        """What stands behind the first thing that is wrong is not read: these files take no room on the disk, and hours to read."""
+        goals = self.goals("3 7\n9 255\n")
+        for plan in [b"", self.TWO]:
+            self.out.write_bytes(plan)
+            os.truncate(self.out, 1 << 40)
+            why = f"no well-formed packet begins at offset {len(plan)}"
+            self.assertEqual(run("plan", "check", goals, self.out), (NO, f"{self.out}: not accepted: {why}\n", ""))
 
     # [L11 W3-W5 W9]
     def test_not_accepted(self):
@@ -461,18 +527,35 @@ class Words(Folder):
             status, more, err = run("log", name, "--help")
             self.assertEqual((status, err, more.startswith(f"usage: dxl log {name} ")), (DONE, "", True))
             self.assertEqual(run("log", name), (USAGE, "", more))
+            self.assertEqual(run("log", name, self.out, "--help"), (DONE, more, ""))
+        self.assertEqual(self.names(), [])
         header = Path("include/mednukals.h").read_text(encoding="utf-8")
         self.assertIn(f'#define DXL_VERSION "{run("--version")[1].split()[1]}"\n', header)
 
     def test_other_words(self):
         for words in [[], ["log"], ["log", "none"], ["none"], ["log", "check"], ["log", "check", "a", "b"], ["log", "write", "a"],
-                      ["log", "last", "a"], ["log", "last", "a", "256"], ["log", "last", "a", "-1"], ["log", "last", "a", "0x1"],
+                      ["log", "last", "a"], ["log", "last", "a", "256"], ["log", "last", "a", "0x1"],
                       ["log", "last", "a", ""], ["log", "last", "a", "1", "2"], ["log", "salvage", "a"],
                       ["log", "salvage", "a", "b", "c"]]:
             with self.subTest(words):
                 status, out, err = run(*words)
                 self.assertEqual((status, out, err.startswith("usage: dxl log ")), (USAGE, "", True))
         self.assertEqual(self.names(), [])
+
+    # [L8]
+    def test_options(self):
+        """No word that begins with - is taken for a name; help is given wherever it is asked for."""
+        goals = self.file("goals", b"3 7\n")
+        for words, option in [(["log", "write", "--to", goals], "--to"), (["log", "check", "-"], "-"), (["log", "last", goals, "-1"], "-1"),
+                              (["log", "salvage", goals, "-o"], "-o"), (["plan", "make", goals, "--hex"], "--hex"), (["plan", "make", "-"], "-"),
+                              (["plan", "make", goals, "-"], "-"), (["plan", "check", goals, "--all", goals], "--all")]:
+            with self.subTest(words):
+                more = run(*words[:2], "--help")[1]
+                said = f"dxl: {option}: no such option; a file of this name is given with ./ before it\n"
+                self.assertEqual(run(*words), (USAGE, "", said + more))
+                self.assertEqual(run(*words[:2], goals, "--help"), (DONE, more, ""))
+                self.assertEqual(run(*words[:2], goals, goals, "-h"), (DONE, more, ""))
+        self.assertEqual(self.names(), ["goals"])
 
     def test_sample(self):
         """What README.md shows."""

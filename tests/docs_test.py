@@ -15,7 +15,8 @@ import suite
 
 CC, ARCHIVE = sys.argv[1:] if len(sys.argv) == 3 else ("", "")
 PAGES = [Path("README.md"), Path("CHANGELOG.md"), *sorted(Path("docs").glob("*.md"))]
-SHOWN = [Path("examples/uart_board.c"), Path("examples/uart_board.h"), Path("examples/segment.c"), Path("tests/c/empty.cpp")]
+SHOWN = [Path("examples", name) for name in ("uart_board.c", "uart_board.h", "segment.c", "old_boards.c")]
+SHOWN += [Path("tests/c/empty.cpp")]
 PATIENCE = 60  # seconds for one command
 
 

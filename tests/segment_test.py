@@ -1,4 +1,4 @@
-"""Runs the example that prints the events of a captured file with their places: usage segment_test.py PROGRAM, in the repository's
+"""Runs the example that prints the events of a captured file with their offsets: usage segment_test.py PROGRAM, in the repository's
 root
 """
 import subprocess

@@ -168,14 +168,14 @@ static uint8_t factory_reset(uint8_t *table, struct dxl_registered *registered, 
 
 static uint8_t action(uint8_t *table, struct dxl_registered *registered)
 {
-    struct dxl_registered turn = *registered;
-    if (turn.count == 0)
+    struct dxl_registered found = *registered;
+    if (found.count == 0)
         return UNDEFINED;
     memset(registered, 0, sizeof *registered);
     table[REGISTERED] = 0;
-    if (turn.min != number(table + MIN, 4) || turn.max != number(table + MAX, 4))
+    if (found.min != number(table + MIN, 4) || found.max != number(table + MAX, 4))
         return LIMIT;
-    return store(table, turn.address, turn.bytes, turn.count);
+    return store(table, found.address, found.bytes, found.count);
 }
 
 static uint8_t reg_write(uint8_t *table, struct dxl_registered *registered, size_t address, const uint8_t *data, size_t n)

@@ -23,6 +23,9 @@ int main(void)
     tell("body buffer, for the longest body", DXL_MAX_BODY);
     tell("reply buffer, the shortest", DXL_MIN_REPLY);
     tell("together", lent);
+    printf("of an old board in the place of reader and packet buffer, in bytes\n");
+    tell("held bytes and their count", DXL_V1_MAX_HELD + sizeof(size_t));
+    tell("packet buffer", DXL_V1_MAX_PACKET);
     printf("answers, by value, in bytes\n");
     tell("of the reader, struct dxl_step", sizeof(struct dxl_step));
     tell("of the plain reader, struct dxl_event", sizeof(struct dxl_event));

@@ -29,6 +29,12 @@ static struct dxl_reader reader;
 static size_t n_line, count, n_body, n_received;
 static volatile int64_t answered;
 
+/* Encoder and reader of Protocol 2.0, or those of an old board in their place. */
+static int64_t (*encode)(uint8_t id, uint8_t instruction, const uint8_t *params, size_t n_params, uint8_t *out, size_t n_out,
+                         size_t at) = dxl_encode;
+static struct dxl_step (*feed)(uint8_t *held, size_t *count, const uint8_t *chunk, size_t n, uint8_t *packet) = dxl_feed;
+static struct dxl_step (*gap)(uint8_t *held, size_t *count, uint8_t *packet) = dxl_gap;
+
 static void call_crc16(void)
 {
     MARK_TOP();
@@ -48,7 +54,7 @@ static void call_encode(void)
 {
     MARK_TOP();
     for (size_t n = 0; n <= sizeof params; n++)
-        answered = dxl_encode(1, 0x55, params, n, out, sizeof out, n % 90);
+        answered = encode(1, 0x55, params, n, out, sizeof out, n % 90);
 }
 
 /* Bodies of every number of bytes. */
@@ -66,7 +72,7 @@ static void call_feed(void)
         struct dxl_step step;
         count = 0;
         for (size_t at = 0; at < n_line; at += step.taken) {
-            step = dxl_feed(held, &count, line + at, n < n_line - at ? n : n_line - at, packet);
+            step = feed(held, &count, line + at, n < n_line - at ? n : n_line - at, packet);
             answered = step.kind;
         }
     }
@@ -78,7 +84,7 @@ static void call_gap(void)
     struct dxl_step step;
     MARK_TOP();
     do {
-        step = dxl_gap(held, &count, packet);
+        step = gap(held, &count, packet);
         answered = step.kind;
     } while (step.kind != DXL_NO_EVENT);
 }
@@ -286,6 +292,30 @@ static void full_record(void)
     count = sizeof held;
 }
 
+/* The same of an old board: fronts three bytes apart, each promising the longest packet by the next one's first FF. */
+static void all_kinds_v1(void)
+{
+    static const uint8_t parameters[253];
+    for (n_line = 0; n_line < 1200; n_line++)
+        line[n_line] = n_line % 3 == 2 ? 1 : 0xFF;
+    n_line += (size_t)encode(1, 0, parameters, 4, line, sizeof line, n_line);
+    for (int i = 0; i < 2; i++)
+        n_line += (size_t)encode(1, 0x03, parameters, sizeof parameters, line, sizeof line, n_line);
+    line[n_line - 1] ^= 1;
+}
+
+static void full_record_v1(void)
+{
+    static const uint8_t parameters[4];
+    all_kinds_v1();
+    memcpy(held, line, DXL_V1_MAX_HELD);
+    for (count = 4; count + 10 <= DXL_V1_MAX_HELD; count += 10) {
+        encode(1, 0, parameters, sizeof parameters, held, sizeof held, count);
+        held[count + 9] ^= count % 20 == 4;
+    }
+    count = DXL_V1_MAX_HELD;
+}
+
 /* Each ID with a read or a write of 4 bytes at 116. */
 static void list_bulk(size_t entry)
 {
@@ -358,7 +388,23 @@ static void call_plan_check(void)
 
 static void tell(const char *name, size_t bytes)
 {
-    printf("  %-17s %6zu\n", name, bytes);
+    printf("  %-20s %6zu\n", name, bytes);
+}
+
+static void tell_old_boards(void)
+{
+    encode = dxl_p1_encode;
+    feed = dxl_p1_feed;
+    gap = dxl_p1_gap;
+    tell("dxl_p1_encode", deepest(places_to_stuff, call_encode));
+    tell("dxl_p1_feed", deepest(all_kinds_v1, call_feed));
+    tell("dxl_p1_gap", deepest(full_record_v1, call_gap));
+    encode = dxl_mercury_encode;
+    feed = dxl_mercury_feed;
+    gap = dxl_mercury_gap;
+    tell("dxl_mercury_encode", deepest(places_to_stuff, call_encode));
+    tell("dxl_mercury_feed", deepest(all_kinds_v1, call_feed));
+    tell("dxl_mercury_gap", deepest(full_record_v1, call_gap));
 }
 
 int main(void)
@@ -387,5 +433,6 @@ int main(void)
     tell("dxl_status", deepest(nothing, call_status));
     tell("dxl_plan", deepest(nothing, call_plan));
     tell("dxl_plan_check", deepest(nothing, call_plan_check));
+    tell_old_boards();
     return 0;
 }

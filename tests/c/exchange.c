@@ -214,7 +214,7 @@ static void changed_limits(void)
     memcpy(left, other, sizeof left);
     left[DXL_REG_REGISTERED_INSTRUCTION] = 0;
     answer = dxl_device(other, sizeof other, answer.registered, DXL_PACKET, 1, action, sizeof action, reply, sizeof reply);
-    expect(answer.count == 11 && reply[8] == DXL_ERROR_DATA_LIMIT, "a turn of the old limits is carried out", 0);
+    expect(answer.count == 11 && reply[8] == DXL_ERROR_DATA_LIMIT, "a write registered at the old limits is carried out", 0);
     expect(memcmp(other, left, sizeof left) == 0, "more than byte 69 is written", 0);
     expect(answer.registered.address == 0 && answer.registered.count == 0 && memcmp(answer.registered.bytes, none.bytes, 8) == 0
                && answer.registered.min == 0 && answer.registered.max == 0,

@@ -47,7 +47,7 @@ Out = Array u8 1031
 abbrev pub holding : List ℕ → ℕ → Reader
 holding l m = record { bytes = l; count = m }
 
--- what is kept of the struct while its field is out
+-- the rest of the struct, for as long as its field is lent
 abbrev pub kept : {M : Type 1} (𝓤 : URA M) (H : Heap 𝓤) (A : Atoms 𝓤) → Reader → ℕ → ℕ → Item 𝓤
 kept {M} 𝓤 H A x b o = kept-record-as T.the-type T′.the-laws 0 0 Bytes (λ l. l) (λ l. l) (λ l b o. list-same u8 1030 fullShare l b o) (λ l b o. sym (list-same u8 1030 fullShare l b o))
     (T.struct .as-values) (T.struct .Ghost) (T.struct .make) (λ v. tt) (λ x. refl) (λ v g. refl) M 𝓤 H A x b o

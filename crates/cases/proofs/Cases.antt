@@ -1,9 +1,9 @@
--- Every case of the table holds: one test, which the checker computes over the whole table, and one law that turns it into
--- each case's claim.
+-- All cases of the table hold. The checker runs one test over all of them, and a law leads from that test to the claim of each.
 use mathlib.Core.Path.{_≡_, refl, sym, ap, ap₂, _∙_, subst}
 use mathlib.Core.Bool.{Bool, true, false, not, _&&_}
 use mathlib.Core.List.{List, [], _∷_, List·Memᴰ, List·Memᴰ·cases-cons, List·Memᴰ·not-nil}
 use mathlib.Core.Logic.{⊎-elim}
+use mathlib.Core.Option.{Option, none, some}
 use Prim.Native.Nat.{ℕ}
 use native.Mathlib.Omega.{arith}
 use lib.Dec.{eqb}
@@ -47,9 +47,11 @@ use Rattle.device.specs.Device.{executed}
 use Rattle.device.specs.Answers.{DeviceAnswer, sent, refused, stateRefusal, roomRefusal, callRefusal}
 use Rattle.exchange.specs.Exchange.{idHeard}
 use Rattle.exchange.specs.Demand1.{packetError}
+use Rattle.plan.specs.Goals.{goalsWithin, goalsRefusal}
+use Rattle.plan.specs.Planner.{entriesFrom, listBytes, packetsFrom, planOf}
 use Rattle.instructions.specs.declared.RegisteredWrite.{RegisteredWrite}
 use Rattle.cases.specs.Exchanges.{Lent, answerTo, leftAfter}
-use Rattle.cases.specs.Cases.{Case, packet, stuffing, exchange, refusal, log, apart, across, packetV1, onlyP1, Claim, table, CasesHold}
+use Rattle.cases.specs.Cases.{Case, packet, stuffing, exchange, refusal, log, plan, apart, across, packetV1, onlyP1, Claim, table, CasesHold}
 
 -- ---- equality as a test
 
@@ -90,6 +92,14 @@ none-is (isPacket m) e = let z : _≡_ {A = ℕ} 0 1 = cc in absurd (omega arith
 none-is (isBadChecksum id) e = let z : _≡_ {A = ℕ} 0 1 = cc in absurd (omega arith)
 none-is isWaiting e = let z : _≡_ {A = ℕ} 0 1 = cc in absurd (omega arith)
 none-is isNothing e = refl
+
+abbrev accepted : Option ℕ → Bool
+accepted none = true
+accepted (some number) = false
+
+is-accepted : (o : Option ℕ) → accepted o ≡ true → o ≡ none
+is-accepted none e = refl
+is-accepted (some number) e = let z : _≡_ {A = ℕ} 0 1 = cc in absurd (omega arith)
 
 abbrev sameRegistered : RegisteredWrite → RegisteredWrite → Bool
 sameRegistered v w =
@@ -158,6 +168,7 @@ right (stuffing body stuffed) = same (stuff body) stuffed && (wellStuffed stuffe
 right (exchange bytes before answer after) = sameAnswer (answerTo bytes before) answer && sameLent (leftAfter bytes before) after
 right (refusal bytes before number) = eqb (packetError (before .table) (before .registered) bytes) number
 right (log segments numbers n) = same (logOf segments) (laid numbers (joined segments)) && eqb (length (logOf segments)) n
+right (plan goals bytes) = accepted (goalsRefusal goals) && same (planOf goals) bytes
 right (apart noise beyond) = not (reachesAcross protocol2 noise beyond)
 right (across noise beyond) = reachesAcross protocol2 noise beyond
 right (packetV1 id body bytes) =
@@ -191,6 +202,10 @@ claimed (log segments numbers n) e =
       same-lists (logOf segments) (laid numbers (joined segments)) (and-left a b e),
       eqb-true (length (logOf segments)) n (and-right a b e),
     )
+claimed (plan goals bytes) e =
+    let a = accepted (goalsRefusal goals) in
+    let b = same (planOf goals) bytes in
+    (is-accepted (goalsRefusal goals) (and-left a b e), same-lists (planOf goals) bytes (and-right a b e))
 claimed (apart noise beyond) e = across-decided protocol2 laws noise beyond .0 (fails (reachesAcross protocol2 noise beyond) e)
 claimed (across noise beyond) e =
     λ n. both-ways (reachesAcross protocol2 noise beyond) e (across-decided protocol2 laws noise beyond .1 n)
@@ -220,5 +235,5 @@ each (d ∷ cs) e c m =
 
 -- the test is computed here
 pub cases-hold : CasesHold
-unfolding reachesAcross readFuel readFrom reading lastPacket lastFrom indexFrom laid directory logOf reduceIf shift shifts crcByte crcFrom stuffAfter wellAfter unstuffAfter lengthOf bodyOf checksumRight withChecksum packetOf frontAgrees lengthAgrees registers permitsBy numberAt valueAt bytesOf put freshened everyByte everyTouched goalInside limitsKept writeRule readRule read write sameLimits regWrite action occurs searchFrom heardInstruction executed stateRefusal roomRefusal callRefusal removalRefusal idHeard shapeVerdict sum sumRight frontAgreesV1 lengthAgreesV1 packetV1Of
+unfolding reachesAcross readFuel readFrom reading lastPacket lastFrom indexFrom laid directory logOf reduceIf shift shifts crcByte crcFrom stuffAfter wellAfter unstuffAfter lengthOf bodyOf checksumRight withChecksum packetOf frontAgrees lengthAgrees registers permitsBy numberAt valueAt bytesOf put freshened everyByte everyTouched goalInside limitsKept writeRule readRule read write sameLimits regWrite action occurs searchFrom heardInstruction executed stateRefusal roomRefusal callRefusal removalRefusal idHeard shapeVerdict sum sumRight frontAgreesV1 lengthAgreesV1 packetV1Of goalsWithin goalsRefusal entriesFrom listBytes packetsFrom
 cases-hold = each table refl

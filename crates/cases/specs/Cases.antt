@@ -1,8 +1,10 @@
--- The worked examples that are proved. Most are printed in the maker's pages.
+-- The worked examples that are proved: those of RULES X that are marked so, but for the salvage's, and others.
 use mathlib.Core.Path.{_≡_}
 use mathlib.Core.Bool.{true}
 use mathlib.Core.List.{List, [], _∷_, _++_, List·Memᴰ}
+use mathlib.Core.Option.{none}
 use Prim.Native.Nat.{ℕ}
+use lib.IntN.{ℤ}
 use lib.ListN.{length, take, drop, replicate}
 use Rattle.reading.specs.Rules.{isPacket, isNothing}
 use Rattle.reading.specs.Promise.{joined, NoneAcross}
@@ -19,8 +21,10 @@ use Rattle.control_table.specs.Fresh.{freshTable}
 use Rattle.instructions.specs.Registered.{dropped}
 use Rattle.device.specs.Answers.{DeviceAnswer, sent, refused}
 use Rattle.exchange.specs.Demand1.{packetError}
+use Rattle.plan.specs.Goals.{goalsRefusal}
+use Rattle.plan.specs.Planner.{planOf}
 use Rattle.cases.specs.Exchanges.{Lent, answerTo, leftAfter, lending, left, at166, goalAt512, registeredTable, goalTooLarge, goalRegistered, markedLimits}
-use Rattle.cases.specs.Exchanges.{pingWrongSum, pingWithParameter, lengthStatus, actionTo1, actionToAll, rangeStatus, raiseMin, limitStatus, registerGoal, lowerMax, syncReadPosition, bulkReadGoal, zeroStatus, bulkWriteGoal, readLimits, longestStatus}
+use Rattle.cases.specs.Exchanges.{pingWrongSum, pingWithParameter, lengthStatus, actionTo1, actionToAll, rangeStatus, raiseMin, limitStatus, registerGoal, lowerMax, syncReadPosition, bulkReadGoal, zeroStatus, bulkWriteGoal, device9, twoGoals, planOfTwo, readLimits, longestStatus}
 
 pub data Case : Type 0 where
   -- the packet with an ID and a body, and its bytes
@@ -33,6 +37,8 @@ pub data Case : Type 0 where
   refusal : List ℕ → Lent → ℕ → Case
   -- segments, the numbers before them in their log, and its count of bytes
   log : List (List ℕ) → List ℕ → ℕ → Case
+  -- wanted goals that are not refused, and our planner's plan of them
+  plan : List ℤ → List ℕ → Case
   -- noise, and the bytes beyond it: no packet reaches across the noise's end, as demand 3 supposes
   apart : List ℕ → List ℕ → Case
   -- one does
@@ -49,6 +55,7 @@ Claim (stuffing body stuffed) = (stuff body ≡ stuffed) × (wellStuffed stuffed
 Claim (exchange bytes before answer after) = (answerTo bytes before ≡ answer) × (leftAfter bytes before ≡ after)
 Claim (refusal bytes before number) = packetError (before .table) (before .registered) bytes ≡ number
 Claim (log segments numbers n) = (logOf segments ≡ laid numbers (joined segments)) × (length (logOf segments) ≡ n)
+Claim (plan goals bytes) = (goalsRefusal goals ≡ none) × (planOf goals ≡ bytes)
 Claim (apart noise beyond) = NoneAcross protocol2 noise beyond
 Claim (across noise beyond) = ¬ NoneAcross protocol2 noise beyond
 Claim (packetV1 id body bytes) =
@@ -159,6 +166,11 @@ table =
     -- a log of one Ping, in which ID 1 alone has a packet, and a log of nothing
     ∷ log (pingTo1 ∷ []) (1 ∷ 16 ∷ 254 ∷ 24 ∷ 1040 ∷ 10 ∷ 0 ∷ 1 ∷ replicate 252 0) 1050
     ∷ log [] (0 ∷ 16 ∷ 254 ∷ 16 ∷ replicate 254 0) 1032
+    -- a plan of two goals, heard by the second device in it, and by one that is not wanted
+    ∷ plan twoGoals planOfTwo
+    ∷ exchange planOfTwo (lending device9 dropped 15) (sent 0 0)
+    (left (put device9 goalPosition 255) dropped 15 (take 15 (drop 7 planOfTwo)) [])
+    ∷ exchange planOfTwo (lending freshTable dropped 15) (sent 0 0) (left freshTable dropped 15 (take 15 (drop 7 planOfTwo)) [])
     -- noise that is a packet itself and ends right before one; a packet that ends with the first byte beyond the noise, and one
     -- that begins with the last byte of the noise
     ∷ apart pingTo1 pingStatus

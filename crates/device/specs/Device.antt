@@ -16,7 +16,7 @@ use Rattle.reactions.specs.Reactions.{ownId, ReplyRule, silent, speaks, Reactio
 abbrev pub hardwareErrorIn : List ℕ → ℕ
 hardwareErrorIn table = getD table (hardwareError .address) 0
 
--- ID and status return level are those before the instruction, the alert is that after it [D29 D30 D32]
+-- by the ID and the status return level from before the instruction, and the hardware error from after it [D29 D30 D32]
 abbrev pub replyBy : ReplyRule → List ℕ → Effect → Reply
 replyBy silent table e = silence
 replyBy (speaks least slot) table e =

@@ -23,7 +23,7 @@ ghost use Rattle.reactions.specs.Reactions.{reaction as Reactions·reaction};
 ghost use Rattle.device.specs.Answers.{repliedAnswer, withSlot, stateRefusal, carriedAnswer, carriedReply, carriedRegistered, carriedTable, callRefusal, answeredBy, callAnswer, callRegistered, callTable, callOut};
 ghost use Rattle.device.specs.Results.{replyTo, carriedOf};
 
-// ID and status return level are those before the instruction, the table is that after it.
+// By the ID and the status return level from before the instruction, and the table from after it.
 fn reply_to(table: &[u8], own: u8, level: u8, reacted: Reacted) -> Reply
     requires { ⌜ (length (now table) ≡ tableSize) × (reacted .done .count ≤ 8) ⌝ }
     ensures { λ r. ⌜ r ≡ replyTo (now (table .entry)) own level reacted ⌝ }

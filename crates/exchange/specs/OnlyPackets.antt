@@ -1,4 +1,4 @@
--- Only well-formed packets are carried out: no table changes by bytes that the maker's rules refuse, whoever calls.
+-- Only well-formed packets are carried out: no table changes by bytes that the packet rules refuse, whoever calls.
 use mathlib.Core.Path.{_≡_}
 use mathlib.Core.List.{List}
 use Prim.Native.Nat.{ℕ, _≤_}

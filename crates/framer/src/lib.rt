@@ -285,7 +285,7 @@ pub fn feed_in(held: &mut [u8; 1030], count: usize, chunk: &[u8], packet: &mut [
     feed_by(Protocol::Two, held, count, chunk, packet)
 }
 
-// A gap call, likewise: the next event as if the segment ended with the held bytes. Call it until nothing is left.
+// A gap call, likewise: the next event, with the held bytes as the end of the segment. Call it until nothing is left.
 // [F12-F16 K2-K4]
 pub fn gap_in(held: &mut [u8; 1030], count: usize, packet: &mut [u8; 1031]) -> Step
     ensures { λ r. ⌜ (r ≡ stepFor Two count (call (rulesOf Two) (take count (now (held .entry))) Call·gap))

@@ -8,7 +8,7 @@ pub struct Input {
     pub failed: bool,
 }
 
-// Reads until the buffer is full, the input ends or a read fails.
+// Fills the buffer from standard input, and stops early only where that ends or a read fails.
 pub fn read(buffer: &mut [u8]) -> Input
     ensures { λ r. ⌜ Counts (r .count) (now (buffer .exit)) ⌝ }
 {

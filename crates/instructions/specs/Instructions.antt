@@ -1,4 +1,4 @@
--- What each instruction does. Levels, broadcast and the reply are in `reactions` and `device`.
+-- What each instruction does. How it is answered is in the crates of reactions, the reply in `device`.
 use mathlib.Core.Bool.{cond}
 use mathlib.Core.List.{List, [], _++_}
 use mathlib.Core.Option.{Option, none, some}
@@ -69,7 +69,7 @@ action table w =
 abbrev pub reboot : List ℕ → RegisteredWrite → Effect
 reboot table w = leaving (rebooted table) dropped 0 []
 
--- then as Reboot, torque on or off [D17-D19]
+-- and then a Reboot, whatever torque is [D17-D19]
 unfoldable pub factoryReset : List ℕ → RegisteredWrite → ℕ → Effect
 factoryReset table w option =
     cond (eqb option 0xFF) (reboot (resetRom keepsNone table) w)

@@ -1,4 +1,5 @@
 pub mod Packing
 pub mod Turns
 pub mod Answer
+pub mod LeftOver
 pub mod Promises

@@ -23,6 +23,7 @@ use Rattle.log_kept.proofs.Turns.{counts-of}
 use Rattle.log_salvage.specs.Report.{salvaged, differing, Report, reportOf, emptyReport}
 use Rattle.log_salvage.specs.Salvage.{salvageRefusal, salvageOut, Apart, Salvage}
 use Rattle.log_salvage.proofs.Answer.{no-longer, passed, passes}
+use Rattle.log_salvage.proofs.LeftOver.{left-over}
 
 -- the kept entries do not overlap
 kept-apart : (size limit : ℕ) (es : List Entry) → Apart limit size (kept size limit es)
@@ -35,6 +36,9 @@ kept-apart size limit (e ∷ es) = by-fault (λ l. kept-apart size l es) (fault 
         let w = fault-none size limit e f in
         subst (Apart limit size) (sym (kept-here size limit e es 0 f)) (w .0, w .1, rest (e .0 + e .1))
     by-fault rest (some r) f = subst (Apart limit size) (sym (kept-not size limit e es 0 r f)) (rest limit)
+
+apart-in : (file : List ℕ) → Apart (segmentsPlace (entryCount file)) (length file) (keptOf file (entryCount file))
+apart-in file = kept-apart (length file) (segmentsPlace (entryCount file)) (entries (entryCount file) (drop directoryPlace file))
 
 -- numbers that are the same do not differ
 none-differ : (xs : List ℕ) → differing xs xs ≡ 0
@@ -130,7 +134,8 @@ salvage-promises =
       unaltered = λ file out report r. segments-log (keptSegments file) (salvaged-fits file out report r);
       each = λ file.
           ap (λ (k : ℕ). k + length (droppedIn file)) (segments-count file (keptOf file (entryCount file))) ∙ counts-of file (entryCount file);
-      apart = λ file. kept-apart (length file) (segmentsPlace (entryCount file)) (entries (entryCount file) (drop directoryPlace file));
+      apart = apart-in;
+      left = λ file. left-over file (segmentsPlace (entryCount file)) (keptOf file (entryCount file)) (apart-in file);
       accepted = λ file out report s h k.
           passes file out report (sound-long file s) (s .fits) h (omega arith);
       same = sound-same;

@@ -1,9 +1,10 @@
 -- The call that salvages a log, and what is promised of it over all files.
 use mathlib.Core.Path.{_≡_}
+use mathlib.Core.Bool.{Bool, true, cond, _&&_, _||_}
 use mathlib.Core.List.{List, [], _∷_}
 use mathlib.Core.Option.{Option, none, some}
-use Prim.Native.Nat.{ℕ, _+_, _*_, _/_, _≤_}
-use lib.Dec.{leb}
+use Prim.Native.Nat.{ℕ, zero, suc, _+_, _*_, _-_, _/_, _≤_}
+use lib.Dec.{leb, ltb}
 use lib.ListN.{length, take}
 use Rattle.lists.specs.Answer.{firstFailing, unlessRefused}
 use Rattle.lists.specs.Write.{overwritten}
@@ -68,6 +69,16 @@ abbrev pub Apart : ℕ → ℕ → List Entry → Type 0
 Apart limit size [] = Unit {0}
 Apart limit size (e ∷ es) = (limit ≤ e .0) × (e .0 + e .1 ≤ size) × Apart (e .0 + e .1) size es
 
+-- whether the byte at i lies in no segment of these entries
+abbrev pub inNone : ℕ → List Entry → Bool
+inNone i [] = true
+inNone i (e ∷ es) = (ltb i (e .0) || leb (e .0 + e .1) i) && inNone i es
+
+-- how many of the n bytes from i on lie in none of them [I28]
+unfoldable pub bytesInNone : ℕ → ℕ → List Entry → ℕ
+bytesInNone zero i es = 0
+bytesInNone (suc n) i es = cond (inNone i es) 1 0 + bytesInNone n (suc i) es
+
 -- What is promised of the call over all files.
 pub record Salvage : Type 0 where
   -- where it is not refused, what is written is a sound log, and no longer than the file [I24 I30]
@@ -79,7 +90,11 @@ pub record Salvage : Type 0 where
   pub each : (file : List ℕ) → length (keptSegments file) + length (droppedIn file) ≡ entryCount file
   -- [I22]
   pub apart : (file : List ℕ) → Apart (segmentsPlace (entryCount file)) (length file) (keptOf file (entryCount file))
-  -- a sound log is refused only for want of room, and comes out byte for byte, with an empty report [I29]
+  -- the bytes behind the old index that lie in no kept segment, counted one by one, are as many as is reported [I28]
+  pub left : (file : List ℕ)
+      → reportOf file .leftover
+      ≡ bytesInNone (length file - segmentsPlace (entryCount file)) (segmentsPlace (entryCount file)) (keptOf file (entryCount file))
+  -- a sound log is refused only for want of room; the same bytes are written, and there is nothing to report [I29]
   pub accepted : (file out report : List ℕ) → Sound file → length file ≤ length out → 2 * countIn file ≤ length report
       → salvageRefusal file out report ≡ none
   -- [I29]

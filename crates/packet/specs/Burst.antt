@@ -20,7 +20,7 @@ pub record Spoiled (a d d′ z : List ℕ) : Type 0 where
 
 -- [P11]
 pub record BurstDetected : Type 0 where
-  -- what stands there is not well-formed
+  -- the changed bytes are not well-formed
   pub refused : (a d d′ z : List ℕ) → Spoiled a d d′ z → WellFormed (a ++ (d ++ z)) → ¬ WellFormed (a ++ (d′ ++ z))
   -- and it does not pass as nothing: it is a bad checksum with the packet's ID, whatever follows it
   pub reported : (a d d′ z x : List ℕ) → Spoiled a d d′ z → WellFormed (a ++ (d ++ z))

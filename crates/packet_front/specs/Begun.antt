@@ -15,7 +15,7 @@ headerAgrees s = soFar s 0 (eqb 0xFF) && (soFar s 1 (eqb 0xFF) && (soFar s 2 (eq
 unfoldable pub frontAgrees : List ℕ → Bool
 frontAgrees s = headerAgrees s && soFar s 4 goodId
 
--- the length field, tested when its second byte is there, is 3 to 1,024 [P5 V8 V9]
+-- the length field is 3 to 1,024, once both its bytes are there [P5 V8 V9]
 unfoldable pub lengthAgrees : List ℕ → Bool
 lengthAgrees s = ltb (length s) 7 || (leb 3 (lengthOf s) && leb (lengthOf s) 1024)
 

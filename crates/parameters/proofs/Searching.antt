@@ -7,7 +7,7 @@ use native.Mathlib.Omega.{arith}
 use lib.Dec.{leb, eqb}
 use lib.ListN.{length, take, drop, getD, set, replicate, length-set, length-drop, getD-replicate}
 use lib.Seq.{take-all, getD-set-same, getD-set-other}
-use borrow.Author.Tests.{leb-true, le-leb, lt-leb, eqb-true, eqb-false}
+use borrow.Author.Tests.{leb-true, le-leb, lt-leb, eqb-true, eqb-false, eq-eqb, ne-eqb}
 use Rattle.lists.proofs.Bools.{and-left, and-right}
 use Rattle.parameters.specs.Entries.{Entry, occurs, entryGood, searchFrom, search}
 use Rattle.parameters.specs.Parameters.{wordAt, plain, entryOf, syncSearch}
@@ -51,6 +51,10 @@ module _ (k : EntryKind) (params : List ℕ) (at size : ℕ) (h : at ≤ length 
 
 -- ---- the loop
 
+-- the own entry, by the mark of the own ID and where it stood last
+abbrev pub ownFound : ℕ → ℕ → ℕ → Found
+ownFound mark slot at = cond (eqb mark 0) Nothing (At slot at)
+
 module _ (e : Entry) (own : ℕ) (params : List ℕ) (from : ℕ) where
   -- the entries before `at` have these IDs, and the rest of the search decides
   pub record Searching (seen : List ℕ) (at slot : ℕ) (found : Found) : Type 0 where
@@ -63,7 +67,7 @@ module _ (e : Entry) (own : ℕ) (params : List ℕ) (from : ℕ) where
     pub marked : (k : ℕ) → k < 256 → getD seen k 0 ≡ cond (occurs k passed) 1 0
     pub same : searchFrom e own params steps at passed found ≡ search e own params from
 
-  pub searching-start : Searching (replicate 256 0) from 0 Nothing
+  searching-start : Searching (replicate 256 0) from 0 Nothing
   unfolding occurs
   searching-start =
       record {
@@ -76,6 +80,9 @@ module _ (e : Entry) (own : ℕ) (params : List ℕ) (from : ℕ) where
         marked = λ k h. getD-replicate 256 k 0 0 h;
         same = refl;
       }
+
+  pub none-found : own < 256 → Searching (replicate 256 0) from 0 (ownFound (getD (replicate 256 0) own 0) 0 0)
+  none-found h = rw (getD-replicate {A = ℕ} 256 own 0 0 h) searching-start
 
   turn : (steps at : ℕ) (passed : List ℕ) (found : Found) → at < length params → 0 < steps
       → searchFrom e own params steps at passed found
@@ -141,7 +148,7 @@ module _ (e : Entry) (own : ℕ) (params : List ℕ) (from : ℕ) where
                     rw (e) (rw (i) (getD-set-same seen (getD params at 0) 1 0 (omega arith)))
                 by-id false e = rw (e) (getD-set-other seen (getD params at 0) k 1 0 (eqb-false k (getD params at 0) e) ∙ r .marked k l)
 
-            pub next : Searching (set seen (getD params at 0) 1) (at + e .size (drop at params)) (slot + 1) (cond (eqb (getD params at 0) own) (At slot at) found)
+            next : Searching (set seen (getD params at 0) 1) (at + e .size (drop at params)) (slot + 1) (cond (eqb (getD params at 0) own) (At slot at) found)
             unfolding occurs
             next =
                 let k = r .enough in
@@ -159,6 +166,21 @@ module _ (e : Entry) (own : ℕ) (params : List ℕ) (from : ℕ) where
                       ap (λ (n : ℕ). searchFrom e own params (r .steps - 1) (at + e .size (drop at params)) (getD params at 0 ∷ r .passed) (cond (eqb (getD params at 0) own) (At n at) found)) s
                       ∙ sym (goes ∙ simp (ok, fits, le-leb (getD params at 0) 252 known, not-passed));
                 }
+
+            -- the own entry is marked where it stands; another leaves the own mark
+            pub own-next : getD params at 0 ≡ own
+                → Searching (set seen (getD params at 0) 1) (at + e .size (drop at params)) (slot + 1)
+                (ownFound (getD (set seen (getD params at 0) 1) own 0) slot at)
+            own-next i =
+                let s = r .sized in
+                let m : getD (set seen (getD params at 0) 1) own 0 ≡ 1 = rw (sym i) (getD-set-same seen (getD params at 0) 1 0 (omega arith)) in
+                rw m (rw (eq-eqb (getD params at 0) own i) at next)
+
+            pub other-next : (getD params at 0 ≡ own → ⊥) → (own-slot own-at : ℕ) → found ≡ ownFound (getD seen own 0) own-slot own-at
+                → Searching (set seen (getD params at 0) 1) (at + e .size (drop at params)) (slot + 1)
+                (ownFound (getD (set seen (getD params at 0) 1) own 0) own-slot own-at)
+            other-next n own-slot own-at f =
+                rw (getD-set-other seen (getD params at 0) own 1 0 (λ z. n (sym z))) (rw (ne-eqb (getD params at 0) own n, f) at next)
 
   pub searched : (seen : List ℕ) (at slot : ℕ) (found : Found) → Searching seen at slot found → length params ≤ at → found ≡ search e own params from
   unfolding searchFrom

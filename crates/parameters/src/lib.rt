@@ -59,12 +59,14 @@ fn entry_size(kind: EntryKind, rest: &[u8]) -> usize
 }
 
 // Finds the own entry of the list that begins at `from`, which may lie past the end. The list is judged to its end: with an entry
-// that is not allowed or cut short, an ID above 252 or a repeated one, nothing is found. [D22-D24 D44-D47]
+// that is not allowed or cut short, an ID above 252 or a repeated one, nothing is found. The mark of the own ID says whether it was
+// found: so a turn keeps two numbers and no enum. [D22-D24 D44-D47]
 pub fn search(params: &[u8], from: usize, kind: EntryKind, own: u8) -> Found
     ensures { λ r. ⌜ r ≡ Entries·search (entryOf kind) own (now (params .entry)) from ⌝ }
 {
     let mut seen = [0u8; 256];
-    let mut found = Found::Nothing;
+    let mut own_slot = 0;
+    let mut own_at = 0;
     let mut slot = 0;
     let mut at = from;
     while at < params.len() {
@@ -85,12 +87,16 @@ pub fn search(params: &[u8], from: usize, kind: EntryKind, own: u8) -> Found
         }
         seen[k] = 1;
         if id == own {
-            found = Found::At(slot, at);
+            own_slot = slot;
+            own_at = at;
         }
         slot += 1;
         at += size;
     }
-    found
+    if seen[own as usize] == 0 {
+        return Found::Nothing;
+    }
+    Found::At(own_slot, own_at)
 }
 
 // Finds the own entry of a Sync list, whose entries are an ID and n bytes; nothing, if the list's length is 0. [D22-D24]

@@ -48,12 +48,12 @@ pub record SameEvents (M : AnyReader) (x : M .State) (chunks : List (List ℕ)) 
   -- a reader that takes nothing, or never finishes a gap, is not let off: it takes what the rules take, and finishes where they do
   pub counted : took M x (since chunks g) ≡ took (model protocol2) [] (since chunks g)
   pub finishes : Finished (model protocol2) [] chunks g → Finished M x chunks g
-  -- "same events, same order .. once the gap is finished": with all that they carry, those of the plain reader over the segment
-  -- that the calls took
+  -- where the gap is finished, the events, their order and all that they carry are those of the plain reader over the segment that
+  -- the calls took
   pub same : Finished M x chunks g → given M x (since chunks g) ≡ map what (plain (took M x (since chunks g)))
 
--- "for every segment taken by a list of Protocol 2.0 calls that demand 3 looks at, however cut": from a fresh start or a finished
--- gap, whatever the chunks [R7]
+-- of every list of calls that demand 3 is about in Protocol 2.0: the first one is on a reader at a start, and the chunks are any
+-- [R7]
 abbrev pub Same : AnyReader → Type 0
 Same M =
     (x : M .State) → M .Fresh x → (earlier : List Call) → AtStart M x earlier → (chunks : List (List ℕ)) (g : ℕ)

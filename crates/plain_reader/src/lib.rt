@@ -23,8 +23,8 @@ pub enum Next {
 }
 
 // The next event at the offset `from` or behind it. At each offset stands a packet, or a bad checksum, or it is passed by one byte;
-// so is one that waits for more bytes, since none follow a whole segment. Every offset before the next FF is passed, and the last
-// nine, where no packet has room. [R1-R5]
+// so is one that waits for more bytes, since none follow a whole segment. Offsets at which no packet may begin are passed by a
+// search, and the last nine, where none has room, are left. [R1-R5]
 pub fn next_event(segment: &[u8], from: usize) -> Next
     ensures { λ r. ⌜ r ≡ nextEvent (now (segment .entry)) from ⌝ }
 {

@@ -14,7 +14,11 @@ use Rattle.lists.specs.Numbers.{numberAt}
 use Rattle.lists.proofs.Bools.{and-right, both-ways}
 use Rattle.stuffing.specs.Stuffing.{unstuff}
 use Rattle.reading.specs.Reading.{Event, packet}
+use Rattle.reading.specs.Lists.{model, Follows}
+use Rattle.reading.proofs.Clean.{call-promises}
 use Rattle.packet.specs.Packet.{bodyOf}
+use Rattle.packet.specs.Verdict.{protocol2}
+use Rattle.packet.proofs.Laws.{laws}
 use Rattle.reader.proofs.Records.{reader-promises}
 use Rattle.registers.specs.Registers.{tableSize, goalPosition, endOf}
 use Rattle.items.specs.Items.{valueOf}
@@ -202,12 +206,24 @@ module _ (goals : List ℤ) (form : Form) (d : Device) (fit : Fit form d) (ws : 
         registered = u .registered;
       }
 
+-- the reader of the rules is one that keeps to them
+model-follows : Follows protocol2 (model protocol2) (λ h. Unit {0}) (λ h. h)
+model-follows =
+    record { fresh = λ x e. (tt, e); same-taken = λ x c l. refl; same-answer = λ x c l. refl; same-next = λ x c l. (tt, refl) }
+
 pub plan-carried-out : PlanCarriedOut
-plan-carried-out goals bytes good plan x fresh earlier start chunks g is finished form d ready =
-    let ws = plan .packets in
-    let fit = fit-of form d (ready .faultless) in
-    let line = reader-promises .calls .clean-line x fresh earlier start chunks g ws (λ w m. plan .each w m .well)
-    (is ∙ sym (plan .end-to-end)) finished in
-    subst (λ (events : List Event). Obeyed goals d (hearsAll form d events)) (sym (line .1))
-    (obeyed goals form d fit ws (plan .each) (ready .room) (plan .stands (ownId (d .table)) (let k = fit .known in omega arith))
-    (getD goals (ownId (d .table)) unwanted) refl (within-at goals (ownId (d .table)) (goals-within goals good)))
+plan-carried-out =
+    record {
+      carried-out = λ goals bytes good plan x fresh earlier start chunks g taken form d ready.
+          let ws = plan .packets in
+          let fit = fit-of form d (ready .faultless) in
+          let line = reader-promises .calls .clean-line x fresh earlier start chunks g ws (λ w m. plan .each w m .well)
+          (taken .0 ∙ sym (plan .end-to-end)) (taken .1) in
+          subst (λ (events : List Event). Obeyed goals d (hearsAll form d events)) (sym (line .1))
+          (obeyed goals form d fit ws (plan .each) (ready .room) (plan .stands (ownId (d .table)) (let k = fit .known in omega arith))
+          (getD goals (ownId (d .table)) unwanted) refl (within-at goals (ownId (d .table)) (goals-within goals good)));
+      can-be-taken = λ goals bytes plan.
+          let r = call-promises protocol2 laws (model protocol2) (λ h. Unit {0}) (λ h. h) model-follows .packet-by-packet [] refl (plan .packets)
+          (λ w m. plan .each w m .well) in
+          (r .all-taken ∙ plan .end-to-end, r .finished);
+    }

@@ -32,8 +32,8 @@ abbrev pub faultOf : Form → Device → Option ℕ
 faultOf inTwo d = stateRefusal (d .table) (d .registered)
 faultOf inOne d = callRefusal (d .table) (d .registered) (d .reply)
 
--- "a board whose table, records and buffers give none of 13 and 21 to 25": its test passes, and the body buffer has room for each
--- packet's unstuffed body. 25 comes from no reader at a start (Q2), and 14 of no well-formed packet. [W10]
+-- No call gives 13, or 21 to 25: the device's test passes, and the body buffer has room for each packet's unstuffed body. 25 comes
+-- from no reader at a start (Q2), and 14 of no well-formed packet. [W10]
 pub record Ready (form : Form) (d : Device) (packets : List (List ℕ)) : Type 0 where
   pub faultless : faultOf form d ≡ none
   pub room : (w : List ℕ) → List·Memᴰ w packets → length (unstuff (bodyOf w)) ≤ length (d .body)
@@ -51,13 +51,17 @@ pub record Obeyed (goals : List ℤ) (d now : Device) : Type 0 where
   pub others : (a : ℕ) → (a < goalPosition .address) ⊎ (endOf goalPosition ≤ a) → getD (now .table) a 0 ≡ getD (d .table) a 0
   pub registered : now .registered ≡ d .registered
 
--- For every plan of goals that are not refused, and every list of calls on a reader at a fresh start or a finished gap: feeding
--- calls, however cut, and then gap calls, which by the packet rules take the plan and finish the gap. Each event that the reader
--- gives is handed to the device. [W10]
-abbrev pub PlanCarriedOut : Type 0
-PlanCarriedOut =
-    (goals : List ℤ) (bytes : List ℕ) → goalsRefusal goals ≡ none → (plan : Plan goals bytes)
-    → (x : records .State) → records .Fresh x → (earlier : List Call) → AtStart (model protocol2) [] earlier
-    → (chunks : List (List ℕ)) (g : ℕ) → took (model protocol2) [] (since chunks g) ≡ bytes → Finished (model protocol2) [] chunks g
-    → (form : Form) (d : Device) → Ready form d (plan .packets)
-    → Obeyed goals d (hearsAll form d (given records (after records x earlier) (since chunks g)))
+-- feeding calls with these chunks and then g gap calls: by the packet rules they take the bytes and finish the gap
+abbrev pub TakenWhole : List (List ℕ) → ℕ → List ℕ → Type 0
+TakenWhole chunks g bytes = (took (model protocol2) [] (since chunks g) ≡ bytes) × Finished (model protocol2) [] chunks g
+
+-- [W10]
+pub record PlanCarriedOut : Type 0 where
+  -- For every plan of goals that are not refused, and every list of calls that take it whole, however cut, on a reader at a fresh
+  -- start or a finished gap: each event that the reader gives is handed to the device.
+  pub carried-out : (goals : List ℤ) (bytes : List ℕ) → goalsRefusal goals ≡ none → (plan : Plan goals bytes)
+      → (x : records .State) → records .Fresh x → (earlier : List Call) → AtStart (model protocol2) [] earlier
+      → (chunks : List (List ℕ)) (g : ℕ) → TakenWhole chunks g bytes → (form : Form) (d : Device) → Ready form d (plan .packets)
+      → Obeyed goals d (hearsAll form d (given records (after records x earlier) (since chunks g)))
+  -- such calls are there: each packet of the plan is one chunk, and one gap call follows
+  pub can-be-taken : (goals : List ℤ) (bytes : List ℕ) (plan : Plan goals bytes) → TakenWhole (plan .packets) 1 bytes

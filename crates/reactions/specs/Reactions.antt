@@ -32,7 +32,7 @@ heardInstruction instruction all table w params =
     (cond (eqb instruction 0x92) (heardBulkRead all table w params)
     (cond (eqb instruction 0x93) (heardBulkWrite all table w params) (heardUndefined all table w))))))))))))
 
--- an empty body counts as an undefined instruction; a bad checksum has no body [D3 D27]
+-- a body without a byte is heard as an undefined instruction; a bad checksum has no body [D3 D27]
 abbrev pub reaction : Heard → Bool → List ℕ → RegisteredWrite → List ℕ → Reaction
 reaction BadChecksum all table w body = reacting (refusing table w 0x03) (ownOnly all 2)
 reaction Packet all table w [] = heardUndefined all table w

@@ -60,7 +60,7 @@ fn react(
     }
 }
 
-// An empty body counts as an undefined instruction; a bad checksum has no body. [D1-D27 D31-D34 D43-D47]
+// A body without a byte is heard as an undefined instruction; a bad checksum has no body. [D1-D27 D31-D34 D43-D47]
 pub fn reaction(
     table: &mut [u8],
     registered: RegisteredWrite,

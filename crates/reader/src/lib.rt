@@ -40,7 +40,7 @@ pub fn feed(reader: Reader, chunk: &[u8]) -> Fed
     }
 }
 
-// A gap call: the next event as if the segment ended with the held bytes. Call it until nothing is left. [F12-F16 Q1-Q14 V1]
+// A gap call: the next event, with the held bytes as the end of the segment. Call it until nothing is left. [F12-F16 Q1-Q14 V1]
 pub fn gap(reader: Reader) -> Fed
     ensures { λ r. ⌜ (r .step ≡ stepOn reader Call·gap) × (r .packet ≡ packetOn reader Call·gap (replicate 1031 0))
         × (r .reader ≡ leftBy reader Call·gap) ⌝ }

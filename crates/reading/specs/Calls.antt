@@ -88,6 +88,6 @@ FewestRule R = (h s : List ℕ) → Fewest R h s (fed R h s) × ((r : CallResult
 abbrev pub HeldBound : Rules → Type 0
 HeldBound R = (h : List ℕ) (c : Call) → length h ≤ R .longest - 1 → length (call R h c .held) ≤ R .longest - 1
 
--- a gap is finished when a gap call says that nothing is left; then nothing is held [F13]
+-- a gap call that says that nothing is left finishes the gap, and then nothing is held [F13]
 abbrev pub FinishedEmpty : Rules → Type 0
 FinishedEmpty R = (h : List ℕ) → call R h gap .answer ≡ none → call R h gap .held ≡ []

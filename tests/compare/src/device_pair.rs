@@ -206,8 +206,8 @@ fn exported(registered: Registered) -> exports::Registered {
 }
 
 fn exported_reply(waiting: Waiting) -> exports::Reply {
-    let Waiting { speaks, id, error, count, bytes, turn } = waiting;
-    exports::Reply { speaks, id, error, count, bytes, slot: turn }
+    let Waiting { speaks, id, error, count, bytes, slot } = waiting;
+    exports::Reply { speaks, id, error, count, bytes, slot }
 }
 
 fn shown_carried(carried: &exports::Carried) -> String {

@@ -158,7 +158,7 @@ impl ReaderPair {
         }
     }
 
-    /// A chunk has arrived when feeding was repeated with the untaken rest until a call gave no event.
+    /// Feeds a chunk, and again what was not taken of it, until a call has no event.
     pub fn arrive(&mut self, mut chunk: &[u8], events: &mut Vec<Event>) {
         loop {
             let (step, event) = self.feed(chunk);

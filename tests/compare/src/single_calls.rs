@@ -120,7 +120,7 @@ pub fn compare_status(
 ) -> Result<i64, Difference> {
     let exports::Reply { speaks, id, error, count, bytes, slot } = reply;
     let answer = (calls.status)(reply, ours.bytes_mut());
-    let waiting = reference::Waiting { speaks, id, error, count, bytes, turn: slot };
+    let waiting = reference::Waiting { speaks, id, error, count, bytes, slot };
     let wanted = reference::status_call(waiting, expected.bytes_mut());
     let room = ours.bytes().len();
     let given = || format!("{reply:?}, reply buffer of {room}");

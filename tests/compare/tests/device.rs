@@ -282,10 +282,10 @@ fn overtaken_registered_writes() {
         // another Reg Write in its place carries the limits from then
         (&[65, 0, 1], &[&[3, 48, 0, 0xA0, 0x0F, 0, 0], &[4, 65, 0, 1]], 0),
     ];
-    for (turn, between, error) in cases {
+    for (write, between, error) in cases {
         let mut device = DevicePair::new(&mut rng, &fresh(), Registered::default(), REPLY_BYTES);
-        assert_eq!(device.hear(PACKET, 1, &[&[4], turn].concat()).error, Some(0));
-        assert_eq!((device.table()[69], usize::from(device.registered.count)), (1, turn.len() - 2));
+        assert_eq!(device.hear(PACKET, 1, &[&[4], write].concat()).error, Some(0));
+        assert_eq!((device.table()[69], usize::from(device.registered.count)), (1, write.len() - 2));
         for body in between {
             assert_eq!(device.hear(PACKET, 1, body).error, Some(0));
         }
@@ -296,10 +296,10 @@ fn overtaken_registered_writes() {
         assert_eq!(device.table(), stored);
         assert_eq!(device.hear(PACKET, 1, &[5]).error, Some(error));
         assert_eq!((device.table()[69], device.registered), (0, Registered::default()));
-        let at = usize::from(turn[0]);
+        let at = usize::from(write[0]);
         stored[69] = 0;
         if error == 0 {
-            stored[at..at + turn.len() - 2].copy_from_slice(&turn[2..]);
+            stored[at..at + write.len() - 2].copy_from_slice(&write[2..]);
         }
         assert_eq!(device.table(), stored);
         assert_eq!(device.hear(PACKET, 1, &[5]).error, Some(2));
@@ -313,14 +313,14 @@ fn lent_limits() {
     let numbers = [i32::MIN, -1, 0, 1, 4_095, 4_096, i32::MAX];
     for (max, min) in numbers.iter().flat_map(|&max| numbers.map(|min| (max, min))) {
         for (lent_max, lent_min) in numbers.iter().flat_map(|&max| numbers.map(|min| (max, min))) {
-            let turn = Registered { address: 65, count: 1, bytes: [1, 0, 0, 0, 0, 0, 0, 0], min: lent_min, max: lent_max };
+            let write = Registered { address: 65, count: 1, bytes: [1, 0, 0, 0, 0, 0, 0, 0], min: lent_min, max: lent_max };
             let mut table = stored(max, min, 0);
             table[69] = 1;
-            let mut device = DevicePair::new(&mut rng, &table, turn, REPLY_BYTES);
+            let mut device = DevicePair::new(&mut rng, &table, write, REPLY_BYTES);
             assert_eq!(device.hear(PACKET, 1, &[1]).error, Some(0));
-            assert_eq!(device.registered, turn);
+            assert_eq!(device.registered, write);
             let same = (lent_min, lent_max) == (min, max);
-            assert_eq!(device.hear(PACKET, 1, &[5]).error, Some(if same { 0 } else { 6 }), "{turn:?} at {min} to {max}");
+            assert_eq!(device.hear(PACKET, 1, &[5]).error, Some(if same { 0 } else { 6 }), "{write:?} at {min} to {max}");
             (table[69], table[65]) = (0, same.into());
             assert_eq!((device.table(), device.registered), (&table[..], Registered::default()));
         }

@@ -49,9 +49,9 @@ fn packets_of_every_kind() {
     let (mut answered, mut silent, mut refused) = (0, 0, [0; 25]);
     for _ in 0..60_000 {
         let mut bytes = table(&mut rng).to_vec();
-        let mut turn = registered(&mut rng, &bytes);
+        let mut write = registered(&mut rng, &bytes);
         if !rng.one_in(8) {
-            turn.count %= 9;
+            write.count %= 9;
         }
         if rng.one_in(20) {
             bytes[7] = rng.pick(&[200, 253, 254, 255]);
@@ -66,7 +66,7 @@ fn packets_of_every_kind() {
         let packet = received(&mut rng, &known);
         // around the room that the body needs, or room enough
         let room = if rng.one_in(4) { rng.between(0, packet.len()) } else { LONGEST_BODY };
-        let mut device = DevicePair::new(&mut rng, &bytes, turn, reply);
+        let mut device = DevicePair::new(&mut rng, &bytes, write, reply);
         match device.hear_packet(&mut rng, &packet, room).count {
             0 => silent += 1,
             1.. => answered += 1,
@@ -95,15 +95,15 @@ fn order_of_refusals() {
         }
         bytes[7] = if fault(3) { 253 } else { 252 };
         let count = if fault(4) { 9 } else { 8 };
-        let turn = Registered { address: 65, count, bytes: [1, 2, 3, 4, 5, 6, 7, 8], min: i32::MIN, max: -1 };
+        let write = Registered { address: 65, count, bytes: [1, 2, 3, 4, 5, 6, 7, 8], min: i32::MIN, max: -1 };
         let reply = if fault(5) { 31 } else { 32 };
         let wanted = [14, 13, 21, 22, 23, 24].into_iter().zip(0..).find(|&(_, bit)| fault(bit)).map(|(number, _)| -number);
         // also where the device would have stayed silent
         for id in [252, 254, 7, 253, 255] {
-            let mut device = DevicePair::new(&mut rng, &bytes, turn, reply);
+            let mut device = DevicePair::new(&mut rng, &bytes, write, reply);
             let told = device.hear_packet(&mut rng, &framed(id, stuffed), room);
             assert_eq!(told.count.min(0), wanted.unwrap_or(0), "faults {faults:06b}");
-            assert!(wanted.is_none() || (device.table() == bytes && device.registered == turn));
+            assert!(wanted.is_none() || (device.table() == bytes && device.registered == write));
         }
     }
 }

@@ -13,7 +13,7 @@ fn check(rng: &mut Rng, goals: &[i32], plan: &[u8]) -> i64 {
     must_agree(compare_plan_check(&PROVED, rng, goals, plan))
 }
 
-/// The example of the request. [W3 W4 W6 W7]
+/// The example of the request. [W3 W4 W6 W7 X34]
 #[test]
 fn two_goals() {
     let mut rng = Rng::new(83);

@@ -205,6 +205,7 @@ fn published_packets() {
         let bytes = &packet.bytes;
         for (protocol, encode) in [(Protocol::P1, PROVED.p1_encode), (Protocol::Mercury, PROVED.mercury_encode)] {
             assert!(v1::well_formed(protocol, bytes), "{}", packet.place);
+            assert_eq!(&v1::packet_of(bytes[2], &bytes[4..bytes.len() - 1]), bytes, "{}", packet.place);
             assert_eq!(compare_at(protocol, bytes, 0), 1, "{}", packet.place);
             let mut out = vec![0; bytes.len()];
             assert_eq!(encode(bytes[2], bytes[4], &bytes[5..bytes.len() - 1], &mut out, 0), bytes.len() as i64, "{}", packet.place);

@@ -108,7 +108,7 @@ pub fn packet_call(
     Ok(answer)
 }
 
-/// A reply that waits for its turn. Silence: all 0.
+/// A reply that waits for its slot. Silence: all 0.
 #[derive(Clone, Copy, PartialEq, Eq, Debug, Default)]
 pub struct Waiting {
     pub speaks: u8,
@@ -116,7 +116,7 @@ pub struct Waiting {
     pub error: u8,
     pub count: u8,
     pub bytes: [u8; 8],
-    pub turn: usize,
+    pub slot: usize,
 }
 
 /// The first of two calls: carries out, and says what is to be said later; or the number of its refusal.
@@ -135,8 +135,8 @@ pub fn carry_out_call(table: &mut [u8], registered: Registered, heard: Heard) ->
             let alert = u8::from(table::hardware_error(table) != 0) << 7;
             let (error, data) = reply.outcome.map_or_else(|error| (error, vec![]), |data| (0, data));
             waiting.bytes[..data.len()].copy_from_slice(&data);
-            let (count, turn) = (data.len() as u8, usize::from(reply.slot));
-            waiting = Waiting { speaks: 1, id, error: error | alert, count, turn, ..waiting };
+            let (count, slot) = (data.len() as u8, usize::from(reply.slot));
+            waiting = Waiting { speaks: 1, id, error: error | alert, count, slot, ..waiting };
         }
     }
     Ok((waiting, registered))
@@ -274,12 +274,12 @@ fn action(table: &mut Table, registered: &mut Registered, parameters: &[u8]) -> 
     if registered.count == 0 {
         return Err(2);
     }
-    let turn = std::mem::take(registered);
+    let write = std::mem::take(registered);
     table::set_registered(table, false);
-    if (turn.min, turn.max) != table::limits(table) {
+    if (write.min, write.max) != table::limits(table) {
         return Err(6);
     }
-    store(table, usize::from(turn.address), &turn.bytes[..usize::from(turn.count)])
+    store(table, usize::from(write.address), &write.bytes[..usize::from(write.count)])
 }
 
 fn reboot(table: &mut Table, registered: &mut Registered, parameters: &[u8]) -> Outcome {

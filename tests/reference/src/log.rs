@@ -6,7 +6,7 @@ use crate::{next_event, Answer, Event};
 const INDEX_COUNT: usize = 254;
 const LONGEST_FILE: usize = 4_294_967_295;
 
-/// The places of all packets with an ID in a segment, in their order.
+/// The offsets of all packets with an ID in a segment, in their order.
 fn packets(segment: &[u8], wanted: u8) -> Vec<usize> {
     let events = std::iter::successors(next_event(segment, 0), |found| next_event(segment, found.next));
     events.filter(|found| matches!(&found.event, Event::Packet { id, .. } if *id == wanted)).map(|found| found.at).collect()
@@ -17,10 +17,10 @@ fn indexed() -> impl Iterator<Item = u8> {
     (0..=252).chain([254])
 }
 
-/// The last segment that has a packet with the ID, and the place of the last one in it.
+/// The last segment that has a packet with the ID, and the offset of the last one in it.
 fn last_by_reading(segments: &[&[u8]], id: u8) -> Option<(usize, usize)> {
     let of_each = segments.iter().map(|segment| packets(segment, id));
-    of_each.enumerate().filter_map(|(number, places)| places.last().map(|&place| (number, place))).last()
+    of_each.enumerate().filter_map(|(number, offsets)| offsets.last().map(|&offset| (number, offset))).last()
 }
 
 fn index_of(segments: &[&[u8]]) -> Vec<usize> {
@@ -102,11 +102,11 @@ pub fn log_check(file: &[u8]) -> Result<(), u8> {
     }
 }
 
-/// Segment and place of the last packet for an ID, in the segment that the index names.
+/// Segment and offset of the last packet for an ID, in the segment that the index names.
 pub fn log_last(file: &[u8], id: u8) -> Result<Option<(usize, usize)>, u8> {
     let log = laid_out(file).ok_or(31)?;
-    let place = indexed().position(|indexed| indexed == id).ok_or(32)?;
-    let Some(number) = log.index[place].checked_sub(1) else { return Ok(None) };
+    let entry = indexed().position(|indexed| indexed == id).ok_or(32)?;
+    let Some(number) = log.index[entry].checked_sub(1) else { return Ok(None) };
     Ok(packets(log.segments[number], id).last().map(|&offset| (number, offset)))
 }
 

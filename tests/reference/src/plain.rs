@@ -1,4 +1,4 @@
-//! The plain reader by the words of its request: a whole segment, place by place. It shares only the tests of one packet with the
+//! The plain reader by the words of its request: a whole segment, offset by offset. It shares only the tests of one packet with the
 //! reading of segments that are still open.
 
 use crate::{checksum, well_formed, Event, Found};
@@ -13,25 +13,25 @@ fn announced(bytes: &[u8]) -> Option<&[u8]> {
     bytes.get(..7 + length)
 }
 
-fn sum_is_right(bytes: &[u8]) -> bool {
+fn checksum_is_right(bytes: &[u8]) -> bool {
     let (covered, sum) = bytes.split_at(bytes.len() - 2);
     checksum(0, covered).to_le_bytes() == sum
 }
 
-/// The event at a place, if one begins there.
-fn at_place(segment: &[u8], place: usize) -> Option<Found> {
-    let bytes = announced(&segment[place..])?;
+/// The event at an offset, if one begins there.
+fn event_at(segment: &[u8], offset: usize) -> Option<Found> {
+    let bytes = announced(&segment[offset..])?;
     let id = bytes[4];
     if well_formed(bytes) {
         let event = Event::Packet { id, bytes: bytes.to_vec() };
-        return Some(Found { at: place, next: place + bytes.len(), event });
+        return Some(Found { at: offset, next: offset + bytes.len(), event });
     }
-    (!sum_is_right(bytes)).then_some(Found { at: place, next: place + 1, event: Event::BadChecksum { id } })
+    (!checksum_is_right(bytes)).then_some(Found { at: offset, next: offset + 1, event: Event::BadChecksum { id } })
 }
 
-/// The next event at a place or behind it. Any place may be asked for; past the end there is nothing.
+/// The next event at an offset or behind it. Any offset may be asked for; past the end there is nothing.
 pub fn next_event(segment: &[u8], from: usize) -> Option<Found> {
-    (from..segment.len()).find_map(|place| at_place(segment, place))
+    (from..segment.len()).find_map(|offset| event_at(segment, offset))
 }
 
 #[cfg(test)]
@@ -55,7 +55,7 @@ mod tests {
     }
 
     #[test]
-    fn any_place() {
+    fn any_offset() {
         let ping = packet_of(1, &[1]);
         let whole = Found { at: 0, next: 10, event: Event::Packet { id: 1, bytes: ping.clone() } };
         assert_eq!(next_event(&ping, 0), Some(whole));

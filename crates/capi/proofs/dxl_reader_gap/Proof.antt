@@ -1,7 +1,7 @@
--- `capi::dxl_reader_gap` meets its contract: a walk of its MIR, by hand. The borrow is opened, `count` is read, the field `bytes`
--- is cut out of the record in its place and lent to `gap_in` for a lifetime that is made for the call, comes back and is put in
--- the struct again, `count` is stored, the step is turned into numbers, and the borrow is closed at the new record. The packet
--- buffer is passed on for good. All that the proof knows of `gap_in` and `step` is that they meet their contracts.
+-- The proof of `capi::dxl_reader_gap`, step by step over its MIR. It opens the borrow of the record and reads `count`; takes the field
+-- `bytes` out, lends it to `gap_in` under a lifetime of that one call and puts it back; stores `count`, turns the step into
+-- numbers, and ends the borrow with the record as it is then. The packet buffer goes to `gap_in` for good. Of `gap_in` and `step`
+-- it uses the contracts alone.
 use mathlib.Core.Path.{_≡_, refl, ap, _∙_}
 use Prim.Native.Nat.{ℕ, _+_}
 use mathlib.Core.List.{[], _∷_, List}
@@ -193,7 +193,7 @@ module _ {M : Type 1} (𝓤 : URA M) (H : Heap 𝓤) (A : Atoms 𝓤) (W : Given
         split ! $ drop ! $ heard ! (m ≡ stepNumbers r) (λ n. split ! $ drop ! $ peeks ! N.the-row (Is N.the-row) (shows 𝓤 H A N.the-row) m (x ∷ []) (λ is′.
         land ! (from ! (stop !)) (init ! 20 refl (LL.lawful N.the-type N′.the-laws 𝓤 H A W .typed m _ is′ .0)) $
         rewrite ! 20 (λ (w : Val). ‵ (fat fullShare N′.mir l₀ 0 w)) (ap only (N′.lowers .val-is m _ is′)) refl $ drop ! $
-        -- the borrow is closed at the new record
+        -- the borrow ends with the new record
         use1 W (‵ (cellAt fullShare (T.the-row .mir) (T′.lowered (holding (zs .0) (r .held)) ∷ []) b o)) (W .laws .at-raw fullShare T′.mir b o (T′.lowered (holding (zs .0) (r .held)))) $
         owned ! T.the-row (Is T.the-row) (LL.makes T.the-type T′.the-plain 𝓤 H A) (holding (zs .0) (r .held)) _ (next-is (holding (zs .0) (h .count)) _ now (r .held) (held-of r _ is)) $
         move ! (1 ∷ 0 ∷ 5 ∷ 6 ∷ 7 ∷ []) $ closes ! tt T.the-row (holding (zs .0) (r .held)) (T′.lowered (holding (zs .0) (r .held)) ∷ []) b o $

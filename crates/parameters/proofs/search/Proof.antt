@@ -1,24 +1,26 @@
+use mathlib.Core.Path.{refl}
 use mathlib.Core.Logic.{⊎-elim}
-use Prim.Native.Nat.{_-_}
+use Prim.Native.Nat.{_+_, _-_, _≤_}
 use native.Mathlib.Omega.{arith}
-use lib.ListN.{length}
-use borrow.Author.Tests.{eq-eqb, ne-eqb}
+use lib.ListN.{length, drop, getD}
+use borrow.Author.Tests.{ne-eqb}
 use borrow.Author.Needs.{needs}
 use Rattle.parameters.specs.Parameters.{entryOf}
-use Rattle.parameters.proofs.Searching.{Searching, searching-start, searched, not-allowed, allowed, size-is, barred, cut-short, no-id, again, next}
+use Rattle.parameters.proofs.Searching.{Searching, ownFound, none-found, searched, not-allowed, allowed, size-is, barred, cut-short, no-id, again, own-next, other-next}
 use Rattle.parameters.proofs.search.Statement.{statement}
 use Rattle.parameters.proofs.search.Tie as tie
 
 abbrev Inv-loop : tie.InvT-loop
-Inv-loop params from kind own seen₀ found₀ slot₀ at₀ seen found slot at = Searching (entryOf kind) own params from seen at slot found
+Inv-loop params from kind own seen₀ own-slot₀ own-at₀ slot₀ at₀ seen own-slot own-at slot at =
+    Searching (entryOf kind) own params from seen at slot (ownFound (getD seen own 0) own-slot own-at)
 
 abbrev μ-loop : tie.MeasureT-loop
-μ-loop params from kind own seen₀ found₀ slot₀ at₀ seen found slot at = length params - at
+μ-loop params from kind own seen₀ own-slot₀ own-at₀ slot₀ at₀ seen own-slot own-at slot at = length params - at
 
 loop-holds : tie.Need-loop-holds Inv-loop μ-loop
 loop-holds c =
     let a = c .before .args in
-    searching-start (entryOf (a .kind)) (a .own) (a .params .now) (a .from)
+    none-found (entryOf (a .kind)) (a .own) (a .params .now) (a .from) (omega arith)
 
 sub-entry-size : tie.Need-sub-entry-size Inv-loop μ-loop
 sub-entry-size c = search needs
@@ -38,7 +40,7 @@ returns c =
     let l = z .before .before in
     let h = l .before .loop in
     let a = l .before .before .before .args in
-    barred (entryOf (a .kind)) (a .own) (a .params .now) (a .from) (h .seen) (h .at) (h .slot) (h .found) (h .inv) (l .loop-test .taken) (not-allowed (a .kind) (a .params .now) (h .at) (z .entry-size .result) (omega arith) (z .entry-size .ensures) (c .if1 .taken))
+    barred (entryOf (a .kind)) (a .own) (a .params .now) (a .from) (h .seen) (h .at) (h .slot) _ (h .inv) (l .loop-test .taken) (not-allowed (a .kind) (a .params .now) (h .at) (z .entry-size .result) (omega arith) (z .entry-size .ensures) (c .if1 .taken))
 
 sub-if2 : tie.Need-sub-if2 Inv-loop μ-loop
 sub-if2 c = search needs
@@ -52,7 +54,7 @@ returns-2 c =
     let n = c .before .if1 .left in
     let ok = allowed (a .kind) (a .params .now) (h .at) (z .entry-size .result) (omega arith) (z .entry-size .ensures) n in
     let size = size-is (a .kind) (a .params .now) (h .at) (z .entry-size .result) (omega arith) (z .entry-size .ensures) n in
-    cut-short (entryOf (a .kind)) (a .own) (a .params .now) (a .from) (h .seen) (h .at) (h .slot) (h .found) (h .inv) (l .loop-test .taken) ok (omega arith)
+    cut-short (entryOf (a .kind)) (a .own) (a .params .now) (a .from) (h .seen) (h .at) (h .slot) _ (h .inv) (l .loop-test .taken) ok (omega arith)
 
 shared-slice-read-id : tie.Need-shared-slice-read-id Inv-loop μ-loop
 shared-slice-read-id c = search needs
@@ -66,7 +68,7 @@ returns-3 c =
     let n = c .before .before .before .if1 .left in
     let ok = allowed (a .kind) (a .params .now) (h .at) (z .entry-size .result) (omega arith) (z .entry-size .ensures) n in
     let size = size-is (a .kind) (a .params .now) (h .at) (z .entry-size .result) (omega arith) (z .entry-size .ensures) n in
-    no-id (entryOf (a .kind)) (a .own) (a .params .now) (a .from) (h .seen) (h .at) (h .slot) (h .found) (h .inv) (l .loop-test .taken) ok (omega arith) (c .if3 .taken)
+    no-id (entryOf (a .kind)) (a .own) (a .params .now) (a .from) (h .seen) (h .at) (h .slot) _ (h .inv) (l .loop-test .taken) ok (omega arith) (c .if3 .taken)
 
 cast-k : tie.Need-cast-k Inv-loop μ-loop
 cast-k c = search needs
@@ -83,7 +85,7 @@ returns-4 c =
     let n = c .before .before .before .before .if1 .left in
     let ok = allowed (a .kind) (a .params .now) (h .at) (z .entry-size .result) (omega arith) (z .entry-size .ensures) n in
     let size = size-is (a .kind) (a .params .now) (h .at) (z .entry-size .result) (omega arith) (z .entry-size .ensures) n in
-    again (entryOf (a .kind)) (a .own) (a .params .now) (a .from) (h .seen) (h .at) (h .slot) (h .found) (h .inv) (l .loop-test .taken) ok (omega arith) (c .before .if3 .left) (c .if4 .taken)
+    again (entryOf (a .kind)) (a .own) (a .params .now) (a .from) (h .seen) (h .at) (h .slot) _ (h .inv) (l .loop-test .taken) ok (omega arith) (c .before .if3 .left) (c .if4 .taken)
 
 array-write-seen : tie.Need-array-write-seen Inv-loop μ-loop
 array-write-seen c = search needs
@@ -106,14 +108,28 @@ loop-again c =
     let n = c .before .before .before .before .before .if1 .left in
     let ok = allowed (a .kind) (a .params .now) (h .at) (z .entry-size .result) (omega arith) (z .entry-size .ensures) n in
     let size = size-is (a .kind) (a .params .now) (h .at) (z .entry-size .result) (omega arith) (z .entry-size .ensures) n in
-    let k = next (entryOf (a .kind)) (a .own) (a .params .now) (a .from) (h .seen) (h .at) (h .slot) (h .found) (h .inv) (l .loop-test .taken) ok (omega arith) (c .before .before .if3 .left) (c .before .if4 .left) (omega arith) in
-    rw size (⊎-elim (λ w. rw (w .1) (rw (eq-eqb _ _ (w .0 .taken)) at k)) (λ w. rw (w .1) (rw (ne-eqb _ _ (w .0 .left)) at k)) (c .if5 .came))
+    let whole : h .at + entryOf (a .kind) .size (drop (h .at) (a .params .now)) ≤ length (a .params .now) = omega arith in
+    let known = c .before .before .if3 .left in
+    let new = c .before .if4 .left in
+    rw size (⊎-elim
+    (λ w. rw (w .1, w .2) (own-next (entryOf (a .kind)) (a .own) (a .params .now) (a .from) (h .seen) (h .at) (h .slot) _ (h .inv) (l .loop-test .taken) ok whole known new (omega arith) (w .0 .taken)))
+    (λ w. rw (w .1, w .2) (other-next (entryOf (a .kind)) (a .own) (a .params .now) (a .from) (h .seen) (h .at) (h .slot) _ (h .inv) (l .loop-test .taken) ok whole known new (omega arith) (w .0 .left) (h .own-slot) (h .own-at) refl))
+    (c .if5 .came))
+
+array-read-if6 : tie.Need-array-read-if6 Inv-loop μ-loop
+array-read-if6 c = search needs
 
 returns-5 : tie.Need-returns-5 Inv-loop μ-loop
 returns-5 c =
-    let h = c .before .loop in
-    let a = c .before .before .before .args in
-    searched (entryOf (a .kind)) (a .own) (a .params .now) (a .from) (h .seen) (h .at) (h .slot) (h .found) (h .inv) (c .loop-test .left)
+    let h = c .before .before .loop in
+    let a = c .before .before .before .before .args in
+    rw (c .if6 .taken) at (searched (entryOf (a .kind)) (a .own) (a .params .now) (a .from) (h .seen) (h .at) (h .slot) _ (h .inv) (c .before .loop-test .left))
+
+returns-6 : tie.Need-returns-6 Inv-loop μ-loop
+returns-6 c =
+    let h = c .before .before .loop in
+    let a = c .before .before .before .before .args in
+    rw (ne-eqb (getD (h .seen) (a .own) 0) 0 (c .if6 .left)) at (searched (entryOf (a .kind)) (a .own) (a .params .now) (a .from) (h .seen) (h .at) (h .slot) _ (h .inv) (c .before .loop-test .left))
 
 pub search-spec : {M : Type 1} → statement M
 search-spec =
@@ -139,4 +155,6 @@ search-spec =
     add-at
     loop-less
     loop-again
-    returns-5)
+    array-read-if6
+    returns-5
+    returns-6)

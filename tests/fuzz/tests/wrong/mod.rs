@@ -158,7 +158,7 @@ fn writes_its_chunk(held: &mut [u8; 1030], count: &mut usize, chunk: &[u8], pack
     step
 }
 
-/// FF FF at a body's end, with FD as the checksum's low byte, is taken for a place to stuff: no packet.
+/// Takes FF FF at the end of a body for stuffing where the checksum begins with FD: no packet.
 fn looks_into_the_checksum(held: &mut [u8; 1030], count: &mut usize, chunk: &[u8], packet: &mut [u8; 1031]) -> Step {
     let step = exports::feed(held, count, chunk, packet);
     if step.kind == 1 && packet[step.count - 4..step.count - 1] == [0xFF, 0xFF, 0xFD] {

@@ -25,7 +25,7 @@ PING = bytes.fromhex("FF FF FD 00 01 03 00 01 19 4E")
 PING_2 = bytes.fromhex("FF FF FD 00 02 03 00 01 19 72")
 TO_ALL = bytes.fromhex("FF FF FD 00 FE 03 00 01 31 42")
 DONE, NO, USAGE, FAILED = 0, 1, 2, 3
-LONG = 200_000_000  # bytes of a capture that takes some seconds
+LONG = bytes.fromhex("FF FF FD 00 01 FF 03") * 1_500_000  # takes some seconds: a packet begins at each seventh byte, its checksum wrong
 
 
 def run(*words, **more):
@@ -173,9 +173,7 @@ class Write(Folder):
     def signalled(self, number, disposition):
         """How a program ends that gets the signal while it writes, and what is there then. The gate itself may have been started with
         the signal ignored, and its programs with it: so the disposition is set."""
-        capture = self.file("capture")
-        with capture.open("wb") as file:
-            file.truncate(LONG)
+        capture = self.file("capture", LONG)
         program = subprocess.Popen([PROGRAM, "log", "write", str(self.out), str(capture)], stderr=subprocess.DEVNULL,
                                    preexec_fn=lambda: signal.signal(number, disposition))
         waited = time.monotonic()
@@ -323,9 +321,7 @@ class Salvage(Folder):
     # [L10]
     def test_long_work(self):
         """A line says how long it takes, and nothing unfinished stays where it is ended."""
-        with self.out.open("wb") as file:
-            file.write(struct.pack("<4I", 1, 16, 254, 24) + struct.pack("<2I", 1040, LONG))
-            file.truncate(1040 + LONG)
+        self.long_log()
         ours, theirs = os.pipe()
         program = subprocess.Popen([PROGRAM, "log", "salvage", str(self.out), str(self.new)], stderr=theirs)
         os.close(theirs)
@@ -336,9 +332,7 @@ class Salvage(Folder):
     # [L10]
     def test_closed_stream(self):
         """Where standard error is closed, what is said of long work does not go into the log that is being written."""
-        with self.out.open("wb") as file:
-            file.write(struct.pack("<4I", 1, 16, 254, 24) + struct.pack("<2I", 1040, LONG))
-            file.truncate(1040 + LONG)
+        self.long_log()
         program = subprocess.Popen([PROGRAM, "log", "salvage", str(self.out), str(self.new)], preexec_fn=lambda: os.close(2))
         ends = time.monotonic() + PATIENCE
         while self.unfinished() != struct.pack("<I", 1) and time.monotonic() < ends:
@@ -350,6 +344,9 @@ class Salvage(Folder):
         program.terminate()
         program.wait(PATIENCE)
         self.assertEqual(begins, struct.pack("<I", 1))
+
+    def long_log(self):
+        self.out.write_bytes(struct.pack("<6I", 1, 16, 254, 24, 1040, len(LONG)) + bytes(1016) + LONG)
 
     def unfinished(self):
         """How the file that is being written begins."""
@@ -575,9 +572,7 @@ class Progress(Folder):
     """Work that takes long is told."""
 
     def long_work(self, stderr):
-        capture = self.file("capture")
-        with capture.open("wb") as file:
-            file.truncate(LONG)
+        capture = self.file("capture", LONG)
         return subprocess.Popen([PROGRAM, "log", "write", str(self.out), str(capture)], stderr=stderr)
 
     def said(self, program, heard, wanted):

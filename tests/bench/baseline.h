@@ -17,6 +17,11 @@ uint16_t baseline_crc16_small(uint16_t start, const uint8_t *bytes, size_t n);
 int64_t baseline_encode(uint8_t id, uint8_t instruction, const uint8_t *params, size_t n_params, uint8_t *out, size_t n_out,
                         size_t at);
 
+int64_t baseline_p1_encode(uint8_t id, uint8_t instruction, const uint8_t *params, size_t n_params, uint8_t *out, size_t n_out,
+                           size_t at);
+int64_t baseline_mercury_encode(uint8_t id, uint8_t instruction, const uint8_t *params, size_t n_params, uint8_t *out, size_t n_out,
+                                size_t at);
+
 struct dxl_step baseline_feed(uint8_t held[1030], size_t *count, const uint8_t *chunk, size_t n, uint8_t packet[1031]);
 struct dxl_step baseline_gap(uint8_t held[1030], size_t *count, uint8_t packet[1031]);
 struct dxl_step baseline_reader_feed(struct dxl_reader *reader, const uint8_t *chunk, size_t n, uint8_t packet[1031]);

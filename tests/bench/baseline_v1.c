@@ -1,3 +1,5 @@
+#include <string.h>
+
 #include "baseline.h"
 #include "row.h"
 
@@ -66,6 +68,42 @@ static struct dxl_step read_on(uint8_t last, uint8_t *held, size_t *count, const
     step.taken = n;
     hold(&row, at, row.all, held, count, DXL_V1_MAX_HELD);
     return step;
+}
+
+static int64_t write_packet(uint8_t last, uint8_t id, uint8_t instruction, const uint8_t *params, size_t n_params, uint8_t *out,
+                            size_t n_out, size_t at)
+{
+    if (id > last && id != 254)
+        return -11;
+    if (n_params > DXL_V1_MAX_PACKET - FRONT - SHORTEST)
+        return -12;
+    size_t count = FRONT + SHORTEST + n_params;
+    if (at > n_out || n_out - at < count)
+        return -13;
+    uint8_t *packet = out + at;
+    packet[0] = 0xFF;
+    packet[1] = 0xFF;
+    packet[2] = id;
+    packet[3] = (uint8_t)(SHORTEST + n_params);
+    packet[4] = instruction;
+    memcpy(packet + FRONT + 1, params, n_params);
+    uint8_t sum = 0;
+    for (size_t i = 2; i + 1 < count; i++)
+        sum = (uint8_t)(sum + packet[i]);
+    packet[count - 1] = (uint8_t)~sum;
+    return (int64_t)count;
+}
+
+int64_t baseline_p1_encode(uint8_t id, uint8_t instruction, const uint8_t *params, size_t n_params, uint8_t *out, size_t n_out,
+                           size_t at)
+{
+    return write_packet(253, id, instruction, params, n_params, out, n_out, at);
+}
+
+int64_t baseline_mercury_encode(uint8_t id, uint8_t instruction, const uint8_t *params, size_t n_params, uint8_t *out, size_t n_out,
+                                size_t at)
+{
+    return write_packet(252, id, instruction, params, n_params, out, n_out, at);
 }
 
 struct dxl_step baseline_p1_feed(uint8_t held[258], size_t *count, const uint8_t *chunk, size_t n, uint8_t packet[259])

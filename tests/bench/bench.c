@@ -121,6 +121,27 @@ static uint16_t encode_baseline(uint16_t last, size_t n)
     return encoded(baseline_encode, last, n);
 }
 
+/* The packet of n bytes in Protocol 1.0, likewise. */
+static uint16_t encoded_v1(encoder *encode, uint16_t last, size_t n)
+{
+    longest[0] = (uint8_t)last;
+    if (encode(1, 0, longest, n - 6, packet, sizeof packet, 0) != (int64_t)n) {
+        fprintf(stderr, "the packet of Protocol 1.0 has not %zu bytes\n", n);
+        exit(1);
+    }
+    return packet[n - 1];
+}
+
+static uint16_t encode_v1_ours(uint16_t last, size_t n)
+{
+    return encoded_v1(dxl_p1_encode, last, n);
+}
+
+static uint16_t encode_v1_baseline(uint16_t last, size_t n)
+{
+    return encoded_v1(baseline_p1_encode, last, n);
+}
+
 /* What comes over the line, for the reader. */
 static uint8_t line[65536];
 static size_t n_line;
@@ -765,7 +786,9 @@ int main(int n_words, char **words)
                && measure_checksum("checksum, no table", fold_ours, crc_baseline)
                && measure_flips(14) && measure_flips(1031) && measure_flips(LARGEST)
                && measure_bytes("encode", encode_ours, encode_baseline, 14)
-               && measure_bytes("encode", encode_ours, encode_baseline, DXL_MAX_PACKET) && measure_reader()
+               && measure_bytes("encode", encode_ours, encode_baseline, DXL_MAX_PACKET)
+               && measure_bytes("encode 1.0", encode_v1_ours, encode_v1_baseline, 10)
+               && measure_bytes("encode 1.0", encode_v1_ours, encode_v1_baseline, DXL_V1_MAX_PACKET) && measure_reader()
                && measure_logs() && measure_plan(2) && measure_plan(253) && measure_instructions();
     if (good)
         measure_clearing();

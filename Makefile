@@ -72,7 +72,7 @@ prove and test it
   make docs_test           links, commands and code in the documents
   make programs_test       the programs line and checksum where something is wrong
   make cli_test            the tool dxl
-  make demo_test           the example board and its master
+  make demo_test           the example boards and their master
   make counts_test         the instructions that each export takes beside tests/instructions.txt
   make rust_test           every export beside the second implementation
   make leaf_test           the exports over the other checksum functions: no large table, and the same beside it
@@ -222,11 +222,15 @@ build/c/log_pages: tests/c/log_pages.c include/mednukals.h build/lib/libmednukal
 	@mkdir -p $(@D)
 	@$(CC) $(WARNINGS) $(POSIX) -D_DEFAULT_SOURCE -O2 -Iinclude -o $@ $< build/lib/libmednukals.a || $(call failed,compiling the C test of logs)
 
-BOARD_SOURCES := examples/board.c examples/pty_line.c
-build/c/board: $(BOARD_SOURCES) examples/pty_line.h include/mednukals.h build/lib/libmednukals.a
+HOST_SOURCES := examples/pty_line.c examples/host.c
+BOARD_SOURCES := examples/board.c $(HOST_SOURCES)
+UART_SOURCES := examples/uart_pty.c examples/uart_board.c $(HOST_SOURCES)
+build/c/board: $(BOARD_SOURCES)
+build/c/uart_pty: $(UART_SOURCES) examples/uart_board.h
+build/c/board build/c/uart_pty: examples/pty_line.h examples/host.h include/mednukals.h build/lib/libmednukals.a
 	@$(call need,$(CC))
 	@mkdir -p $(@D)
-	@$(CC) $(WARNINGS) -O2 -Iinclude -o $@ $(BOARD_SOURCES) build/lib/libmednukals.a || $(call failed,compiling the example board)
+	@$(CC) $(WARNINGS) -O2 -Iinclude -o $@ $(filter %.c,$^) build/lib/libmednukals.a || $(call failed,compiling an example board)
 
 # The board again, with a library that refuses what the test asks it to.
 REFUSING := encode unstuff reader_feed reader_gap fresh measure carry_out carry_out_packet status
@@ -241,12 +245,12 @@ build/c/uart_test: tests/c/uart_test.c tests/c/refusing.c examples/uart_board.c 
 	@$(CC) $(WARNINGS) -O2 -Iinclude -Iexamples -o $@ $(REFUSING:%=-Wl$(comma)--wrap=dxl_%) $(filter %.c %.a,$^) \
 	    || $(call failed,compiling the example board with a UART)
 
-demo: build/c/board
+demo: build/c/board build/c/uart_pty
 	@sh examples/demo.sh build/c/board || $(call failed,the demo)
 
-demo_test: build/c/board build/c/refusing_board
+demo_test: build/c/board build/c/refusing_board build/c/uart_pty
 	@$(call need,python3)
-	@$(call step,demo_test,example board and its master) python3 tests/demo_test.py build/c/board build/c/refusing_board
+	@$(call step,demo_test,example boards and their master) python3 tests/demo_test.py $^
 
 programs_test: $(PROGRAMS:%=build/bin/%)
 	@$(call need,python3)
@@ -315,10 +319,12 @@ leaf_test: $(LIBS) $(LEAF_LIBS) build/bin/line
 	@$(call step,leaves,other archives: no large table$(comma) and none) python3 tests/check_leaves.py build/lib/libmednukals.a $(LEAF_LIBS)
 	@$(foreach leaf,$(LEAVES),$(call leaf_steps,$(leaf)) &&) true
 
+# The comparisons of the calls that make a checksum; the others, whose inputs are long, run over the first archive.
+SUMMED := cases checksum verdict encoder status exchange plain
 leaf_steps = $(call step,$(1)-header,header beside the archive over crc16_$(1)) \
     python3 tests/check_header.py include/mednukals.h build/lib/libmednukals_$(1).a && \
     $(call step,$(1)-rust,archive over crc16_$(1) beside the second implementation) \
-    env MEDNUKALS_ARCHIVES=build/$(1) CARGO_TARGET_DIR=../build/rust_leaf sh -c 'cd tests && cargo test --release --offline --quiet --package compare'
+    env MEDNUKALS_ARCHIVES=build/$(1) sh -c 'cd tests && exec cargo test --release --offline --quiet --package compare $(SUMMED:%=--test %)'
 
 # Ends at the first difference, with a file under build/fuzz that replays it. The same seed gives the same cases.
 SECONDS ?= 600

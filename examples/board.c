@@ -1,26 +1,23 @@
 /*
  * A board: the main loop that firmware writes around the library. Its line is a pseudo-terminal, whose name it prints;
- * examples/talk.py is a master that talks to it. Firmware has its own line and clock in place of pty_line.c, and its own arm.
+ * examples/talk.py is a master that talks to it. Firmware has its own line and clock in place of pty_line.c, and its own arm in
+ * place of host.c.
  *
  * The library finds the packets, keeps the control table and writes the status packets. The rest is here: to notice when the line
  * was silent, to wait for a reply slot, to measure, and to act on a refusal.
  */
-#define _POSIX_C_SOURCE 200809L
 #include <errno.h>
 #include <inttypes.h>
-#include <signal.h>
 #include <stdio.h>
 #include <stdlib.h>
 #include <string.h>
 
+#include "host.h"
 #include "mednukals.h"
 #include "pty_line.h"
 
 /* Exit codes. */
 enum { ENDED = 0, FAILED = 1, BAD_OPTION = 2, REFUSED = 3 };
-
-/* The arm moves by at most ARM_STEP in ARM_TICK microseconds. */
-enum { ARM_TICK = 10000, ARM_STEP = 32 };
 
 /* The options; times are in microseconds. A slot holds the longest status, 21 bytes at 57,600 baud, and a gap. */
 static int64_t gap = 1500, slot_time = 6000;
@@ -43,14 +40,11 @@ static int64_t waiting_until;
 static int32_t position; /* of the arm */
 static int64_t next_tick;
 
-static volatile sig_atomic_t stopping;
-
 /* ---- faults ---- */
 
 static void fail(const char *what)
 {
-    fprintf(stderr, "board: %s failed: %s\n", what, strerror(errno));
-    exit(FAILED);
+    host_failed("board", what);
 }
 
 static const char *meaning(int64_t refusal)
@@ -122,18 +116,22 @@ static void send_waiting(void)
 }
 
 /*
- * The reply is sent when its slot comes. Slots are counted from the last byte heard: so boards keep in step, though one hears a
- * packet at its last byte and another, behind noise, only at the gap. What is due goes out at once, before the next event takes its
- * place. A reply that waited until now is given up: the master has not waited for it, and by now its slot may be another's.
+ * The reply is sent when its slot comes; slot 0 is now. Slots are counted from the last byte heard: so boards keep in step, though
+ * one hears a packet at its last byte and another, behind noise, only at the gap.
  */
 static void send_in_slot(struct dxl_reply reply)
 {
-    if (waiting.speaks && tracing)
-        fputs("given up: the status that waited\n", stderr);
     waiting = reply;
     waiting_until = last_byte + (int64_t)reply.slot * slot_time;
     if (line_clock() >= waiting_until)
         send_waiting();
+}
+
+static void give_up_waiting(void)
+{
+    if (waiting.speaks && tracing)
+        fputs("given up: the status that waited\n", stderr);
+    waiting.speaks = 0;
 }
 
 /* ---- what comes in ---- */
@@ -157,10 +155,19 @@ static struct dxl_reply carry_out(struct dxl_step step)
     return carried.reply;
 }
 
+/* The master's packets are all but the statuses of other boards. */
+static int is_instruction(struct dxl_step step)
+{
+    return step.kind == DXL_PACKET && packet[7] != DXL_INST_STATUS;
+}
+
+/* What waits gives way to a newer instruction, whichever device that is for, and to a newer reply: the master waits no more. */
 static void hear(struct dxl_step step)
 {
     trace_event(step);
     struct dxl_reply reply = carry_out(step);
+    if (reply.speaks || is_instruction(step))
+        give_up_waiting();
     if (reply.speaks)
         send_in_slot(reply);
 }
@@ -213,13 +220,8 @@ static int32_t signed_at(size_t address)
 /* Stands in for motor and sensor: moves towards the goal while torque is on, and stores the position in the table. */
 static void move_arm(void)
 {
-    int64_t way = (int64_t)signed_at(DXL_REG_GOAL_POSITION) - position;
-    if (way > ARM_STEP)
-        way = ARM_STEP;
-    if (way < -ARM_STEP)
-        way = -ARM_STEP;
     if (table[DXL_REG_TORQUE_ENABLE] != 0)
-        position += (int32_t)way;
+        position = arm_towards(signed_at(DXL_REG_GOAL_POSITION), position);
     accepted("dxl_measure", dxl_measure(table, sizeof table, position, 0));
 }
 
@@ -242,7 +244,7 @@ static int64_t earlier(int64_t a, int64_t b)
  */
 static void run(int64_t end)
 {
-    while (!stopping && line_clock() < end) {
+    while (!host_stopping && line_clock() < end) {
         int64_t slot = waiting.speaks ? waiting_until : LINE_NEVER;
         int64_t until = earlier(earlier(gap_end(), slot), earlier(next_tick, end));
         enum line_news news = line_wait(&line, until);
@@ -295,29 +297,11 @@ static void self_test(void)
     }
 }
 
-static void stop(int number)
-{
-    (void)number;
-    stopping = 1;
-}
-
-static void catch_signals(void)
-{
-    struct sigaction action;
-    memset(&action, 0, sizeof action);
-    action.sa_handler = stop;
-    if (sigaction(SIGINT, &action, NULL) != 0 || sigaction(SIGTERM, &action, NULL) != 0)
-        fail("catching signals");
-}
-
 static void open_line(void)
 {
     const char *failed = line_open(&line);
     if (failed != NULL)
         fail(failed);
-    printf("line: %s\n", line.path);
-    if (fflush(stdout) != 0)
-        fail("printing the line's name");
 }
 
 /* ---- options ---- */
@@ -431,10 +415,11 @@ int main(int argc, char **argv)
     self_test();
     if (self_test_only)
         return ENDED;
-    catch_signals();
+    if (host_catch_signals() != 0)
+        fail("catching signals");
     open_line();
     next_tick = line_clock();
     run(seconds > 0 ? next_tick + seconds * 1000000 : LINE_NEVER);
-    fprintf(stderr, "board: ended, %s\n", stopping ? "as a signal asked" : "its time is over");
+    fprintf(stderr, "board: ended, %s\n", host_stopping ? "as a signal asked" : "its time is over");
     return ENDED;
 }

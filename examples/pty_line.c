@@ -58,7 +58,8 @@ const char *line_open(struct line *line)
         return "opening the pseudo-terminal's other end";
     if (set_raw(line->other) != 0 || set_nonblocking(line->fd) != 0)
         return "setting the pseudo-terminal's mode";
-    return NULL;
+    printf("line: %s\n", line->path);
+    return fflush(stdout) == 0 ? NULL : "printing the line's name";
 }
 
 /* What is left until then, or NULL for no end. */

@@ -1,5 +1,5 @@
 /*
- * The line of the example board, and its clock: a pseudo-terminal where a real board has a UART and a timer. Firmware has its own
+ * The line of an example board, and its clock: a pseudo-terminal where a real board has a UART and a timer. Firmware has its own
  * in place of these calls.
  */
 #ifndef PTY_LINE_H
@@ -20,7 +20,7 @@ struct line {
 /* Microseconds by a clock that never goes back. */
 int64_t line_clock(void);
 
-/* Opens a line that passes every byte unchanged. Returns NULL, or what failed, with errno set. */
+/* Opens a line that passes every byte unchanged, and prints its name, 'line: PATH'. Returns NULL, or what failed, with errno set. */
 const char *line_open(struct line *line);
 
 enum line_news {

@@ -1,5 +1,5 @@
 #!/usr/bin/env python3
-"""A master for the example board: talks to it, shows each exchange in hex with what it means, and checks every reply.
+"""A master for the example boards: talks to one, shows each exchange in hex with what it means, and checks every reply.
 
 It has its own encoder, from the rules of the protocol, and computes the replies that it expects. What is sent (>) goes out in one
 write. Exit codes: 0 every reply is as expected, 1 one is not or the line fails, 2 a bad option.
@@ -288,6 +288,19 @@ def bulk(talk, slot):
     not_before(begin + slot, "the reply came before its slot")
 
 
+def give_way(talk, slot):
+    # Where slots last no time, both are answered.
+    if slot == 0:
+        return
+    other = 2 if talk.device != 2 else 3
+    read = packet(ALL, SYNC_READ, word(LAMP) + word(1) + bytes([other, talk.device]))
+    talk.say("Sync Read of the lamp, directly followed by a Ping", read + packet(talk.device, PING))
+    talk.hear("the Ping alone is answered", status(talk.device, 0, MODEL_AND_FIRMWARE))
+    talk.say("The same, followed by a Ping of another device, which is not there", read + packet(other, PING))
+    time.sleep(2 * slot)
+    talk.ping("Ping, after these slots")
+
+
 def talk_to(line, device, gap, slot):
     talk = Talk(line, device)
     greet(talk, slot)
@@ -299,6 +312,7 @@ def talk_to(line, device, gap, slot):
     stuffing(talk)
     sync(talk, slot)
     bulk(talk, slot)
+    give_way(talk, slot)
     talk.ping("Ping, the last one")
     rest = line.rest()
     if rest:
@@ -329,7 +343,7 @@ def options():
                         help="how long to wait for a reply (10)")
     parser.add_argument("--gap", type=micros, default=0, metavar="MICROSECONDS",
                         help="the board's gap: a reply that waits for it may not come earlier (0)")
-    parser.add_argument("--slot", type=micros, default=0, metavar="MICROSECONDS", help="the board's slot time, likewise (0)")
+    parser.add_argument("--slot", type=micros, default=0, metavar="MICROSECONDS", help="the board's slot time, likewise; 0: unknown (0)")
     return parser.parse_args()
 
 

@@ -8,18 +8,22 @@
 
 #include "mednukals.h"
 
-enum { GAP_MICROS = 1500, CHUNK = 64 };
+enum { GAP_MICROS = 1500, CHUNK = 64, OUT_BYTES = 4 * DXL_MIN_REPLY };
 
 /* What the library's calls use; the header says how. */
 static struct dxl_reader reader;
 static uint8_t packet[DXL_MAX_PACKET], body[DXL_MAX_BODY];
-static uint8_t table[DXL_TABLE_BYTES], status[DXL_MIN_REPLY];
+static uint8_t table[DXL_TABLE_BYTES];
 static struct dxl_registered registered;
+static const struct dxl_registered NONE_REGISTERED;
 
 static uint32_t taken; /* how many of the received bytes are taken from the ring, or passed over */
 static uint32_t speed; /* of the UART, in baud */
 
-static struct dxl_reply waiting; /* for its slot; silence: none waits */
+static uint8_t out[OUT_BYTES]; /* statuses that are due, one behind the other */
+static size_t n_out;
+
+static struct dxl_reply waiting; /* for a later slot; silence: none waits */
 static uint32_t waiting_since, waiting_for; /* microseconds */
 
 /* Written by the interrupt handlers. */
@@ -64,6 +68,12 @@ static const struct {
                  {DXL_REG_MIN_POSITION, DXL_SIZE_MIN_POSITION}};
 enum { N_ROM_ITEMS = sizeof ROM_ITEMS / sizeof ROM_ITEMS[0] };
 
+/* Not from 0: then the checksum of a store of zeros would be right. */
+static uint16_t store_checksum(const uint8_t bytes[STORE_BYTES])
+{
+    return dxl_crc16(0xFFFF, bytes, STORE_BYTES - 2);
+}
+
 /* The items one after the other, and their checksum. */
 static void save_rom(void)
 {
@@ -73,25 +83,36 @@ static void save_rom(void)
         memcpy(bytes + at, table + ROM_ITEMS[i].address, ROM_ITEMS[i].size);
         at += ROM_ITEMS[i].size;
     }
-    uint16_t sum = dxl_crc16(0, bytes, at);
+    uint16_t sum = store_checksum(bytes);
     bytes[at] = sum & 0xFF;
     bytes[at + 1] = (uint8_t)(sum >> 8);
     store_write(bytes);
 }
 
-/* If the store is not as save_rom left it, the table keeps its fresh values. */
-static void restore_rom(void)
+/* A Write that nobody sent: the library judges the value as it judges a master's. Returns whether the table has it now. */
+static int stored(uint8_t address, const uint8_t *value, size_t n)
+{
+    uint8_t write[3 + 4] = {DXL_INST_WRITE, address, 0};
+    memcpy(write + 3, value, n);
+    accepted(dxl_carry_out(table, sizeof table, NONE_REGISTERED, DXL_PACKET, table[DXL_REG_ID], write, 3 + n).refusal);
+    return memcmp(table + address, value, n) == 0;
+}
+
+/* Brings the items back into a fresh table. Returns 0 if the store is not as save_rom left it; some may be back by then. */
+static int restore_rom(void)
 {
     uint8_t bytes[STORE_BYTES];
     store_read(bytes);
-    uint16_t sum = dxl_crc16(0, bytes, STORE_BYTES - 2);
-    if (bytes[STORE_BYTES - 2] != (sum & 0xFF) || bytes[STORE_BYTES - 1] != sum >> 8 || bytes[0] > 252)
-        return;
+    uint16_t sum = store_checksum(bytes);
+    int good = bytes[STORE_BYTES - 2] == (sum & 0xFF) && bytes[STORE_BYTES - 1] == sum >> 8;
+    /* The goal position gets the min position, the last item, before that is stored: limits that leave it outside are refused. */
+    good = good && stored(DXL_REG_GOAL_POSITION, bytes + STORE_BYTES - 2 - DXL_SIZE_MIN_POSITION, DXL_SIZE_GOAL_POSITION);
     size_t at = 0;
     for (size_t i = 0; i < N_ROM_ITEMS; i++) {
-        memcpy(table + ROM_ITEMS[i].address, bytes + at, ROM_ITEMS[i].size);
+        good = good && stored(ROM_ITEMS[i].address, bytes + at, ROM_ITEMS[i].size);
         at += ROM_ITEMS[i].size;
     }
+    return good;
 }
 
 /* ---- what an instruction has changed ---- */
@@ -109,18 +130,55 @@ static int changed(const uint8_t *before, size_t address, size_t size)
     return memcmp(before + address, table + address, size) != 0;
 }
 
-/* The table before and after a call. A Reboot shows by what it does: torque is 0, and the goal is the min position. */
+/*
+ * The table before and after a call. Torque off comes first and torque on last: a Reboot also moves the goal to the min position,
+ * and the motor must not start towards it.
+ */
 static void act_on_changes(const uint8_t *before)
 {
+    int torque = table[DXL_REG_TORQUE_ENABLE] != 0;
+    int switched = changed(before, DXL_REG_TORQUE_ENABLE, DXL_SIZE_TORQUE_ENABLE);
+    if (switched && !torque)
+        motor_set_torque(0);
     if (changed(before, DXL_REG_GOAL_POSITION, DXL_SIZE_GOAL_POSITION))
         motor_set_goal(signed_at(DXL_REG_GOAL_POSITION));
-    if (changed(before, DXL_REG_TORQUE_ENABLE, DXL_SIZE_TORQUE_ENABLE))
-        motor_set_torque(table[DXL_REG_TORQUE_ENABLE] != 0);
+    if (switched && torque)
+        motor_set_torque(1);
     for (size_t i = 0; i < N_ROM_ITEMS; i++) {
         if (changed(before, ROM_ITEMS[i].address, ROM_ITEMS[i].size)) {
             save_rom();
             return;
         }
+    }
+}
+
+/* ---- replies ---- */
+
+/* A status that is due goes behind those that have not left yet. Where there is no room, these give way. */
+static void put_out(struct dxl_reply reply)
+{
+    if (sizeof out - n_out < DXL_MIN_REPLY)
+        n_out = 0;
+    n_out += accepted(dxl_status(reply, out + n_out, sizeof out - n_out));
+}
+
+/* The master's packets are all but the statuses of other boards. */
+static int is_instruction(struct dxl_step step)
+{
+    return step.kind == DXL_PACKET && packet[7] != DXL_INST_STATUS;
+}
+
+/* What waits gives way to a newer instruction, whichever device that is for, and to a newer reply: the master waits no more. */
+static void answer(struct dxl_step step, struct dxl_reply reply)
+{
+    if (reply.speaks || is_instruction(step))
+        waiting.speaks = 0;
+    if (reply.speaks && reply.slot == 0)
+        put_out(reply);
+    if (reply.speaks && reply.slot > 0) {
+        waiting = reply;
+        waiting_since = clock_micros();
+        waiting_for = (uint32_t)reply.slot * slot_micros();
     }
 }
 
@@ -137,11 +195,7 @@ static void hear(struct dxl_step step)
         carried = dxl_carry_out(table, sizeof table, registered, step.kind, step.id, body, 0);
     accepted(carried.refusal);
     registered = carried.registered;
-    if (carried.reply.speaks) { /* a reply that still waits gives way: the master has not waited for it */
-        waiting = carried.reply;
-        waiting_since = clock_micros();
-        waiting_for = (uint32_t)carried.reply.slot * slot_micros();
-    }
+    answer(step, carried.reply);
     act_on_changes(before);
 }
 
@@ -190,24 +244,35 @@ static size_t take_chunk(uint8_t chunk[CHUNK])
     return n;
 }
 
-/* All bytes are taken, none has come since the line became idle, and that is longer ago than a gap. */
+/* All bytes are taken, and none has come since the line became idle. */
+static int line_is_idle(void)
+{
+    return idle_at == taken && uart_received() == taken;
+}
+
+/* The line has been idle for longer than a gap. */
 static int gap_is_over(void)
 {
-    uint32_t at = idle_at, since = idle_time;
+    uint32_t since = idle_time;
     uint32_t silence = clock_micros() - since;
-    return at == taken && at == uart_received() && at == idle_at && silence > GAP_MICROS;
+    return line_is_idle() && silence > GAP_MICROS;
 }
 
 /* ---- what goes out ---- */
 
-/* The UART sends from status, which nothing else writes until it is sent. */
-static void send_waiting(void)
+/* The UART sends from out, which nothing else writes until all is sent. */
+static void send_due(void)
 {
-    size_t n = accepted(dxl_status(waiting, status, sizeof status));
+    if (waiting.speaks && clock_micros() - waiting_since >= waiting_for) {
+        put_out(waiting);
+        waiting.speaks = 0;
+    }
+    if (n_out == 0)
+        return;
     sending = 1;
     echoing = 1;
-    uart_send(status, n);
-    waiting.speaks = 0;
+    uart_send(out, n_out);
+    n_out = 0;
 }
 
 /* What came while the board was sending is its own echo. */
@@ -218,16 +283,10 @@ static void pass_echo(void)
     echoing = 0;
 }
 
-/* Its slot has come, and no byte is left that a newer packet could be in. */
-static int status_is_due(void)
-{
-    return waiting.speaks && taken == uart_received() && clock_micros() - waiting_since >= waiting_for;
-}
-
 /* A new speed begins when the status to the write of it has left with the old one. */
 static void follow_baud(void)
 {
-    if (speed != baud() && !waiting.speaks) {
+    if (speed != baud() && n_out == 0 && !waiting.speaks) {
         speed = baud();
         uart_set_baud(speed);
     }
@@ -260,26 +319,24 @@ void board_poll(void)
         bytes_came(chunk, n);
     else if (reader.count > 0 && gap_is_over())
         line_was_silent();
-    if (status_is_due())
-        send_waiting();
+    if (line_is_idle())
+        send_due();
 }
 
-/* A Reboot that nobody sent makes RAM what it is after a power cut: all fresh, and the goal at the min position just restored. */
 void board_start(void)
 {
-    static const struct dxl_registered none;
-    static const uint8_t reboot[] = {DXL_INST_REBOOT};
+    motor_set_torque(0);
     accepted(dxl_fresh(table, sizeof table));
-    restore_rom();
-    accepted(dxl_carry_out(table, sizeof table, none, DXL_PACKET, table[DXL_REG_ID], reboot, 1).refusal);
-    registered = none;
+    if (!restore_rom())
+        accepted(dxl_fresh(table, sizeof table)); /* all of it, whatever was back already */
+    registered = NONE_REGISTERED;
     reader.count = 0;
+    n_out = 0;
     waiting.speaks = 0;
     sending = 0;
     echoing = 0;
     taken = uart_received();
     speed = baud();
     uart_set_baud(speed);
-    motor_set_torque(0);
     motor_set_goal(signed_at(DXL_REG_GOAL_POSITION));
 }

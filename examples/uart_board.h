@@ -8,7 +8,7 @@
 #include <stddef.h>
 #include <stdint.h>
 
-/* ---- what the board's hardware offers; tests/c/uart_test.c simulates it ---- */
+/* ---- what the board's hardware offers; tests/c/uart_test.c and uart_pty.c simulate it ---- */
 
 enum { UART_RING = 256 }; /* a power of two */
 

@@ -308,6 +308,8 @@ struct dxl_step {
  *             n = dxl_unstuff(packet + 7, step.count - 9, body, sizeof body);
  *         struct dxl_carried carried = dxl_carry_out(table, sizeof table, registered, step.kind, step.id, body, (size_t)n);
  *         registered = carried.registered;
+ *         if (step.kind == DXL_PACKET && packet[7] != DXL_INST_STATUS)
+ *             waiting.speaks = 0;               // an instruction: the master waits for no earlier reply
  *         if (carried.reply.speaks) {
  *             waiting = carried.reply;          // in the place of one that still waits
  *             if (waiting.slot == 0)
@@ -546,6 +548,10 @@ struct dxl_salvaged dxl_log_salvage(const uint8_t *log, size_t n, uint8_t *out, 
 
 /*
  * Fills a control table as it comes from the factory: every register has its fresh value, undefined bytes are 0.
+ *
+ * The registered write is the caller's. Where the table has been in use, make that all 0 too: Action would carry it out on the
+ * fresh table. A board with a model number or a firmware version of its own stores it after this call, in bytes 0 and 1 or in
+ * byte 6: no other call changes these bytes, and Ping and Read answer them.
  *
  * Returns 0, or -21 if n is not 136; then the table stays as it was.
  */

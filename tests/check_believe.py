@@ -1,7 +1,7 @@
 """Holds docs/BELIEVE.md to the tree: usage check_believe.py [--write], in the repository's root; --write puts the counts right
 
 Every file of definitions has its row there, with its count of lines, and every row has its file. No file that is to be believed
-names one that is said to be inside.
+names one that is said to be inside. Files that apply theorems to data have no row, and no other file names one.
 """
 import re
 import sys
@@ -11,6 +11,12 @@ from faults import report
 
 PAGE = Path("docs/BELIEVE.md")
 INSIDE = "### Inside"
+
+
+def applies(name):
+    """Whether crate/specs/File.antt applies theorems to data."""
+    crate, _, file = name.split("/")
+    return file == "Applied.antt" or crate.endswith("_applications")
 
 
 def module(name):
@@ -25,10 +31,14 @@ def main():
     rows = re.findall(row, text, flags=re.M)
     inside = {name for name, _ in re.findall(row, text[text.index(INSIDE):], flags=re.M)}
     listed = {name: int(lines) for name, lines in rows}
-    there = {}
+    there, applied = {}, set()
     for path in Path("crates").glob("*/specs/*.antt"):
         if path.name != "Lib.antt":
-            there[str(path.relative_to("crates"))] = len(path.read_text(encoding="utf-8").splitlines())
+            name = str(path.relative_to("crates"))
+            if applies(name):
+                applied.add(name)
+            else:
+                there[name] = len(path.read_text(encoding="utf-8").splitlines())
 
     if "--write" in sys.argv[1:]:
         text = re.sub(row, lambda m: f"| `{m.group(1)}` | {there.get(m.group(1), m.group(2))} |", text, flags=re.M)
@@ -42,10 +52,11 @@ def main():
         for name in sorted(there.keys() & listed.keys())
         if there[name] != listed[name]
     ]
-    for name in sorted(there.keys() - inside):
+    for name in sorted(there.keys()):
         uses = [line for line in (Path("crates") / name).read_text(encoding="utf-8").splitlines() if line.startswith("use Rattle·")]
-        named = {other for other in inside for line in uses if line[len("use Rattle·"):].startswith(module(other))}
-        faults += [f"{name} is to be believed and names {other}" for other in sorted(named)]
+        barred = applied if name in inside else applied | inside
+        named = {other for other in barred for line in uses if line[len("use Rattle·"):].startswith(module(other))}
+        faults += [f"{name} {'is inside' if name in inside else 'is to be believed'} and names {other}" for other in sorted(named)]
     return report("believe", faults, f"{len(there)} files of definitions with {sum(there.values())} lines, each with its row")
 
 

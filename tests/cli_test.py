@@ -556,11 +556,11 @@ class Words(Folder):
 
     def test_sample(self):
         """What README.md shows."""
-        words = ["examples/capture.bin", "examples/ping.bin"]
+        words = ["examples/capture.bin", "examples/exchange.bin"]
         self.assertEqual(run("log", "write", self.out, *words), (DONE, "", ""))
         check = run("log", "check", self.out)[1].replace(str(self.out), "shift.log")
         last = run("log", "last", self.out, 2)[1]
-        sample = ("$ dxl log write shift.log examples/capture.bin examples/ping.bin\n$ dxl log check shift.log\n" + check
+        sample = ("$ dxl log write shift.log examples/capture.bin examples/exchange.bin\n$ dxl log check shift.log\n" + check
                   + "$ dxl log last shift.log 2\n" + last)
         self.assertIn(sample, Path("README.md").read_text(encoding="utf-8"))
         cut, whole = self.file("cut.log", self.out.read_bytes()[:-1]), self.file("whole.log")

@@ -1,8 +1,8 @@
-"""Runs the example board and its master: usage demo_test.py BOARD REFUSING_BOARD, in the repository's root
+"""Runs the example boards and their master: usage demo_test.py BOARD REFUSING_BOARD UART_PTY, in the repository's root
 
-The talk of the two, the demo's script, and what each of them does where something is wrong. Replies are waited for with generous
-bounds, and waits of the board are checked from below: a busy machine makes this slower and nothing else. No test leaves a process
-running. REFUSING_BOARD is the board linked with tests/c/refusing.c.
+The talk of master and board, the demo's script, and what each of them does where something is wrong. Replies are waited for with
+generous bounds, and waits of a board are checked from below: a busy machine makes this slower and nothing else. No test leaves a
+process running. REFUSING_BOARD is the board linked with tests/c/refusing.c, UART_PTY examples/uart_board.c on a pseudo-terminal.
 """
 import os
 import re
@@ -18,7 +18,7 @@ from pathlib import Path
 
 import suite
 
-BOARD, REFUSING_BOARD = sys.argv[1:] if len(sys.argv) == 3 else ("", "")
+BOARD, REFUSING_BOARD, UART_PTY = sys.argv[1:] if len(sys.argv) == 4 else ("", "", "")
 TALK = [sys.executable, "examples/talk.py"]
 DEMO = ["sh", "examples/demo.sh"]
 PATIENCE = 9  # seconds for what is done at once
@@ -69,6 +69,9 @@ SHOWN = """
 > FF FF FD 00 01 0A 00 03 14 00 FF FF FD FD FF 23 83
 < FF FF FD 00 01 05 00 55 00 01 56 A1  in slot 1: the lamp is on
 < FF FF FD 00 01 05 00 55 00 00 53 21  in slot 1: the lamp is off
+> FF FF FD 00 FE 09 00 82 41 00 01 00 02 01 0D AC FF FF FD 00 01 03 00 01 19 4E
+< FF FF FD 00 01 07 00 55 00 06 04 26 65 5D  the Ping alone is answered
+> FF FF FD 00 FE 09 00 82 41 00 01 00 02 01 0D AC FF FF FD 00 02 03 00 01 19 72
 """.strip().splitlines()
 
 
@@ -89,7 +92,10 @@ def read_for(fd, count):
     """So many bytes, or those that come while patience lasts."""
     deadline, got = time.monotonic() + PATIENCE, b""
     while len(got) < count and select.select([fd], [], [], max(0, deadline - time.monotonic()))[0]:
-        got += os.read(fd, count - len(got))
+        part = os.read(fd, count - len(got))
+        if not part:
+            break
+        got += part
     return got
 
 
@@ -146,14 +152,22 @@ class TalkTest(unittest.TestCase):
         for wanted in SHOWN:
             self.assertIn(wanted, lines, "it is not shown, or not in its place")
 
+    def talked(self, board, *waits):
+        """The master talks to the board, which has to wait as long as that, and a signal ends it."""
+        code, output, errors = run(*TALK, *waits, board.path)
+        self.assertEqual((code, errors), (0, ""))
+        self.shown_in_order(output)
+        self.assertRegex(output, r"\ntalk: \d+ exchanges, each reply as expected\n$")
+        self.assertEqual(board.end(signal.SIGTERM), 0)
+        return board.said()
+
     def test_board_and_master(self):
         with Board("--gap", "200000", "--slot", "100000") as board:
-            code, output, errors = run(*TALK, "--gap", "200000", "--slot", "100000", board.path)
-            self.assertEqual((code, errors), (0, ""))
-            self.shown_in_order(output)
-            self.assertRegex(output, r"\ntalk: \d+ exchanges, each reply as expected\n$")
-            self.assertEqual(board.end(signal.SIGTERM), 0)
-            self.assertEqual(board.said(), "board: ended, as a signal asked\n")
+            self.assertEqual(self.talked(board, "--gap", "200000", "--slot", "100000"), "board: ended, as a signal asked\n")
+
+    def test_uart_board_and_master(self):
+        with Board(program=UART_PTY) as board:
+            self.assertEqual(self.talked(board, "--gap", "1500", "--slot", "6000"), "uart_pty: ended, as a signal asked\n")
 
     def test_master_notices_an_early_reply(self):
         with Board("--gap", "1000", "--slot", "1000") as board:
@@ -348,6 +362,22 @@ class BoardTest(unittest.TestCase):
             self.assertEqual((code, errors), (0, ""))
             self.assertIn("--gap", output)
 
+    def test_options_of_the_uart_board(self):
+        bad = [["--seconds", word] for word in ["0", "86401", "x", "", "-5", "1.5", "123456"]]
+        bad += [["--seconds"], ["--seconds", "1", "1"], ["--nonsense"], ["1"], [""]]
+        for words in bad:
+            with self.subTest(words):
+                code, output, errors = run(UART_PTY, *words)
+                self.assertEqual((code, output), (2, ""))
+                self.assertRegex(errors, r"^uart_pty: '\S*': .* \(--help says more\)\n$")
+        for word in ["--help", "-h"]:
+            code, output, errors = run(UART_PTY, word)
+            self.assertEqual((code, errors), (0, ""))
+            self.assertIn("uart_pty [--seconds N]\n", output)
+        code, output, errors = run(UART_PTY, "--seconds", "1")
+        self.assertEqual((code, errors), (0, "uart_pty: ended, its time is over\n"))
+        self.assertRegex(output, r"^line: /dev/\S+\n$")
+
     def test_self_test(self):
         self.assertEqual(run(BOARD, "--self-test"), (0, "Ping: FF FF FD 00 01 03 00 01 19 4E\n"
                                                         "status: FF FF FD 00 01 07 00 55 00 06 04 26 65 5D\n", ""))
@@ -375,6 +405,8 @@ class DemoTest(unittest.TestCase):
     def test_demo(self):
         code, output, errors = run(*DEMO, BOARD)
         self.assertEqual((code, errors), (0, "board: ended, as a signal asked\n"))
+        shown = re.search(r"\n```\n(A damaged Ping.*?)```\n", Path("README.md").read_text(encoding="utf-8"), flags=re.S)
+        self.assertIn(shown.group(1), output)
         self.assertIn("each reply as expected", output)
         self.assertTrue(output.endswith("demo: the board is ended; every reply was as expected\n"))
 
@@ -402,7 +434,7 @@ def too_long(*_):
 def main():
     signal.signal(signal.SIGALRM, too_long)
     signal.alarm(WHOLE)
-    return suite.run(usage=None if BOARD else "demo_test.py BOARD REFUSING_BOARD", done="demo: board and master")
+    return suite.run(usage=None if BOARD else "demo_test.py BOARD REFUSING_BOARD UART_PTY", done="demo: boards and master")
 
 
 if __name__ == "__main__":

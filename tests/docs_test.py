@@ -1,7 +1,7 @@
 """Holds the documents to the tree: usage docs_test.py CC ARCHIVE, in the repository's root
 
 Links lead to files, and commands of make to targets. The code that docs/INTEGRATING.md shows stands so in a file that the gate
-runs. The program in README.md is compiled and run, and prints what its comments say.
+runs, and its sizes are those of the archive. The program in README.md is compiled and run, and prints what its comments say.
 """
 import re
 import subprocess
@@ -17,6 +17,7 @@ CC, ARCHIVE = sys.argv[1:] if len(sys.argv) == 3 else ("", "")
 PAGES = [Path("README.md"), Path("CHANGELOG.md"), *sorted(Path("docs").glob("*.md"))]
 SHOWN = [Path("examples", name) for name in ("uart_board.c", "uart_board.h", "segment.c", "old_boards.c")]
 SHOWN += [Path("tests/c/empty.cpp")]
+UART_BOARD = [Path("examples", name) for name in ("uart_board.c", "uart_pty.c", "pty_line.c", "host.c")]
 PATIENCE = 60  # seconds for one command
 
 
@@ -54,6 +55,23 @@ class Documents(unittest.TestCase):
         for code in shown:
             parts = [code, textwrap.indent(textwrap.dedent(code), "    ")]
             self.assertTrue(any(part in source for part in parts for source in sources), code)
+
+    def linked(self):
+        """How many bytes of the archive are in the example board, linked without what it does not call."""
+        with tempfile.TemporaryDirectory() as folder:
+            words = [CC, "-O2", "-Iinclude", f"-Wl,--gc-sections,-Map={folder}/map", "-o", f"{folder}/board", *UART_BOARD, ARCHIVE]
+            subprocess.run(words, check=True, timeout=PATIENCE)
+            kept = text(Path(folder, "map")).split("Linker script and memory map")[1]
+        return sum(int(size, 16) for size in re.findall(r"^ \.(?:text|rodata)\S*\s+0x\w+\s+0x(\w+) \S*\.a\(capi", kept, flags=re.M))
+
+    def test_sizes_of_integrating(self):
+        page = text(Path("docs/INTEGRATING.md"))
+        row = re.search(r"^\| code \| about (\S+), and (\S+) more with .* about (\S+) stay \|$", page, flags=re.M)
+        size = subprocess.run(["size", ARCHIVE], capture_output=True, check=True, timeout=PATIENCE, text=True).stdout
+        sizes = [int(line.split()[0]) for line in size.splitlines()[1:]] + [self.linked()]
+        self.assertEqual(len(sizes), 3)
+        for said, bytes_ in zip(row.groups(), sizes):
+            self.assertAlmostEqual(int(said.replace(",", "")), bytes_, delta=0.005 * bytes_, msg="make memory prints the sizes")
 
     def test_program_of_readme(self):
         programs = [code for code in blocks(Path("README.md"), "c") if "int main" in code]

@@ -110,8 +110,9 @@ class Command(unittest.TestCase):
             self.assertIn(f"{reason}\n", errors)
 
     def test_samples(self):
-        self.assertEqual(make("run")[:2], (0, "events in examples/capture.bin:\npacket 1 1 0\ncrc 1\ncrc 2\npacket 1 2 4\n"
-                                              "packet 2 1 0\npacket 1 3 6\nend 88\n"))
+        sample = "packet 1 1 0\ncrc 1\ncrc 2\npacket 1 2 4\npacket 2 1 0\npacket 1 3 6\nend 88\n"
+        self.assertEqual(make("run")[:2], (0, "events in examples/capture.bin:\n" + sample))
+        self.assertIn(f"\n```\n{sample}```\n", Path("README.md").read_text(encoding="utf-8"))
         self.assertEqual(make("checksum")[:2], (0, "checksum and byte count of examples/ping.bin:\n4e19 8\n"))
 
     def test_names(self):

@@ -234,6 +234,32 @@ class Tree:
         for place in sorted(self.statements.statements.keys() - set().union(*promised.values()) | self.statements.theorems - by_public):
             yield f"no function promises {place[2]} of {self.statements.statements[place]}"
 
+    def unapplied(self):
+        """Each theorem that an export promises is applied to data in a proof, and each of its fields is used there."""
+        cited = set()
+        for crate, name, public, head, _, path in self.functions:
+            if crate.startswith("capi") and public:
+                cited |= set(self.statements.cited(read(path), head)) & self.statements.theorems
+        proofs = {}
+        for place, theorems in self.statements.applications.items():
+            texts = [read(path) for path in sorted(Path("crates", place[0], "proofs").glob("*.antt"))]
+            texts = [text for text in texts if re.search(rf": {place[2]}$", text, flags=re.M)]
+            if not texts:
+                yield f"{place[2]} of crates/{place[0]} is proved nowhere"
+            for theorem in theorems:
+                proofs.setdefault(theorem, []).extend(texts)
+        for theorem in sorted(cited):
+            if theorem[2] in COMPUTED:
+                continue
+            parts = self.statements.reached([theorem])
+            text = "\n".join("\n".join(texts) for applied, texts in proofs.items() if applied in parts)
+            if not any(theorem in self.statements.reached([applied]) or applied in parts for applied in proofs):
+                yield f"{theorem[2]} of crates/{theorem[0]} has no application"
+                continue
+            for place, field in self.statements.applied_fields(theorem):
+                if not re.search(rf"[ (]\.{re.escape(field)}(?![\w-])", text):
+                    yield f"no application of {theorem[2]} uses {place[2]}.{field} of crates/{place[0]}"
+
     def page(self):
         out = [HEAD.strip(), ""]
         for letter, title in self.titles.items():
@@ -245,12 +271,13 @@ class Tree:
                 cells = [joined(self.by_rule[kind][rule]) for kind in ("definition", "promise", "edit", "test")]
                 out.append(f"| {rule} | " + " | ".join(cells) + " |")
             out.append("")
-        out += [THEOREMS.strip(), "", "| Theorem | Stands in | Promised by |", "|---|---|---|"]
+        out += [THEOREMS.strip(), "", "| Theorem | Stands in | Promised by | Applied |", "|---|---|---|---|"]
         promised = self.promised()
         for place in sorted(self.statements.theorems):
             crate, file, name = place
             exports = [who.partition("::")[2] for who, places in promised.items() if place in places and who.startswith("capi")]
-            out.append(f"| `{name}` | `{crate}/{file}` | {', '.join(f'`{export}`' for export in exports) or '–'} |")
+            applied = sorted({f"`{use[0]}/{use[1]}`" for use, theorems in self.statements.applications.items() if place in theorems})
+            out.append(f"| `{name}` | `{crate}/{file}` | {', '.join(f'`{export}`' for export in exports) or '–'} | {', '.join(applied) or '–'} |")
         return "\n".join(out).rstrip() + "\n"
 
 
@@ -278,6 +305,9 @@ def joined(places):
                      for file, names in by_file.items()) or "–"
 
 
+# theorems that are applications themselves: tables of worked examples, which the checker computes
+COMPUTED = {"CasesHold", "SalvageCases"}
+
 HEAD = """
 # Promises
 
@@ -294,13 +324,13 @@ From each rule of [RULES.md](RULES.md) to its definition, the functions that pro
 THEOREMS = """
 ## Theorems
 
-Statements in `specs/` that are not about one call's arguments, and the exports that promise them. The gate fails where any statement in `specs/` is promised by no function.
+Statements in `specs/` that are not about one call's arguments, the exports that promise them, and where they are applied to data; a part of another theorem is applied with that. The gate fails where any statement in `specs/` is promised by no function, and where a theorem that an export names, or a field of it, is applied nowhere.
 """
 
 
 def main():
     tree = Tree()
-    faults = tree.faults + list(unfit_edits()) + list(tree.missing()) + list(tree.weak_contracts()) + list(tree.unpromised())
+    faults = tree.faults + list(unfit_edits()) + list(tree.missing()) + list(tree.weak_contracts()) + list(tree.unpromised()) + list(tree.unapplied())
     page = tree.page()
     if "--check" in sys.argv[1:]:
         if not PAGE.exists() or read(PAGE) != page:

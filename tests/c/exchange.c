@@ -43,6 +43,8 @@ static void hear(struct dxl_step step)
         n = dxl_unstuff(packet + 7, step.count - 9, body, sizeof body);
     struct dxl_carried carried = dxl_carry_out(table, sizeof table, registered, step.kind, step.id, body, (size_t)n);
     registered = carried.registered;
+    if (step.kind == DXL_PACKET && packet[7] != DXL_INST_STATUS)
+        waiting.speaks = 0;
     if (carried.reply.speaks) {
         waiting = carried.reply;
         if (waiting.slot == 0)
@@ -221,6 +223,89 @@ static void changed_limits(void)
            "the dropped write is not all 0", 0);
 }
 
+/* An instruction that device 1 hears; whether it replies with these bytes and no error. */
+static int answers(uint8_t *other, struct dxl_registered *held, const uint8_t *said, size_t n, const uint8_t *data, size_t n_data)
+{
+    struct dxl_carried carried = dxl_carry_out(other, DXL_TABLE_BYTES, *held, DXL_PACKET, 1, said, n);
+    *held = carried.registered;
+    return carried.refusal == 0 && carried.reply.speaks && carried.reply.error == 0 && carried.reply.count == n_data
+           && memcmp(carried.reply.bytes, data, n_data) == 0;
+}
+
+/* A model number and a firmware version that a board stores after dxl_fresh: no reset changes them, and Ping answers them. */
+static void own_model(void)
+{
+    static const uint8_t resets[][2] = {
+        {DXL_INST_REBOOT}, {DXL_INST_FACTORY_RESET, 0x02}, {DXL_INST_FACTORY_RESET, 0x01}, {DXL_INST_FACTORY_RESET, 0xFF}};
+    const uint8_t ping[] = {DXL_INST_PING}, own[] = {0x34, 0x12, 7};
+    const uint8_t read[] = {DXL_INST_READ, DXL_REG_MODEL_NUMBER, 0, DXL_SIZE_MODEL_NUMBER, 0};
+    struct dxl_registered held = {0};
+    uint8_t other[DXL_TABLE_BYTES];
+    dxl_fresh(other, sizeof other);
+    memcpy(other + DXL_REG_MODEL_NUMBER, own, DXL_SIZE_MODEL_NUMBER);
+    other[DXL_REG_FIRMWARE_VERSION] = own[2];
+    for (size_t i = 0; i < 4; i++) {
+        expect(answers(other, &held, resets[i], i == 0 ? 1 : 2, own, 0), "a reset is refused", 0);
+        expect(answers(other, &held, ping, sizeof ping, own, sizeof own), "Ping does not answer the board's own model", 0);
+        expect(answers(other, &held, read, sizeof read, own, 2), "Read does not answer the board's own model number", 0);
+    }
+}
+
+/* dxl_fresh does not know of the registered write: its caller makes that 0. */
+static void fresh_in_mid_life(void)
+{
+    const uint8_t goal[] = {DXL_INST_REG_WRITE, DXL_REG_GOAL_POSITION, 0, 0, 2, 0, 0}, action[] = {DXL_INST_ACTION};
+    struct dxl_registered held = {0};
+    uint8_t other[DXL_TABLE_BYTES];
+    for (int cleared = 0; cleared < 2; cleared++) {
+        dxl_fresh(other, sizeof other);
+        expect(answers(other, &held, goal, sizeof goal, goal, 0), "Reg Write is refused", 0);
+        dxl_fresh(other, sizeof other);
+        if (cleared)
+            memset(&held, 0, sizeof held);
+        expect(answers(other, &held, action, sizeof action, action, 0) == !cleared, "Action after dxl_fresh", 0);
+        expect(other[DXL_REG_GOAL_POSITION + 1] == (cleared ? 0 : 2), "the goal position after dxl_fresh and Action", 0);
+    }
+}
+
+/* A Reboot that was carried out is told by the event and its packet, as docs/INTEGRATING.md says. */
+static void reboots(void)
+{
+    static const struct {
+        uint8_t id, instruction, params, damage;
+    } said[] = {{1, DXL_INST_REBOOT, 0, 0}, {DXL_BROADCAST_ID, DXL_INST_REBOOT, 0, 0}, {2, DXL_INST_REBOOT, 0, 0},
+                {1, DXL_INST_REBOOT, 1, 0}, {1, DXL_INST_REBOOT, 0, 1},                {1, DXL_INST_PING, 0, 0}};
+    static const struct dxl_registered none;
+    const uint8_t params[] = {0};
+    uint8_t bytes[16];
+    registered = none;
+    dxl_fresh(table, sizeof table);
+    for (size_t i = 0; i < sizeof said / sizeof said[0]; i++) {
+        table[DXL_REG_LAMP] = 1;
+        int64_t n = dxl_encode(said[i].id, said[i].instruction, params, said[i].params, bytes, sizeof bytes, 0);
+        expect(n > 0, "a packet is refused", 0);
+        bytes[n - 1] ^= said[i].damage;
+        struct dxl_step step = dxl_reader_feed(&reader, bytes, (size_t)n, packet);
+        int told = step.kind == DXL_PACKET && step.count == 10 && packet[7] == DXL_INST_REBOOT
+                   && (step.id == table[DXL_REG_ID] || step.id == DXL_BROADCAST_ID);
+        hear(step);
+        line_was_silent();
+        expect(told == (table[DXL_REG_LAMP] == 0), "a Reboot is told wrongly", 0);
+    }
+}
+
+/* A status that waits for a later slot gives way to an instruction, whichever device that is for. */
+static void gives_way(void)
+{
+    static const uint8_t ping_of_2[] = {0xFF, 0xFF, 0xFD, 0x00, 0x02, 0x03, 0x00, 0x01, 0x19, 0x72};
+    static const uint8_t status_of_2[] = {0xFF, 0xFF, 0xFD, 0x00, 0x02, 0x04, 0x00, 0x55, 0x00, 0x29, 0x0C};
+    bytes_came(line + sizeof line - 10, 10);
+    bytes_came(status_of_2, sizeof status_of_2);
+    expect(waiting.speaks, "a reply gives way to another device's status", 0);
+    bytes_came(ping_of_2, sizeof ping_of_2);
+    expect(!waiting.speaks, "a reply does not give way to a newer instruction", 0);
+}
+
 /* Every refusal once; nothing else changes. */
 static void refusals(void)
 {
@@ -283,6 +368,10 @@ int main(void)
     in_two_calls();
     lent_replies();
     changed_limits();
+    own_model();
+    fresh_in_mid_life();
+    reboots();
+    gives_way();
     refusals();
     if (failures != 0)
         return 1;

@@ -36,8 +36,9 @@ static uint8_t sent[MOST];
 static size_t n_sent;
 static int64_t sent_at; /* when it began to send last, and with which speed */
 static uint32_t sent_with;
-static int torque, fault;
-static int32_t goal, position;
+static char motor[256]; /* what the motor was told, in order */
+static int fault;
+static int32_t position;
 static uint8_t store[STORE_BYTES];
 static unsigned stores;
 static jmp_buf faulted;
@@ -110,14 +111,20 @@ uint8_t motor_errors(void)
     return 0;
 }
 
+static void tell_motor(const char *what, int number)
+{
+    size_t at = strlen(motor);
+    snprintf(motor + at, sizeof motor - at, "%s%s %d", at > 0 ? ", " : "", what, number);
+}
+
 void motor_set_torque(int on)
 {
-    torque = on;
+    tell_motor("torque", on);
 }
 
 void motor_set_goal(int32_t to)
 {
-    goal = to;
+    tell_motor("goal", (int)to);
 }
 
 void store_read(uint8_t bytes[STORE_BYTES])
@@ -206,13 +213,37 @@ static void write_byte(uint8_t id, uint8_t address, uint8_t value)
     instruct(id, DXL_INST_WRITE, params, sizeof params);
 }
 
+/* The statuses that the board has to have sent, and no other byte. */
+static uint8_t wanted[MOST];
+static size_t n_wanted;
+
+static void want_status(uint8_t id, uint8_t error, const uint8_t *data, size_t n)
+{
+    uint8_t params[16] = {error};
+    memcpy(params + 1, data, n);
+    int64_t count = dxl_encode(id, DXL_INST_STATUS, params, n + 1, wanted, sizeof wanted, n_wanted);
+    expect(count > 0, "the wanted status is refused");
+    n_wanted += (size_t)count;
+}
+
+static void expect_sent(void)
+{
+    expect(n_sent == n_wanted && memcmp(sent, wanted, n_sent) == 0, "what was sent is not what is wanted");
+    n_sent = n_wanted = 0;
+}
+
 static void expect_status(uint8_t id, uint8_t error, const uint8_t *data, size_t n)
 {
-    uint8_t params[16] = {error}, wanted[64];
-    memcpy(params + 1, data, n);
-    int64_t count = dxl_encode(id, DXL_INST_STATUS, params, n + 1, wanted, sizeof wanted, 0);
-    expect(count > 0 && n_sent == (size_t)count && memcmp(sent, wanted, n_sent) == 0, "the status is not the wanted one");
-    n_sent = 0;
+    want_status(id, error, data, n);
+    expect_sent();
+}
+
+static void expect_motor(const char *told)
+{
+    if (strcmp(motor, told) != 0)
+        fprintf(stderr, "uart: the motor was told '%s', and not '%s'\n", motor, told);
+    expect(strcmp(motor, told) == 0, "what the motor was told");
+    motor[0] = '\0';
 }
 
 static const uint8_t FRESH_PING[] = {0x06, 0x04, 0x26}; /* model number and firmware version */
@@ -232,7 +263,7 @@ static void power_up(const char *name)
     idle_due = sent_due = -1;
     busy_until = now;
     echo_broken = fault = 0;
-    torque = 1;
+    motor[0] = '\0';
     board_start();
 }
 
@@ -247,7 +278,7 @@ static void forget_store(void)
 static void test_ping(int64_t period)
 {
     power_up("Ping");
-    expect(torque == 0, "the motor is not let go at the start");
+    expect_motor("torque 0, goal 0");
     instruct(1, DXL_INST_PING, NOTHING, 0);
     run(20000, period);
     expect_ping_answer(1);
@@ -268,17 +299,19 @@ static void test_gap(void)
     expect(sent_at - busy_until < 2500 * NANOS, "the gap is told late");
 }
 
-/* Several packets at once: their master has not waited, and gets the newest status only. */
-static void test_newest_only(void)
+static const uint8_t READ_ID[] = {DXL_REG_ID, 0, 1, 0}, ONE[] = {1};
+
+/* Statuses that are due go out in order, though their master has not waited. */
+static void test_in_order(void)
 {
     const uint8_t promise[] = {0xFF, 0xFF, 0xFD, 0x00, 0x07, 0x00, 0x04}, zeros[60] = {0};
-    const uint8_t read[] = {DXL_REG_ID, 0, 1, 0}, one[] = {1};
     power_up("two packets that come out at the gap");
     say(promise, sizeof promise);
     instruct(1, DXL_INST_PING, NOTHING, 0);
-    instruct(1, DXL_INST_READ, read, sizeof read);
+    instruct(1, DXL_INST_READ, READ_ID, sizeof READ_ID);
     run(30000, 100);
-    expect_status(1, 0, one, 1);
+    want_status(1, 0, FRESH_PING, sizeof FRESH_PING);
+    expect_status(1, 0, ONE, 1);
 
     power_up("a packet inside a damaged one");
     const uint8_t damaged[] = {0xFF, 0xFF, 0xFD, 0x00, 0x01, 0x0D, 0x00, 0x03};
@@ -286,15 +319,47 @@ static void test_newest_only(void)
     instruct(1, DXL_INST_PING, NOTHING, 0);
     say(zeros, 2);
     run(20000, 100);
+    want_status(1, DXL_ERROR_CHECKSUM, NOTHING, 0);
     expect_ping_answer(1);
 
     power_up("more than one chunk for a turn of the loop");
     instruct(1, DXL_INST_PING, NOTHING, 0);
     say(zeros, sizeof zeros);
-    instruct(1, DXL_INST_READ, read, sizeof read);
+    instruct(1, DXL_INST_READ, READ_ID, sizeof READ_ID);
     pass_until(busy_until + 200 * NANOS);
     run(20000, 100);
-    expect_status(1, 0, one, 1);
+    want_status(1, 0, FRESH_PING, sizeof FRESH_PING);
+    expect_status(1, 0, ONE, 1);
+}
+
+/* However fast the loop is, the board does not speak into what the master sends. */
+static void test_idle_line(void)
+{
+    const uint8_t damaged[] = {0xFF, 0xFF, 0xFD, 0x00, 0x01, 0x03, 0x00, 0x01, 0x19, 0x4F};
+    power_up("a damaged Ping, and a good one right behind it");
+    say(damaged, sizeof damaged);
+    instruct(1, DXL_INST_PING, NOTHING, 0);
+    run(20000, 20);
+    want_status(1, DXL_ERROR_CHECKSUM, NOTHING, 0);
+    expect_ping_answer(1);
+    expect(sent_at - busy_until >= byte_time(), "the line is not idle yet");
+}
+
+/* More statuses than there is room for: the newest are sent. */
+static void test_many(void)
+{
+    const uint8_t promise[] = {0xFF, 0xFF, 0xFD, 0x00, 0x07, 0x00, 0x04};
+    power_up("more replies than there is room for");
+    say(promise, sizeof promise);
+    for (int i = 0; i < 50; i++)
+        instruct(1, DXL_INST_PING, NOTHING, 0);
+    instruct(1, DXL_INST_READ, READ_ID, sizeof READ_ID);
+    run((busy_until - now) / NANOS + 50000, 100);
+    size_t pings = n_sent / 14; /* bytes of each */
+    expect(pings > 0 && pings < 50, "the board has sent as much as was asked of it, or nothing");
+    for (size_t i = 0; i < pings; i++)
+        want_status(1, 0, FRESH_PING, sizeof FRESH_PING);
+    expect_status(1, 0, ONE, 1);
 }
 
 /* The loop stands still for longer than the gap while the bytes of one packet come: that is no gap. */
@@ -312,10 +377,12 @@ static void test_late_loop(void)
     expect_ping_answer(1);
 }
 
+/* A Sync Read in which the board's entry is the third. */
+static const uint8_t THIRD[] = {DXL_REG_ID, 0, 1, 0, 7, 9, 1};
+
 static void test_slots(void)
 {
-    const uint8_t list[] = {DXL_REG_ID, 0, 1, 0, 7, 9, 1};
-    const uint8_t seven[] = {7}, nine[] = {9}, one[] = {1};
+    const uint8_t seven[] = {7}, nine[] = {9};
     power_up("slots");
     instruct(DXL_BROADCAST_ID, DXL_INST_PING, NOTHING, 0);
     int64_t end = busy_until;
@@ -323,7 +390,7 @@ static void test_slots(void)
     expect_ping_answer(1);
     expect(sent_at - end >= 6000 * NANOS && sent_at - end < 7000 * NANOS, "Ping to all: not in slot 1");
 
-    instruct(DXL_BROADCAST_ID, DXL_INST_SYNC_READ, list, sizeof list);
+    instruct(DXL_BROADCAST_ID, DXL_INST_SYNC_READ, THIRD, sizeof THIRD);
     end = busy_until;
     run((end - now) / NANOS + 1000, 100);
     uint8_t other[16];
@@ -335,8 +402,31 @@ static void test_slots(void)
         run(6000, 100);
     }
     run(10000, 100);
-    expect_status(1, 0, one, 1);
+    expect_status(1, 0, ONE, 1);
     expect(sent_at - end >= 13000 * NANOS && sent_at - end < 15000 * NANOS, "Sync Read: not in slot 2");
+}
+
+/* A status that waits for a later slot gives way to what the master says next. */
+static void test_gives_way(void)
+{
+    power_up("a newer reply");
+    instruct(DXL_BROADCAST_ID, DXL_INST_SYNC_READ, THIRD, sizeof THIRD);
+    instruct(1, DXL_INST_PING, NOTHING, 0);
+    run(40000, 100);
+    expect_ping_answer(1);
+
+    power_up("a newer instruction to another device");
+    instruct(DXL_BROADCAST_ID, DXL_INST_SYNC_READ, THIRD, sizeof THIRD);
+    run(8000, 100);
+    instruct(7, DXL_INST_PING, NOTHING, 0);
+    run(40000, 100);
+    expect_sent();
+
+    power_up("a damaged packet of another device");
+    instruct(DXL_BROADCAST_ID, DXL_INST_SYNC_READ, THIRD, sizeof THIRD);
+    say((const uint8_t *)"\xFF\xFF\xFD\x00\x07\x03\x00\x01\x19\x4F", 10);
+    run(40000, 100);
+    expect_status(1, 0, ONE, 1);
 }
 
 static void test_echo(void)
@@ -398,45 +488,58 @@ static void test_overrun(void)
     expect_ping_answer(1);
 }
 
+/* An instruction to the board that is carried out, and what the motor is told by then. */
+static void done(uint8_t instruction, const uint8_t *params, size_t n, const char *told)
+{
+    instruct(1, instruction, params, n);
+    run(20000, 100);
+    expect_status(1, 0, NOTHING, 0);
+    expect_motor(told);
+}
+
+static const uint8_t TORQUE_ON[] = {DXL_REG_TORQUE_ENABLE, 0, 1}, TORQUE_OFF[] = {DXL_REG_TORQUE_ENABLE, 0, 0};
+static const uint8_t GOAL_512[] = {DXL_REG_GOAL_POSITION, 0, 0x00, 0x02, 0, 0};
+static const uint8_t GOAL_256[] = {DXL_REG_GOAL_POSITION, 0, 0x00, 0x01, 0, 0};
+
 static void test_changes(void)
 {
-    const uint8_t goal_512[] = {DXL_REG_GOAL_POSITION, 0, 0x00, 0x02, 0, 0};
-    power_up("torque, goal, registered write, Reboot");
+    power_up("torque, goal, registered write");
     forget_store();
-    write_byte(1, DXL_REG_TORQUE_ENABLE, 1);
-    run(20000, 100);
-    expect_status(1, 0, NOTHING, 0);
-    expect(torque == 1, "torque is not switched on");
-    instruct(1, DXL_INST_WRITE, goal_512, sizeof goal_512);
-    run(20000, 100);
-    expect_status(1, 0, NOTHING, 0);
-    expect(goal == 512, "the goal is not set");
-    const uint8_t goal_256[] = {DXL_REG_GOAL_POSITION, 0, 0x00, 0x01, 0, 0};
-    instruct(1, DXL_INST_REG_WRITE, goal_256, sizeof goal_256);
-    run(20000, 100);
-    expect_status(1, 0, NOTHING, 0);
-    expect(goal == 512, "the goal is set before Action");
-    instruct(1, DXL_INST_ACTION, NOTHING, 0);
-    run(20000, 100);
-    expect_status(1, 0, NOTHING, 0);
-    expect(goal == 256, "Action does not set the goal");
+    expect_motor("torque 0, goal 0");
+    done(DXL_INST_WRITE, GOAL_512, sizeof GOAL_512, "goal 512");
+    done(DXL_INST_WRITE, TORQUE_ON, sizeof TORQUE_ON, "torque 1");
+    done(DXL_INST_REG_WRITE, GOAL_256, sizeof GOAL_256, "");
+    done(DXL_INST_ACTION, NOTHING, 0, "goal 256");
+    done(DXL_INST_WRITE, GOAL_256, sizeof GOAL_256, "");
     position = -1;
     const uint8_t read[] = {DXL_REG_PRESENT_POSITION, 0, 4, 0}, minus_one[] = {0xFF, 0xFF, 0xFF, 0xFF};
     instruct(1, DXL_INST_READ, read, sizeof read);
     run(20000, 100);
     expect_status(1, 0, minus_one, sizeof minus_one);
     position = 0;
-    instruct(1, DXL_INST_REBOOT, NOTHING, 0);
-    run(20000, 100);
-    expect_status(1, 0, NOTHING, 0);
-    expect(torque == 0 && goal == 0, "Reboot does not let go of the motor");
+    done(DXL_INST_WRITE, TORQUE_OFF, sizeof TORQUE_OFF, "torque 0");
     expect(stores == 0, "what is in RAM is stored");
+}
+
+/* The goal moves to the min position too, and the motor must not start towards it. */
+static void test_let_go_first(void)
+{
+    const uint8_t all_but_id[] = {0x01};
+    power_up("Reboot and Factory Reset under torque");
+    expect_motor("torque 0, goal 0");
+    for (int i = 0; i < 2; i++) {
+        done(DXL_INST_WRITE, GOAL_512, sizeof GOAL_512, "goal 512");
+        done(DXL_INST_WRITE, TORQUE_ON, sizeof TORQUE_ON, "torque 1");
+        if (i == 0)
+            done(DXL_INST_REBOOT, NOTHING, 0, "torque 0, goal 0");
+        else
+            done(DXL_INST_FACTORY_RESET, all_but_id, sizeof all_but_id, "torque 0, goal 0");
+    }
 }
 
 static void test_rom(void)
 {
     const uint8_t limits[] = {DXL_REG_MAX_POSITION, 0, 0xE8, 0x03, 0, 0, 100, 0, 0, 0};
-    const uint8_t goal_256[] = {DXL_REG_GOAL_POSITION, 0, 0x00, 0x01, 0, 0};
     forget_store();
     power_up("ROM over a power cut");
     write_byte(1, DXL_REG_ID, 9);
@@ -445,7 +548,7 @@ static void test_rom(void)
     instruct(9, DXL_INST_WRITE, limits, sizeof limits);
     run(20000, 100);
     expect_status(9, DXL_ERROR_DATA_LIMIT, NOTHING, 0); /* the goal is 0, below the new min position */
-    instruct(9, DXL_INST_WRITE, goal_256, sizeof goal_256);
+    instruct(9, DXL_INST_WRITE, GOAL_256, sizeof GOAL_256);
     run(20000, 100);
     expect_status(9, 0, NOTHING, 0);
     instruct(9, DXL_INST_WRITE, limits, sizeof limits);
@@ -454,16 +557,117 @@ static void test_rom(void)
     expect(stores == 2, "ROM is not stored at each change");
 
     power_up("ROM after a power cut");
-    expect(goal == 100, "the goal is not at the min position");
+    expect_motor("torque 0, goal 100");
     instruct(9, DXL_INST_PING, NOTHING, 0);
     run(20000, 100);
     expect_ping_answer(9);
+}
 
-    store[3] ^= 1;
-    power_up("a store that is damaged");
-    instruct(1, DXL_INST_PING, NOTHING, 0);
-    run(20000, 100);
-    expect_ping_answer(1);
+/* ---- stores ---- */
+
+/* The writable ROM registers. */
+struct rom {
+    uint8_t id, code;
+    int32_t offset, max, min;
+};
+
+static const struct rom FRESH = {DXL_FRESH_ID, DXL_FRESH_BAUD_CODE, DXL_FRESH_HOMING_OFFSET, DXL_FRESH_MAX_POSITION,
+                                 DXL_FRESH_MIN_POSITION};
+static const struct rom OLD = {9, 3, -131073, 1000, 100}, NEW = {17, 2, 70000, 900, 300};
+
+static void put_number(uint8_t *bytes, int32_t number)
+{
+    for (int i = 0; i < 4; i++)
+        bytes[i] = (uint8_t)((uint32_t)number >> 8 * i);
+}
+
+/* The store of these values, with its checksum from a start. */
+static void make_store(uint8_t bytes[STORE_BYTES], const struct rom *rom, uint16_t start)
+{
+    bytes[0] = rom->id;
+    bytes[1] = rom->code;
+    put_number(bytes + 2, rom->offset);
+    put_number(bytes + 6, rom->max);
+    put_number(bytes + 10, rom->min);
+    uint16_t sum = dxl_crc16(start, bytes, 14);
+    bytes[14] = sum & 0xFF;
+    bytes[15] = (uint8_t)(sum >> 8);
+}
+
+static void expect_read(uint8_t id, uint8_t address, const uint8_t *data, uint8_t n)
+{
+    const uint8_t read[] = {address, 0, n, 0};
+    instruct(id, DXL_INST_READ, read, sizeof read);
+    run(40000, 500);
+    expect_status(id, 0, data, n);
+}
+
+/* The board comes up with these values. */
+static void expect_rom(const char *name, const struct rom *rom)
+{
+    uint8_t two[] = {rom->id, rom->code}, offset[4], limits[8];
+    put_number(offset, rom->offset);
+    put_number(limits, rom->max);
+    put_number(limits + 4, rom->min);
+    power_up(name);
+    expect_read(rom->id, DXL_REG_ID, two, sizeof two);
+    expect_read(rom->id, DXL_REG_HOMING_OFFSET, offset, sizeof offset);
+    expect_read(rom->id, DXL_REG_MAX_POSITION, limits, sizeof limits);
+    expect_read(rom->id, DXL_REG_GOAL_POSITION, limits + 4, 4);
+}
+
+static void test_stores(void)
+{
+    memset(store, 0x00, sizeof store);
+    expect_rom("a store of 00", &FRESH);
+    memset(store, 0xFF, sizeof store);
+    expect_rom("a store of FF", &FRESH);
+    make_store(store, &OLD, 0xFFFF);
+    expect_rom("a good store", &OLD);
+    for (size_t bit = 0; bit < 8 * sizeof store; bit++) {
+        make_store(store, &OLD, 0xFFFF);
+        store[bit / 8] ^= (uint8_t)(1 << bit % 8);
+        expect_rom("a store with a flipped bit", &FRESH);
+    }
+}
+
+/* The power fails while a store is written: its first bytes are there, and those behind are what was there before. */
+static void test_cut_stores(void)
+{
+    uint8_t under[3][STORE_BYTES], over[STORE_BYTES];
+    memset(under[0], 0x00, STORE_BYTES);
+    memset(under[1], 0xFF, STORE_BYTES);
+    make_store(under[2], &OLD, 0xFFFF);
+    make_store(over, &NEW, 0xFFFF);
+    for (size_t i = 0; i < 3 * (STORE_BYTES + 1); i++) {
+        size_t cut = i / 3;
+        memcpy(store, over, cut);
+        memcpy(store + cut, under[i % 3] + cut, STORE_BYTES - cut);
+        int is_new = memcmp(store, over, STORE_BYTES) == 0, is_old = memcmp(store, under[2], STORE_BYTES) == 0;
+        expect_rom("a cut store", is_new ? &NEW : is_old ? &OLD : &FRESH);
+    }
+}
+
+/* With a right checksum. */
+static void test_ranges(void)
+{
+    static const struct rom good[] = {{0, 0, -1044479, 0, 0}, {252, 7, 1044479, 4095, 4095}, {1, 1, 0, 4095, 4095}};
+    static const struct rom bad[] = {{253, 1, 0, 4095, 0},      {255, 1, 0, 4095, 0},       {1, 8, 0, 4095, 0},
+                                     {1, 255, 0, 4095, 0},      {9, 3, -1044480, 4095, 0},  {9, 3, 1044480, 4095, 0},
+                                     {9, 3, INT32_MIN, 4095, 0}, {9, 3, 5, 4096, 0},        {9, 3, 5, -1, -1},
+                                     {9, 3, 5, 4095, -1},       {9, 3, 5, 4096, 4096},      {9, 3, 5, 99, 100},
+                                     {9, 3, 5, 0, 4095}};
+    for (size_t i = 0; i < sizeof good / sizeof good[0]; i++) {
+        make_store(store, &good[i], 0xFFFF);
+        expect_rom("values at the ends of their ranges", &good[i]);
+    }
+    for (size_t i = 0; i < sizeof bad / sizeof bad[0]; i++) {
+        make_store(store, &bad[i], 0xFFFF);
+        expect_rom("values outside their ranges", &FRESH);
+    }
+    make_store(store, &OLD, 0);
+    expect_rom("a checksum from 0", &FRESH);
+    forget_store();
 }
 
 static void test_baud(void)
@@ -515,14 +719,21 @@ int main(void)
     test_ping(50);
     test_ping(1000);
     test_gap();
-    test_newest_only();
+    test_in_order();
+    test_idle_line();
+    test_many();
     test_late_loop();
     test_slots();
+    test_gives_way();
     test_echo();
     test_ring();
     test_overrun();
     test_changes();
+    test_let_go_first();
     test_rom();
+    test_stores();
+    test_cut_stores();
+    test_ranges();
     test_baud();
     test_fault("dxl_reader_feed", "25");
     test_fault("dxl_reader_gap", "25");

@@ -1,10 +1,19 @@
 -- What a first call returns, by its three parts.
-use mathlib.Core.Path.{_≡_, ap, ap₂, _∙_}
+use mathlib.Core.Path.{_≡_, refl, ap, ap₂, _∙_}
 use Rattle.instructions.specs.declared.RegisteredWrite.{RegisteredWrite}
 use Rattle.status.specs.declared.Reply.{Reply}
-use Rattle.device.specs.Answers.{DeviceAnswer}
-use Rattle.numbers.specs.Exported.{carriedNumbers}
+use Rattle.device.specs.Answers.{DeviceAnswer, sent, refused}
+use Rattle.numbers.specs.declared.DeviceNumbers.{DeviceNumbers}
+use Rattle.numbers.specs.Exported.{deviceNumbers, carriedNumbers}
 
 pub by-parts : (a b : DeviceAnswer) (r s : Reply) (v w : RegisteredWrite) → a ≡ b → r ≡ s → v ≡ w → carriedNumbers a r v ≡ carriedNumbers b s w
 by-parts a b r s v w e f g =
     ap₂ (λ (x : DeviceAnswer) (y : Reply). carriedNumbers x y v) e f ∙ ap (λ (z : RegisteredWrite). carriedNumbers b s z) g
+
+-- the registered write that a device call returns
+numbers-registered : (a : DeviceAnswer) (w : RegisteredWrite) → deviceNumbers a w .registered ≡ w
+numbers-registered (sent n slot) w = refl
+numbers-registered (refused number) w = refl
+
+pub its-registered : (r : DeviceNumbers) {a b : DeviceAnswer} {v w : RegisteredWrite} → a ≡ b → v ≡ w → r ≡ deviceNumbers a v → r .registered ≡ w
+its-registered r {a} {b} {v} {w} e f g = ap (λ (x : DeviceNumbers). x .registered) g ∙ numbers-registered a v ∙ f

@@ -24,7 +24,7 @@ ghost use Rattle.table_rules.specs.Fence.{Fence};
 ghost use Rattle.control_table.specs.Answers.{freshOut, measureOut};
 ghost use Rattle.reading.specs.Calls.{feed as Call·feed, gap as Call·gap};
 ghost use Rattle.packet.specs.Burst.{BurstDetected};
-ghost use Rattle.reader.specs.Records.{stepOn, leftBy, lent, packetOn, records, ReaderPromises};
+ghost use Rattle.reader.specs.Records.{stepOn, leftBy, lent, packetOn, records, EveryProtocol};
 ghost use Rattle.plain_reader.specs.Next.{nextEvent};
 ghost use Rattle.plain_reader.specs.Plain.{PlainPromises};
 ghost use Rattle.log_writer.specs.Writing.{writeAnswer, writeOut, WritesSound};
@@ -38,7 +38,10 @@ ghost use Rattle.device.specs.Answers.{carriedAnswer, carriedReply, carriedRegi
 ghost use Rattle.device.specs.Split.{Split};
 ghost use Rattle.device.specs.Promises.{DevicePromises};
 ghost use Rattle.exchange.specs.Exchange.{packetAnswer, packetReply, packetRegistered, packetTable, packetBody, exchangeAnswer, exchangeRegistered, exchangeTable, exchangeBody, exchangeOut};
-ghost use Rattle.exchange.specs.Split.{Split as Exchange·Split};
+ghost use Rattle.exchange.specs.Calls.{stateOf, afterCall};
+ghost use Rattle.exchange.specs.Calls.{fresh as Call·fresh, measurement as Call·measurement, device as Call·device, exchange as Call·exchange};
+ghost use Rattle.exchange.specs.Calls.{carry as Call·carry, carryPacket as Call·carryPacket};
+ghost use Rattle.instructions.specs.declared.RegisteredWrite.{RegisteredWrite as Ghost·RegisteredWrite};
 ghost use Rattle.exchange.specs.Stays.{StaysAccepted};
 ghost use Rattle.exchange.specs.GoalWithinLimits.{GoalWithinLimits};
 ghost use Rattle.exchange.specs.Promises.{ExchangePromises};
@@ -100,6 +103,7 @@ pub extern "C" fn dxl_unstuff(body: &[u8], out: &mut [u8]) -> i64
 pub extern "C" fn dxl_fresh(table: &mut [u8]) -> i64
     ensures { λ r. ⌜ r ≡ exportedRefusal (inTable (now (table .entry)) none) ⌝ }
     ensures { λ _. ⌜ now (table .exit) ≡ freshOut (now (table .entry)) ⌝ }
+    ensures { λ _. ⌜ ((w : Ghost·RegisteredWrite) → stateOf (now (table .exit)) w ≡ afterCall (stateOf (now (table .entry)) w) Call·fresh) ⌝ }
     ensures { λ _. ⌜ StaysAccepted × GoalWithinLimits ⌝ }
 {
     numbers::change(control_table::fresh(table))
@@ -110,6 +114,7 @@ pub extern "C" fn dxl_fresh(table: &mut [u8]) -> i64
 pub extern "C" fn dxl_measure(table: &mut [u8], position: i32, hardware_error: u8) -> i64
     ensures { λ r. ⌜ r ≡ exportedRefusal (inTable (now (table .entry)) none) ⌝ }
     ensures { λ _. ⌜ now (table .exit) ≡ measureOut (now (table .entry)) position «hardware_error» ⌝ }
+    ensures { λ _. ⌜ ((w : Ghost·RegisteredWrite) → stateOf (now (table .exit)) w ≡ afterCall (stateOf (now (table .entry)) w) (Call·measurement position «hardware_error»)) ⌝ }
     ensures { λ _. ⌜ StaysAccepted × GoalWithinLimits ⌝ }
 {
     numbers::change(control_table::measure(table, position, hardware_error))
@@ -128,7 +133,7 @@ pub extern "C" fn dxl_feed(
     ensures { λ r. ⌜ r ≡ stepNumbers (stepOn (lent (now (held .entry)) (now (count .entry))) (Call·feed (now (chunk .entry)))) ⌝ }
     ensures { λ _. ⌜ lent (now (held .exit)) (now (count .exit)) ≡ leftBy (lent (now (held .entry)) (now (count .entry))) (Call·feed (now (chunk .entry))) ⌝ }
     ensures { λ _. ⌜ now (packet .exit) ≡ packetOn (lent (now (held .entry)) (now (count .entry))) (Call·feed (now (chunk .entry))) (now (packet .entry)) ⌝ }
-    ensures { λ _. ⌜ ReaderPromises ⌝ }
+    ensures { λ _. ⌜ EveryProtocol ⌝ }
     ensures { λ _. ⌜ BurstDetected ⌝ }
 {
     let n = *count;
@@ -147,7 +152,7 @@ pub extern "C" fn dxl_gap(
     ensures { λ r. ⌜ r ≡ stepNumbers (stepOn (lent (now (held .entry)) (now (count .entry))) Call·gap) ⌝ }
     ensures { λ _. ⌜ lent (now (held .exit)) (now (count .exit)) ≡ leftBy (lent (now (held .entry)) (now (count .entry))) Call·gap ⌝ }
     ensures { λ _. ⌜ now (packet .exit) ≡ packetOn (lent (now (held .entry)) (now (count .entry))) Call·gap (now (packet .entry)) ⌝ }
-    ensures { λ _. ⌜ ReaderPromises ⌝ }
+    ensures { λ _. ⌜ EveryProtocol ⌝ }
 {
     let n = *count;
     let step = framer::gap_in(held, n, packet);
@@ -165,7 +170,7 @@ pub extern "C" fn dxl_reader_feed<'r, 'c, 'p>(
     ensures { λ r. ⌜ (r ≡ stepNumbers (stepOn (now (reader .entry)) (Call·feed (now (chunk .entry)))))
         × (now (reader .exit) ≡ leftBy (now (reader .entry)) (Call·feed (now (chunk .entry))))
         × (now (packet .exit) ≡ packetOn (now (reader .entry)) (Call·feed (now (chunk .entry))) (now (packet .entry)))
-        × ReaderPromises ⌝ }
+        × EveryProtocol ⌝ }
 {
     let n = reader.count;
     let step = framer::feed_in(&mut reader.bytes, n, chunk, packet);
@@ -182,7 +187,7 @@ pub extern "C" fn dxl_reader_gap<'r, 'p>(
     ensures { λ r. ⌜ (r ≡ stepNumbers (stepOn (now (reader .entry)) Call·gap))
         × (now (reader .exit) ≡ leftBy (now (reader .entry)) Call·gap)
         × (now (packet .exit) ≡ packetOn (now (reader .entry)) Call·gap (now (packet .entry)))
-        × ReaderPromises ⌝ }
+        × EveryProtocol ⌝ }
 {
     let n = reader.count;
     let step = framer::gap_in(&mut reader.bytes, n, packet);
@@ -288,6 +293,8 @@ pub extern "C" fn dxl_device(
     ensures { λ _. ⌜ (now (table .exit) ≡ callTable (now (table .entry)) registered (heardBy kind) (idOfKind kind id) (now (body .entry)) (now (reply .entry)))
         × (now (reply .exit) ≡ callOut (now (table .entry)) registered (heardBy kind) (idOfKind kind id) (now (body .entry)) (now (reply .entry))) ⌝ }
     ensures { λ _. ⌜ DevicePromises × StaysAccepted × GoalWithinLimits × Fence ⌝ }
+    ensures { λ r. ⌜ stateOf (now (table .exit)) (r .registered)
+        ≡ afterCall (stateOf (now (table .entry)) registered) (Call·device (heardBy kind) (idOfKind kind id) (now (body .entry)) (now (reply .entry))) ⌝ }
 {
     let heard = heard_by(kind);
     let heard_id = id_of_kind(kind, id);
@@ -295,7 +302,7 @@ pub extern "C" fn dxl_device(
 }
 
 // The device call on a packet as received; its body is written to `body` without its stuffing. What is no well-formed packet is
-// met with silence. That the worked examples hold is promised too. [D38-D42 D49 G5 N3 N4 O12 T20]
+// met with silence. The theorems of `dxl_device` hold of it by `AsDevice`, and the worked examples are promised too. [D38-D42 D49 G5 N3 N4 O12 T20]
 #[no_mangle]
 pub extern "C" fn dxl_exchange(
     table: &mut [u8],
@@ -310,7 +317,9 @@ pub extern "C" fn dxl_exchange(
     ensures { λ _. ⌜ (now (table .exit) ≡ exchangeTable (now (table .entry)) registered (now (packet .entry)) (now (body .entry)) (now (reply .entry)))
         × (now (body .exit) ≡ exchangeBody (now (table .entry)) registered (now (packet .entry)) (now (body .entry)) (now (reply .entry)))
         × (now (reply .exit) ≡ exchangeOut (now (table .entry)) registered (now (packet .entry)) (now (body .entry)) (now (reply .entry))) ⌝ }
-    ensures { λ _. ⌜ ExchangePromises × CasesHold ⌝ }
+    ensures { λ _. ⌜ DevicePromises × ExchangePromises × StaysAccepted × GoalWithinLimits × CasesHold ⌝ }
+    ensures { λ r. ⌜ stateOf (now (table .exit)) (r .registered)
+        ≡ afterCall (stateOf (now (table .entry)) registered) (Call·exchange (now (packet .entry)) (now (body .entry)) (now (reply .entry))) ⌝ }
 {
     numbers::answered(exchange::answer(table, registered, packet, body, reply))
 }
@@ -330,14 +339,16 @@ pub extern "C" fn dxl_carry_out(
         (carriedRegistered (now (table .entry)) registered (heardBy kind) (idOfKind kind id) (now (body .entry))) ⌝ }
     ensures { λ _. ⌜ now (table .exit) ≡ carriedTable (now (table .entry)) registered (heardBy kind) (idOfKind kind id) (now (body .entry)) ⌝ }
     ensures { λ _. ⌜ DevicePromises × Split × StaysAccepted × GoalWithinLimits × Fence ⌝ }
+    ensures { λ r. ⌜ stateOf (now (table .exit)) (r .registered)
+        ≡ afterCall (stateOf (now (table .entry)) registered) (Call·carry (heardBy kind) (idOfKind kind id) (now (body .entry))) ⌝ }
 {
     let heard = heard_by(kind);
     let heard_id = id_of_kind(kind, id);
     numbers::carried(device::carry_out(table, registered, heard, heard_id, body))
 }
 
-// The first call on a packet as received; its body is written to `body` without its stuffing. The theorems of `dxl_exchange` hold
-// of it by `Split`. [D38-D42 D49-D51 D54 G5 N3-N7 N10-N12 N14 T20]
+// The first call on a packet as received; its body is written to `body` without its stuffing. The theorems of `dxl_carry_out` hold
+// of it by `AsDevice`. [D38-D42 D49-D51 D54 G5 N3-N7 N10-N12 N14 T20]
 #[no_mangle]
 pub extern "C" fn dxl_carry_out_packet(
     table: &mut [u8],
@@ -350,7 +361,9 @@ pub extern "C" fn dxl_carry_out_packet(
         (packetRegistered (now (table .entry)) registered (now (packet .entry)) (now (body .entry))) ⌝ }
     ensures { λ _. ⌜ (now (table .exit) ≡ packetTable (now (table .entry)) registered (now (packet .entry)) (now (body .entry)))
         × (now (body .exit) ≡ packetBody (now (table .entry)) registered (now (packet .entry)) (now (body .entry))) ⌝ }
-    ensures { λ _. ⌜ ExchangePromises × Exchange·Split ⌝ }
+    ensures { λ _. ⌜ DevicePromises × Split × ExchangePromises × StaysAccepted × GoalWithinLimits ⌝ }
+    ensures { λ r. ⌜ stateOf (now (table .exit)) (r .registered)
+        ≡ afterCall (stateOf (now (table .entry)) registered) (Call·carryPacket (now (packet .entry)) (now (body .entry))) ⌝ }
 {
     numbers::carried_packet(exchange::carry_out(table, registered, packet, body))
 }
@@ -360,7 +373,7 @@ pub extern "C" fn dxl_carry_out_packet(
 pub extern "C" fn dxl_status(reply: Reply, out: &mut [u8]) -> i64
     ensures { λ r. ⌜ r ≡ exported (statusAnswer reply (now (out .entry))) ⌝ }
     ensures { λ _. ⌜ now (out .exit) ≡ statusOut reply (now (out .entry)) ⌝ }
-    ensures { λ _. ⌜ Split × Exchange·Split × ReplyWritten ⌝ }
+    ensures { λ _. ⌜ Split × ReplyWritten ⌝ }
 {
     numbers::written(status::send(reply, out))
 }

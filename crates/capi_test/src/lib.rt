@@ -21,7 +21,7 @@ ghost use Rattle.packet_v1.specs.Packet.{lastOfP1, lastOfMercury};
 ghost use Rattle.packet_v1.specs.Verdict.{protocol1, mercury};
 ghost use Rattle.packet_v1.specs.Kept.{RulesKept};
 ghost use Rattle.protocols.specs.Protocols.{rulesOf};
-ghost use Rattle.reader.specs.Records.{stepOn, leftBy, lent, packetOn, ReaderPromises};
+ghost use Rattle.reader.specs.Records.{stepOn, leftBy, lent, packetOn, EveryProtocol};
 ghost use Rattle.numbers.specs.Exported.{stepNumbers};
 ghost use Rattle.capi_test.specs.Numbers.{testNumber, verdictNumbers};
 
@@ -138,7 +138,7 @@ pub extern "C" fn dxl_test_feed_value(held: &[u8; 1030], count: usize, chunk: &[
     ensures { λ r. ⌜ r .step ≡ stepNumbers (stepOn (lent (now (held .entry)) count) (Call·feed (now (chunk .entry)))) ⌝ }
     ensures { λ r. ⌜ r .packet ≡ packetOn (lent (now (held .entry)) count) (Call·feed (now (chunk .entry))) (replicate 1031 0) ⌝ }
     ensures { λ r. ⌜ r .reader ≡ leftBy (lent (now (held .entry)) count) (Call·feed (now (chunk .entry))) ⌝ }
-    ensures { λ _. ⌜ ReaderPromises ⌝ }
+    ensures { λ _. ⌜ EveryProtocol ⌝ }
 {
     let bytes = *held;
     let fed = reader::feed(Reader { bytes, count }, chunk);

@@ -1,17 +1,18 @@
 -- All cases of the table hold. The checker runs one test over all of them, and a law leads from that test to the claim of each.
 use mathlib.Core.Path.{_≡_, refl, sym, ap, ap₂, _∙_, subst}
 use mathlib.Core.Bool.{Bool, true, false, not, _&&_}
-use mathlib.Core.List.{List, [], _∷_, List·Memᴰ, List·Memᴰ·cases-cons, List·Memᴰ·not-nil}
+use mathlib.Core.List.{List, [], _∷_, _++_, List·Memᴰ, List·Memᴰ·cases-cons, List·Memᴰ·not-nil}
 use mathlib.Core.Logic.{⊎-elim}
 use mathlib.Core.Option.{Option, none, some}
-use Prim.Native.Nat.{ℕ}
+use Prim.Native.Nat.{ℕ, _-_}
 use native.Mathlib.Omega.{arith}
 use lib.Dec.{eqb}
 use lib.IntN.{ℤ}
-use lib.ListN.{length}
+use lib.ListN.{length, replicate}
 use lib.Seq.{take-length}
-use borrow.Author.Tests.{eqb-true}
+use borrow.Author.Tests.{eqb-true, not-true}
 use Rattle.lists.proofs.Bools.{and-left, and-right, both-ways}
+use Rattle.lists.proofs.Decided.{same, same-lists}
 use Rattle.reading.specs.Rules.{Verdict, isPacket, isBadChecksum, isWaiting, isNothing}
 use Rattle.reading.specs.Reading.{readFuel, readFrom, reading}
 use Rattle.reading.specs.Promise.{joined}
@@ -39,35 +40,23 @@ use Rattle.items.proofs.Same.{same-equal}
 use Rattle.control_table.specs.Fresh.{freshened}
 use Rattle.registers.specs.Registers.{everyByte}
 use Rattle.table_rules.specs.Rules.{everyTouched, goalInside, limitsKept, writeRule, readRule}
-use Rattle.instructions.specs.Instructions.{read, write, regWrite, action}
+use Rattle.resets.specs.Resets.{rebooted, resetRom}
+use Rattle.instructions.specs.Instructions.{read, write, regWrite, action, factoryReset}
 use Rattle.instructions.specs.Registered.{sameLimits}
 use Rattle.parameters.specs.Entries.{occurs, searchFrom}
 use Rattle.reactions.specs.Reactions.{heardInstruction}
 use Rattle.device.specs.Device.{executed}
-use Rattle.device.specs.Answers.{DeviceAnswer, sent, refused, stateRefusal, roomRefusal, callRefusal}
-use Rattle.exchange.specs.Exchange.{idHeard}
-use Rattle.exchange.specs.Demand1.{packetError}
+use Rattle.device.specs.Answers.{DeviceAnswer, sent, refused, stateRefusal, roomRefusal, callRefusal, callAnswer, callTable, callRegistered, callOut}
+use Rattle.reactions.specs.declared.Heard.the-variants.{Packet, BadChecksum}
+use Rattle.exchange.specs.Exchange.{idHeard, heardOf}
+use Rattle.device.specs.Demand1.{errorNumber}
 use Rattle.plan.specs.Goals.{goalsWithin, goalsRefusal}
 use Rattle.plan.specs.Planner.{entriesFrom, listBytes, packetsFrom, planOf}
 use Rattle.instructions.specs.declared.RegisteredWrite.{RegisteredWrite}
-use Rattle.cases.specs.Exchanges.{Lent, answerTo, leftAfter}
-use Rattle.cases.specs.Cases.{Case, packet, stuffing, exchange, refusal, log, plan, apart, across, packetV1, onlyP1, Claim, table, CasesHold}
+use Rattle.cases.specs.Exchanges.{Lent, answerTo, leftAfter, goalRegistered}
+use Rattle.cases.specs.Cases.{Case, packet, stuffing, exchange, refusal, badChecksum, log, plan, apart, across, packetV1, onlyP1, Claim, table, CasesHold}
 
 -- ---- equality as a test
-
-abbrev same : List ℕ → List ℕ → Bool
-same [] [] = true
-same [] (b ∷ t) = false
-same (a ∷ s) [] = false
-same (a ∷ s) (b ∷ t) = eqb a b && same s t
-
-same-lists : (s t : List ℕ) → same s t ≡ true → s ≡ t
-same-lists [] [] e = refl
-same-lists [] (b ∷ t) e = let z : _≡_ {A = ℕ} 0 1 = cc in absurd (omega arith)
-same-lists (a ∷ s) [] e = let z : _≡_ {A = ℕ} 0 1 = cc in absurd (omega arith)
-same-lists (a ∷ s) (b ∷ t) e =
-    ap₂ (λ (x : ℕ) (l : List ℕ). x ∷ l) (eqb-true a b (and-left (eqb a b) (same s t) e))
-    (same-lists s t (and-right (eqb a b) (same s t) e))
 
 abbrev isPacketOf : Verdict → ℕ → Bool
 isPacketOf (isPacket m) n = eqb m n
@@ -156,17 +145,18 @@ same-lent k l e =
     ∙ ap₂ (λ (x y : List ℕ). record { table = l .table; registered = l .registered; body = x; reply = y })
     (same-lists (k .body) (l .body) (and-left b o q)) (same-lists (k .reply) (l .reply) (and-right b o q))
 
-fails : (a : Bool) → not a ≡ true → a ≡ false
-fails false e = refl
-fails true e = let z : _≡_ {A = ℕ} 0 1 = cc in absurd (omega arith)
-
 -- ---- the test of a case, and of the table
 
 abbrev right : Case → Bool
 right (packet id body bytes) = same (packetOf id body) bytes && isPacketOf (verdict bytes) (length bytes)
 right (stuffing body stuffed) = same (stuff body) stuffed && (wellStuffed stuffed && same (unstuff stuffed) body)
 right (exchange bytes before answer after) = sameAnswer (answerTo bytes before) answer && sameLent (leftAfter bytes before) after
-right (refusal bytes before number) = eqb (packetError (before .table) (before .registered) bytes) number
+right (refusal bytes before number) = eqb (errorNumber (before .table) (before .registered) Packet (heardOf bytes .id) (heardOf bytes .body)) number
+right (badChecksum id table status) =
+    sameAnswer (callAnswer table goalRegistered BadChecksum id [] (replicate 32 0xAA)) (sent (length status) 0)
+    && (same (callTable table goalRegistered BadChecksum id [] (replicate 32 0xAA)) table
+    && (sameRegistered (callRegistered table goalRegistered BadChecksum id [] (replicate 32 0xAA)) goalRegistered
+    && same (callOut table goalRegistered BadChecksum id [] (replicate 32 0xAA)) (status ++ replicate (32 - length status) 0xAA)))
 right (log segments numbers n) = same (logOf segments) (laid numbers (joined segments)) && eqb (length (logOf segments)) n
 right (plan goals bytes) = accepted (goalsRefusal goals) && same (planOf goals) bytes
 right (apart noise beyond) = not (reachesAcross protocol2 noise beyond)
@@ -195,7 +185,20 @@ claimed (exchange bytes before answer after) e =
     let a = sameAnswer (answerTo bytes before) answer in
     let b = sameLent (leftAfter bytes before) after in
     (same-answer (answerTo bytes before) answer (and-left a b e), same-lent (leftAfter bytes before) after (and-right a b e))
-claimed (refusal bytes before number) e = eqb-true (packetError (before .table) (before .registered) bytes) number e
+claimed (refusal bytes before number) e = eqb-true (errorNumber (before .table) (before .registered) Packet (heardOf bytes .id) (heardOf bytes .body)) number e
+claimed (badChecksum id table status) e =
+    let out : List ℕ = replicate 32 0xAA in
+    let a = sameAnswer (callAnswer table goalRegistered BadChecksum id [] out) (sent (length status) 0) in
+    let t = same (callTable table goalRegistered BadChecksum id [] out) table in
+    let w = sameRegistered (callRegistered table goalRegistered BadChecksum id [] out) goalRegistered in
+    let o = same (callOut table goalRegistered BadChecksum id [] out) (status ++ replicate (32 - length status) 0xAA) in
+    let r = and-right a (t && (w && o)) e in
+    let q = and-right t (w && o) r in (
+      same-answer (callAnswer table goalRegistered BadChecksum id [] out) (sent (length status) 0) (and-left a (t && (w && o)) e),
+      same-lists (callTable table goalRegistered BadChecksum id [] out) table (and-left t (w && o) r),
+      same-registered (callRegistered table goalRegistered BadChecksum id [] out) goalRegistered (and-left w o q),
+      same-lists (callOut table goalRegistered BadChecksum id [] out) (status ++ replicate (32 - length status) 0xAA) (and-right w o q),
+    )
 claimed (log segments numbers n) e =
     let a = same (logOf segments) (laid numbers (joined segments)) in
     let b = eqb (length (logOf segments)) n in (
@@ -206,7 +209,7 @@ claimed (plan goals bytes) e =
     let a = accepted (goalsRefusal goals) in
     let b = same (planOf goals) bytes in
     (is-accepted (goalsRefusal goals) (and-left a b e), same-lists (planOf goals) bytes (and-right a b e))
-claimed (apart noise beyond) e = across-decided protocol2 laws noise beyond .0 (fails (reachesAcross protocol2 noise beyond) e)
+claimed (apart noise beyond) e = across-decided protocol2 laws noise beyond .0 (not-true (reachesAcross protocol2 noise beyond) e)
 claimed (across noise beyond) e =
     λ n. both-ways (reachesAcross protocol2 noise beyond) e (across-decided protocol2 laws noise beyond .1 n)
 claimed (packetV1 id body bytes) e =
@@ -235,5 +238,5 @@ each (d ∷ cs) e c m =
 
 -- the test is computed here
 pub cases-hold : CasesHold
-unfolding reachesAcross readFuel readFrom reading lastPacket lastFrom indexFrom laid directory logOf reduceIf shift shifts crcByte crcFrom stuffAfter wellAfter unstuffAfter lengthOf bodyOf checksumRight withChecksum packetOf frontAgrees lengthAgrees registers permitsBy numberAt valueAt bytesOf put freshened everyByte everyTouched goalInside limitsKept writeRule readRule read write sameLimits regWrite action occurs searchFrom heardInstruction executed stateRefusal roomRefusal callRefusal removalRefusal idHeard shapeVerdict sum sumRight frontAgreesV1 lengthAgreesV1 packetV1Of goalsWithin goalsRefusal entriesFrom listBytes packetsFrom
+unfolding reachesAcross readFuel readFrom reading lastPacket lastFrom indexFrom laid directory logOf reduceIf shift shifts crcByte crcFrom stuffAfter wellAfter unstuffAfter lengthOf bodyOf checksumRight withChecksum packetOf frontAgrees lengthAgrees registers permitsBy numberAt valueAt bytesOf put freshened everyByte everyTouched goalInside limitsKept writeRule readRule read write sameLimits regWrite action rebooted resetRom factoryReset occurs searchFrom heardInstruction executed stateRefusal roomRefusal callRefusal removalRefusal idHeard shapeVerdict sum sumRight frontAgreesV1 lengthAgreesV1 packetV1Of goalsWithin goalsRefusal entriesFrom listBytes packetsFrom
 cases-hold = each table refl

@@ -3,7 +3,7 @@ use mathlib.Core.Path.{_≡_}
 use mathlib.Core.Bool.{true}
 use mathlib.Core.List.{List, [], _∷_, _++_, List·Memᴰ}
 use mathlib.Core.Option.{none}
-use Prim.Native.Nat.{ℕ}
+use Prim.Native.Nat.{ℕ, _-_}
 use lib.IntN.{ℤ}
 use lib.ListN.{length, take, drop, replicate}
 use Rattle.reading.specs.Rules.{isPacket, isNothing}
@@ -15,16 +15,20 @@ use Rattle.encoder.specs.Writing.{packetOf}
 use Rattle.packet_v1.specs.Verdict.{protocol1, mercury}
 use Rattle.encoder_v1.specs.Writing.{packetOf as packetV1Of}
 use Rattle.log_layout.specs.Log.{laid, logOf}
-use Rattle.registers.specs.Registers.{maxPosition, minPosition, goalPosition}
+use Rattle.registers.specs.Registers.{baudCode, maxPosition, minPosition, torqueEnable, lamp, goalPosition}
 use Rattle.items.specs.Items.{put}
 use Rattle.control_table.specs.Fresh.{freshTable}
 use Rattle.instructions.specs.Registered.{dropped}
-use Rattle.device.specs.Answers.{DeviceAnswer, sent, refused}
-use Rattle.exchange.specs.Demand1.{packetError}
+use Rattle.reactions.specs.declared.Heard.the-variants.{Packet, BadChecksum}
+use Rattle.device.specs.Answers.{DeviceAnswer, sent, refused, callAnswer, callTable, callRegistered, callOut}
+use Rattle.device.specs.Demand1.{errorNumber}
+use Rattle.exchange.specs.Exchange.{heardOf}
 use Rattle.plan.specs.Goals.{goalsRefusal}
 use Rattle.plan.specs.Planner.{planOf}
+use Rattle.plan.specs.Samples.{twoGoals, planOfTwo}
 use Rattle.cases.specs.Exchanges.{Lent, answerTo, leftAfter, lending, left, at166, goalAt512, registeredTable, goalTooLarge, goalRegistered, markedLimits}
-use Rattle.cases.specs.Exchanges.{pingWrongSum, pingWithParameter, lengthStatus, actionTo1, actionToAll, rangeStatus, raiseMin, limitStatus, registerGoal, lowerMax, syncReadPosition, bulkReadGoal, zeroStatus, bulkWriteGoal, device9, twoGoals, planOfTwo, readLimits, longestStatus}
+use Rattle.cases.specs.Exchanges.{worked, locked, alerted, level}
+use Rattle.cases.specs.Exchanges.{pingWrongSum, pingWithParameter, lengthStatus, actionTo1, actionToAll, rangeStatus, raiseMin, limitStatus, registerGoal, lowerMax, syncReadPosition, bulkReadGoal, zeroStatus, bulkWriteGoal, device9, readLimits, longestStatus}
 
 pub data Case : Type 0 where
   -- the packet with an ID and a body, and its bytes
@@ -35,6 +39,8 @@ pub data Case : Type 0 where
   exchange : List ℕ → Lent → DeviceAnswer → Lent → Case
   -- a packet as received, and what is lent: the error number by which demand 1 calls it refused, answered or not
   refusal : List ℕ → Lent → ℕ → Case
+  -- an ID, a table, and the status that the device call writes where a packet with a bad checksum was heard: nothing changes
+  badChecksum : ℕ → List ℕ → List ℕ → Case
   -- segments, the numbers before them in their log, and its count of bytes
   log : List (List ℕ) → List ℕ → ℕ → Case
   -- wanted goals that are not refused, and our planner's plan of them
@@ -53,7 +59,13 @@ abbrev pub Claim : Case → Type 0
 Claim (packet id body bytes) = (packetOf id body ≡ bytes) × (verdict bytes ≡ isPacket (length bytes)) × WellFormed bytes
 Claim (stuffing body stuffed) = (stuff body ≡ stuffed) × (wellStuffed stuffed ≡ true) × (unstuff stuffed ≡ body)
 Claim (exchange bytes before answer after) = (answerTo bytes before ≡ answer) × (leftAfter bytes before ≡ after)
-Claim (refusal bytes before number) = packetError (before .table) (before .registered) bytes ≡ number
+Claim (refusal bytes before number) =
+    errorNumber (before .table) (before .registered) Packet (heardOf bytes .id) (heardOf bytes .body) ≡ number
+Claim (badChecksum id table status) =
+    (callAnswer table goalRegistered BadChecksum id [] (replicate 32 0xAA) ≡ sent (length status) 0)
+    × (callTable table goalRegistered BadChecksum id [] (replicate 32 0xAA) ≡ table)
+    × (callRegistered table goalRegistered BadChecksum id [] (replicate 32 0xAA) ≡ goalRegistered)
+    × (callOut table goalRegistered BadChecksum id [] (replicate 32 0xAA) ≡ status ++ replicate (32 - length status) 0xAA)
 Claim (log segments numbers n) = (logOf segments ≡ laid numbers (joined segments)) × (length (logOf segments) ≡ n)
 Claim (plan goals bytes) = (goalsRefusal goals ≡ none) × (planOf goals ≡ bytes)
 Claim (apart noise beyond) = NoneAcross protocol2 noise beyond
@@ -105,6 +117,22 @@ abbrev pub pingTo253 : List ℕ
 pingTo253 = 0xFF ∷ 0xFF ∷ 0xFD ∷ 0x02 ∷ 0x01 ∷ 0xFF ∷ []
 
 -- ---- the cases
+
+-- the packet with an ID and a body, heard by a device with this table: the table and the status (none: silence) that it leaves
+abbrev pub heard : ℕ → List ℕ → List ℕ → List ℕ → List ℕ → Case
+heard id body table new status =
+    exchange (packetOf id body) (lending table goalRegistered (length body)) (sent (length status) 0)
+    (left new goalRegistered (length body) body status)
+
+-- the same where the registered write is dropped by it
+abbrev pub drops : ℕ → List ℕ → List ℕ → List ℕ → List ℕ → Case
+drops id body table new status =
+    exchange (packetOf id body) (lending table goalRegistered (length body)) (sent (length status) 0)
+    (left new dropped (length body) body status)
+
+-- the status of a device with this error byte
+abbrev pub status : ℕ → ℕ → List ℕ
+status id error = packetOf id (0x55 ∷ error ∷ [])
 
 abbrev pub table : List Case
 table =
@@ -161,6 +189,34 @@ table =
     ∷ refusal actionTo1 (lending registeredTable goalTooLarge 1) 0x04
     ∷ refusal actionToAll (lending registeredTable goalTooLarge 1) 0x04
     ∷ refusal pingWithParameter (lending registeredTable goalTooLarge 2) 0x05
+    -- Factory Reset FF, 01, 02 and another option; FF to all devices; Reboot under torque
+    ∷ drops 9 (0x06 ∷ 0xFF ∷ []) worked freshTable (status 9 0x00)
+    ∷ drops 9 (0x06 ∷ 0x01 ∷ []) worked device9 (status 9 0x00)
+    ∷ drops 9 (0x06 ∷ 0x02 ∷ []) worked (put device9 baudCode 3) (status 9 0x00)
+    ∷ heard 9 (0x06 ∷ 0x03 ∷ []) worked worked (status 9 0x84)
+    ∷ heard 254 (0x06 ∷ 0xFF ∷ []) worked worked []
+    ∷ drops 1 (0x08 ∷ []) (put (put (put at166 minPosition 100) torqueEnable 1) goalPosition 512) (put (put at166 minPosition 100) goalPosition 100) (status 1 0x00)
+    -- a write to ROM under torque; a Write with the alert; Write at levels 0 and 1, Read at 0; Read to all devices
+    ∷ heard 1 (0x03 ∷ 48 ∷ 0 ∷ 0xA0 ∷ 0x0F ∷ 0 ∷ 0 ∷ []) locked locked (status 1 0x07)
+    ∷ heard 1 (0x03 ∷ 65 ∷ 0 ∷ 1 ∷ []) alerted (put alerted lamp 1) (status 1 0x80)
+    ∷ heard 1 (0x03 ∷ 65 ∷ 0 ∷ 1 ∷ []) (level 0) (put (level 0) lamp 1) []
+    ∷ heard 1 (0x03 ∷ 65 ∷ 0 ∷ 1 ∷ []) (level 1) (put (level 1) lamp 1) []
+    ∷ heard 1 (0x02 ∷ 132 ∷ 0 ∷ 4 ∷ 0 ∷ []) (level 0) (level 0) []
+    ∷ heard 254 (0x02 ∷ 132 ∷ 0 ∷ 4 ∷ 0 ∷ []) freshTable freshTable []
+    -- void lists behind the own entry, of Sync Write and Bulk Write: an ID twice, one above 252, a cut entry
+    ∷ heard 254 (0x83 ∷ 65 ∷ 0 ∷ 1 ∷ 0 ∷ 1 ∷ 1 ∷ 2 ∷ 0 ∷ 2 ∷ 1 ∷ []) freshTable freshTable []
+    ∷ heard 254 (0x83 ∷ 65 ∷ 0 ∷ 1 ∷ 0 ∷ 1 ∷ 1 ∷ 253 ∷ 0 ∷ []) freshTable freshTable []
+    ∷ heard 254 (0x83 ∷ 65 ∷ 0 ∷ 1 ∷ 0 ∷ 1 ∷ 1 ∷ 2 ∷ []) freshTable freshTable []
+    ∷ heard 254 (0x83 ∷ 65 ∷ 0 ∷ 1 ∷ 0 ∷ 1 ∷ 1 ∷ 2 ∷ 0 ∷ []) freshTable (put freshTable lamp 1) []
+    ∷ heard 254 (0x93 ∷ 1 ∷ 65 ∷ 0 ∷ 1 ∷ 0 ∷ 1 ∷ 2 ∷ 65 ∷ 0 ∷ 1 ∷ 0 ∷ 0 ∷ 2 ∷ 65 ∷ 0 ∷ 1 ∷ 0 ∷ 0 ∷ []) freshTable freshTable []
+    ∷ heard 254 (0x93 ∷ 1 ∷ 65 ∷ 0 ∷ 1 ∷ 0 ∷ 1 ∷ 253 ∷ 65 ∷ 0 ∷ 1 ∷ 0 ∷ 0 ∷ []) freshTable freshTable []
+    ∷ heard 254 (0x93 ∷ 1 ∷ 65 ∷ 0 ∷ 1 ∷ 0 ∷ 1 ∷ 2 ∷ 65 ∷ 0 ∷ 1 ∷ 0 ∷ []) freshTable freshTable []
+    ∷ heard 254 (0x93 ∷ 1 ∷ 65 ∷ 0 ∷ 1 ∷ 0 ∷ 1 ∷ 2 ∷ 65 ∷ 0 ∷ 1 ∷ 0 ∷ 0 ∷ []) freshTable (put freshTable lamp 1) []
+    -- a bad checksum: with the own ID, at level 1, with 254, with another
+    ∷ badChecksum 1 freshTable (status 1 0x03)
+    ∷ badChecksum 1 (level 1) []
+    ∷ badChecksum 254 freshTable []
+    ∷ badChecksum 2 freshTable []
     -- no room for the body
     ∷ exchange pingTo1 (lending freshTable dropped 0) (refused 13) (lending freshTable dropped 0)
     -- a log of one Ping, in which ID 1 alone has a packet, and a log of nothing

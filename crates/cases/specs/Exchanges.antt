@@ -1,14 +1,13 @@
 -- The call on a packet as received, as the exchanges show it: what is lent to it, what it answers, and what it leaves.
 use mathlib.Core.List.{List, [], _∷_, _++_}
 use Prim.Native.Nat.{ℕ, _-_}
-use lib.IntN.{ℤ, pos}
+use lib.IntN.{pos}
 use lib.ListN.{length, replicate}
-use Rattle.registers.specs.Registers.{deviceId, maxPosition, minPosition, goalPosition, registeredInstruction}
+use Rattle.registers.specs.Registers.{deviceId, baudCode, torqueEnable, statusReturnLevel, hardwareError, maxPosition, minPosition, goalPosition, registeredInstruction}
 use Rattle.items.specs.Items.{put}
 use Rattle.control_table.specs.Fresh.{freshTable, measured}
 use Rattle.device.specs.Answers.{DeviceAnswer}
 use Rattle.exchange.specs.Exchange.{exchangeAnswer, exchangeTable, exchangeRegistered, exchangeBody, exchangeOut}
-use Rattle.plan.specs.Goals.{unwanted}
 use Rattle.instructions.specs.declared.RegisteredWrite.{RegisteredWrite}
 
 -- control table, registered write, body buffer and reply buffer
@@ -147,15 +146,19 @@ bulkWriteGoal =
     ∷ 0x93 ∷ 0x01 ∷ 0x74 ∷ 0x00 ∷ 0x04 ∷ 0x00 ∷ 0x00 ∷ 0x02 ∷ 0x00 ∷ 0x00 ∷ 0x02 ∷ 0x1F ∷ 0x00 ∷ 0x01 ∷ 0x00 ∷ 0x50
     ∷ 0x19 ∷ 0xC4 ∷ []
 
--- the goals 7 for device 3 and 255 for device 9, and the plan of them
-abbrev pub twoGoals : List ℤ
-twoGoals = replicate 3 unwanted ++ (pos 7 ∷ replicate 5 unwanted) ++ (pos 255 ∷ replicate 243 unwanted)
+-- device 9 at work: torque on, an alert, limits and goal moved
+abbrev pub worked : List ℕ
+worked = put (put (put (put (put device9 baudCode 3) maxPosition 4000) torqueEnable 1) hardwareError 4) goalPosition 512
 
-abbrev pub planOfTwo : List ℕ
-planOfTwo =
-    0xFF ∷ 0xFF ∷ 0xFD ∷ 0x00 ∷ 0xFE ∷ 0x11 ∷ 0x00
-    ∷ 0x83 ∷ 0x74 ∷ 0x00 ∷ 0x04 ∷ 0x00 ∷ 0x03 ∷ 0x07 ∷ 0x00 ∷ 0x00 ∷ 0x00 ∷ 0x09 ∷ 0xFF ∷ 0x00 ∷ 0x00 ∷ 0x00
-    ∷ 0x90 ∷ 0x10 ∷ []
+-- fresh ones with torque on, with a hardware error, and with another status return level
+abbrev pub locked : List ℕ
+locked = put freshTable torqueEnable 1
+
+abbrev pub alerted : List ℕ
+alerted = put freshTable hardwareError 4
+
+abbrev pub level : ℕ → List ℕ
+level n = put freshTable statusReturnLevel n
 
 -- Read of eight bytes at 48, and the longest status
 abbrev pub readLimits : List ℕ

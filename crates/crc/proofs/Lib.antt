@@ -6,3 +6,4 @@ pub mod Detects
 pub mod Lookup
 pub mod Product
 pub mod Examples
+pub mod Applied

@@ -1,4 +1,4 @@
--- A reply has at most 8 data bytes, an error byte of at most 135, and the own ID or 0.
+-- A reply has at most 8 data bytes, an error byte of at most 135, a slot of at most 252, and the own ID or 0.
 use mathlib.Core.Path.{_≡_, refl, ap}
 use mathlib.Core.Bool.{Bool, true, false, cond, true≢false}
 use mathlib.Core.List.{List, []}
@@ -15,6 +15,7 @@ use Rattle.control_table.proofs.Theorems.{read-short}
 use Rattle.instructions.proofs.Options.{each-option, each-action}
 use Rattle.instructions.proofs.Errors.{read-number, write-number}
 use Rattle.reaction_laws.proofs.Every.{every}
+use Rattle.reaction_laws.proofs.Slots.{Early, reaction-early}
 use Rattle.device.proofs.Replies.{to-whomever}
 use Rattle.instructions.specs.Instructions.{Effect, ping, read, write, regWrite, action}
 use Rattle.reactions.specs.Reactions.{ReplyRule, silent, speaks, ownId, Reaction, reaction}
@@ -29,6 +30,7 @@ pub record Sendable (own : ℕ) (r : Reply) : Type 0 where
   pub short : r .count ≤ 8
   -- 7, with the alert 135
   pub numbered : r .error ≤ 135
+  pub early : r .slot ≤ 252
   pub own-id : eqb (r .speaks) 0 ≡ false → r .id ≡ own
 
 pub record Small (e : Effect) : Type 0 where
@@ -85,15 +87,26 @@ module _ (table : List ℕ) (w : RegisteredWrite) (sized : length table ≡ tabl
 
     silence-sendable : Sendable (ownId table) silence
     silence-sendable =
-        record { known = omega arith; short = omega arith; numbered = omega arith; own-id = λ e. absurd (true≢false e) }
+        record { known = omega arith; short = omega arith; numbered = omega arith; early = omega arith; own-id = λ e. absurd (true≢false e) }
 
-    by-replying : (replying : ReplyRule) (e : Effect) → Small e → Sendable (ownId table) (replyBy replying table e)
-    by-replying silent e s = silence-sendable
-    by-replying (speaks least slot) e s =
+    by-replying : (replying : ReplyRule) (e : Effect) → Early replying → Small e → Sendable (ownId table) (replyBy replying table e)
+    by-replying silent e l s = silence-sendable
+    by-replying (speaks least slot) e l s =
         pick-sendable (leb least (getD table 68 0)) _ silence
-        (record { known = own; short = s .few; numbered = alerted (eqb (hardwareErrorIn (e .table)) 0) (e .error) (s .at-most-7); own-id = λ h. refl })
+        (record {
+          known = own;
+          short = s .few;
+          numbered = alerted (eqb (hardwareErrorIn (e .table)) 0) (e .error) (s .at-most-7);
+          early = l;
+          own-id = λ h. refl;
+        })
         silence-sendable
+
+    executed-early : (heard : Heard) (id : ℕ) (body : List ℕ) → Early (executed table w heard id body .replying)
+    executed-early heard id body =
+        to-whomever table w heard id body (λ (r : Reaction). Early (r .replying)) (λ all. reaction-early table w own heard all body) tt
 
     pub sendable : (heard : Heard) (id : ℕ) (body : List ℕ) → Sendable (ownId table) (carryOut table w heard id body .reply)
     sendable heard id body =
-        by-replying (executed table w heard id body .replying) (executed table w heard id body .effect) (executed-small heard id body)
+        by-replying (executed table w heard id body .replying) (executed table w heard id body .effect) (executed-early heard id body)
+        (executed-small heard id body)

@@ -140,10 +140,6 @@ module _ (refusal : Option ℕ) (r : Replied) (e : repliedAnswer r ≡ answeredB
   pub no-fault : refusal ≡ none
   no-fault = sent-none refusal n slot (ap repliedAnswer (sym is) ∙ e)
 
-pub no-fault-accepted : (table : List ℕ) (w : RegisteredWrite) (out : List ℕ) (r : Replied)
-    → repliedAnswer r ≡ answeredBy (callRefusal table w out) silence → (n slot : ℕ) → r ≡ Sent n slot → Accepted table w out
-no-fault-accepted table w out r e n slot is = accepted table w out (no-fault (callRefusal table w out) r e n slot is)
-
 -- a fault in table or registered write is one of the call
 pub state-refused : (table : List ℕ) (w : RegisteredWrite) (out : List ℕ) (r : Replied)
     → Refuses (stateRefusal table w) r → repliedAnswer r ≡ answeredBy (callRefusal table w out) silence

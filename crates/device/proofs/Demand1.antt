@@ -27,8 +27,8 @@ use Rattle.reactions.specs.declared.Heard.{Heard}
 -- ---- by the answer: refused by a number, or not
 
 pub sent-by : (r : Option ℕ) (reply : Reply) (n slot : ℕ) → answeredBy r reply ≡ sent n slot
-    → (r ≡ none) × (length (replyBytes reply) ≡ n)
-sent-by none reply n slot e = (refl, cc)
+    → (r ≡ none) × (length (replyBytes reply) ≡ n) × (reply .slot ≡ slot)
+sent-by none reply n slot e = (refl, cc, cc)
 sent-by (some number) reply n slot e = let z : _≡_ {A = ℕ} 0 1 = cc in absurd (omega arith)
 
 pub refused-by : (r : Option ℕ) (reply : Reply) (number : ℕ) → answeredBy r reply ≡ refused number → r ≡ some number

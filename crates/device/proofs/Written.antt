@@ -1,7 +1,8 @@
 -- The status that is written.
-use mathlib.Core.Path.{_≡_, sym, ap, subst, _∙_}
+use mathlib.Core.Path.{_≡_, refl, sym, ap, subst, _∙_}
 use mathlib.Core.List.{List}
-use Prim.Native.Nat.{ℕ, _<_}
+use mathlib.Core.Option.{Option, none, some}
+use Prim.Native.Nat.{ℕ, _≤_, _<_}
 use native.Mathlib.Omega.{arith}
 use lib.ListN.{length, take}
 use borrow.Author.Tests.{ne-eqb}
@@ -12,12 +13,14 @@ use Rattle.status.proofs.Sent.{speaking}
 use Rattle.status.proofs.Packets.{status-id, status-formed, status-length}
 use Rattle.reactions.specs.Reactions.{ownId}
 use Rattle.device.specs.Device.{carryOut}
-use Rattle.device.specs.Answers.{callRefusal, callOut}
-use Rattle.device.specs.Written.{IsStatus, StatusWritten}
+use Rattle.device.specs.Answers.{stateRefusal, carriedReply, callRefusal, callOut}
+use Rattle.device.specs.Written.{IsStatus, StatusWritten, SlotWithin}
 use Rattle.device.proofs.Bounds.{Sendable, sendable}
-use Rattle.device.proofs.Calls.{accepted}
+use Rattle.device.proofs.Calls.{state-accepted, accepted}
 use Rattle.device.proofs.Demand1.{sent-by}
+use Rattle.instructions.specs.declared.RegisteredWrite.{RegisteredWrite}
 use Rattle.status.specs.declared.Reply.{Reply}
+use Rattle.reactions.specs.declared.Heard.{Heard}
 
 is-status : (own : ℕ) (r : Reply) → Sendable own r → 0 < length (replyBytes r) → IsStatus own (length (replyBytes r)) (replyBytes r)
 is-status own r g h =
@@ -39,3 +42,22 @@ status-written table w heard id body out n slot e h =
     rw (s .0) (ap (λ (k : ℕ). take k (overwritten out (replyBytes reply))) (sym (s .1)) ∙ overwritten-take out (replyBytes reply)) in
     subst (λ (bytes : List ℕ). IsStatus (ownId table) n bytes) (sym first)
     (subst (λ (k : ℕ). IsStatus (ownId table) k (replyBytes reply)) (s .1) (is-status (ownId table) reply g (omega (arith, s .1))))
+
+-- a refused call answers silence
+first-early : (table : List ℕ) (w : RegisteredWrite) (heard : Heard) (id : ℕ) (body : List ℕ) → carriedReply table w heard id body .slot ≤ 252
+first-early table w heard id body = by-refusal (stateRefusal table w) refl
+  where
+    by-refusal : (r : Option ℕ) → stateRefusal table w ≡ r → carriedReply table w heard id body .slot ≤ 252
+    by-refusal (some number) e = rw e (omega arith)
+    by-refusal none e = let a = state-accepted table w e in rw e (sendable table w (a .sized) (a .known) heard id body .early)
+
+pub slot-within : SlotWithin
+slot-within =
+    record {
+      in-one = λ table w heard id body out n slot e.
+          let s = sent-by (callRefusal table w out) _ n slot e in
+          let a = accepted table w out (s .0) in
+          let l = sendable table w (a .sized) (a .known) heard id body .early in
+          omega (arith, s .2);
+      in-two = first-early;
+    }

@@ -1,4 +1,4 @@
--- The status that is written: a well-formed packet with the device's ID, of 21 bytes at the most.
+-- The status that is written: a well-formed packet with the device's ID, of 21 bytes at the most, in a slot of at most 252.
 use mathlib.Core.Path.{_≡_}
 use mathlib.Core.List.{List}
 use Prim.Native.Nat.{ℕ, _≤_, _<_}
@@ -6,7 +6,7 @@ use lib.ListN.{take}
 use Rattle.packet_front.specs.Front.{idOf}
 use Rattle.packet.specs.Packet.{WellFormed}
 use Rattle.reactions.specs.Reactions.{ownId}
-use Rattle.device.specs.Answers.{sent, callAnswer, callOut}
+use Rattle.device.specs.Answers.{sent, carriedReply, callAnswer, callOut}
 use Rattle.instructions.specs.declared.RegisteredWrite.{RegisteredWrite}
 use Rattle.reactions.specs.declared.Heard.{Heard}
 
@@ -21,3 +21,9 @@ abbrev pub StatusWritten : Type 0
 StatusWritten =
     (table : List ℕ) (w : RegisteredWrite) (heard : Heard) (id : ℕ) (body out : List ℕ) (n slot : ℕ)
     → callAnswer table w heard id body out ≡ sent n slot → 0 < n → IsStatus (ownId table) n (take n (callOut table w heard id body out))
+
+-- the reply slot, of the call in one and of the reply that the first of two gives [D34 D35]
+pub record SlotWithin : Type 0 where
+  pub in-one : (table : List ℕ) (w : RegisteredWrite) (heard : Heard) (id : ℕ) (body out : List ℕ) (n slot : ℕ)
+      → callAnswer table w heard id body out ≡ sent n slot → slot ≤ 252
+  pub in-two : (table : List ℕ) (w : RegisteredWrite) (heard : Heard) (id : ℕ) (body : List ℕ) → carriedReply table w heard id body .slot ≤ 252

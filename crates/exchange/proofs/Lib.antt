@@ -1,7 +1,7 @@
 pub mod Hearing
 pub mod Theorems
 pub mod Split
-pub mod Demand1
+pub mod AsDevice
 pub mod Kept
 pub mod Stays
 pub mod GoalWithinLimits

@@ -10,26 +10,32 @@ use Rattle.lists.specs.Write.{overwritten}
 use Rattle.stuffing.specs.Answers.{removalRefusal}
 use Rattle.packet.specs.Packet.{bodyOf}
 use Rattle.status.specs.Status.{silence}
-use Rattle.device.specs.Answers.{refused, answeredBy, withSlot}
+use Rattle.device.specs.Answers.{answeredBy, withSlot}
 use Rattle.status.specs.Sending.{statusAnswer, statusOut}
 use Rattle.device.specs.Split.{answerOfBoth, outOfBoth}
 use Rattle.device.specs.declared.Replied.{Replied}
 use Rattle.status.specs.declared.Reply.{Reply}
-use Rattle.device.proofs.Split.{Same, with-room as device-with-room, unless-24 as device-unless-24}
+use Rattle.device.proofs.Split.{Same, with-room as device-with-room}
 use Rattle.instructions.specs.declared.RegisteredWrite.{RegisteredWrite}
 use Rattle.reactions.specs.declared.Heard.the-variants.{Packet}
-use Rattle.exchange.specs.Exchange.{exchangedAnswer, heardOf, exchangeAnswer}
+use Rattle.exchange.specs.Exchange.{exchangedAnswer, heardOf, packetRefusal, packetReply, packetTable, packetRegistered, packetBody, exchangeAnswer, exchangeTable, exchangeRegistered, exchangeBody, exchangeOut}
 use Rattle.exchange.specs.declared.Exchanged.{Exchanged}
 use Rattle.exchange.specs.declared.Exchanged.the-variants.{Device, BadStuffing, NoRoom}
-use Rattle.exchange.specs.Split.{SameAsOne, Split}
 
 module _ (table : List ℕ) (w : RegisteredWrite) (packet body out : List ℕ) where
-  not-removed : (number : ℕ) → removalRefusal (bodyOf packet) body ≡ some number → SameAsOne table w packet body out
+  pub record SameAsOne : Type 0 where
+    pub same-answer : answerOfBoth (packetRefusal table w packet body) (packetReply table w packet body) out ≡ exchangeAnswer table w packet body out
+    pub same-table : packetTable table w packet body ≡ exchangeTable table w packet body out
+    pub same-registered : packetRegistered table w packet body ≡ exchangeRegistered table w packet body out
+    pub same-body : packetBody table w packet body ≡ exchangeBody table w packet body out
+    pub same-reply : outOfBoth (packetRefusal table w packet body) (packetReply table w packet body) out ≡ exchangeOut table w packet body out
+
+  not-removed : (number : ℕ) → removalRefusal (bodyOf packet) body ≡ some number → SameAsOne
   not-removed number e = record { same-answer = rw e; same-table = rw e; same-registered = rw e; same-body = rw e; same-reply = rw e }
 
   -- the stuffing is removed, and the device hears
   heard : removalRefusal (bodyOf packet) body ≡ none
-      → Same table w Packet (heardOf packet .id) (heardOf packet .body) out → SameAsOne table w packet body out
+      → Same table w Packet (heardOf packet .id) (heardOf packet .body) out → SameAsOne
   heard e same =
       let d = same .as-one in
       record {
@@ -42,22 +48,14 @@ module _ (table : List ℕ) (w : RegisteredWrite) (packet body out : List ℕ) w
 
   by-removal : (r : Option ℕ) → removalRefusal (bodyOf packet) body ≡ r
       → (removalRefusal (bodyOf packet) body ≡ none → Same table w Packet (heardOf packet .id) (heardOf packet .body) out)
-      → SameAsOne table w packet body out
+      → SameAsOne
   by-removal (some number) e device = not-removed number e
   by-removal none e device = heard e (device e)
 
-  pub with-room : 32 ≤ length out → SameAsOne table w packet body out
+  pub with-room : 32 ≤ length out → SameAsOne
   with-room room =
       by-removal (removalRefusal (bodyOf packet) body) refl
       (λ e. device-with-room table w Packet (heardOf packet .id) (heardOf packet .body) out room)
-
-  unless-24 : ¬ (exchangeAnswer table w packet body out ≡ refused 24) → SameAsOne table w packet body out
-  unless-24 n =
-      by-removal (removalRefusal (bodyOf packet) body) refl
-      (λ e. device-unless-24 table w Packet (heardOf packet .id) (heardOf packet .body) out (λ h. n (rw e h)))
-
-pub split : Split
-split table w packet body out n = unless-24 table w packet body out n
 
 -- the first call does not lead to the device: the second is not made
 pub not-device : (refusal : Option ℕ) (x : Exchanged) → exchangedAnswer x ≡ answeredBy refusal silence → ((r : Replied) → x ≡ Device r → ⊥)

@@ -1,9 +1,6 @@
 pub mod Exchange
-pub mod Split
+pub mod AsDevice
 pub mod OnlyPackets
-pub mod Demand1
-pub mod Written
-pub mod ActionLimits
 pub mod Calls
 pub mod Stays
 pub mod GoalWithinLimits

@@ -1,37 +1,38 @@
--- Only well-formed packets are carried out: no table changes by bytes that the packet rules refuse, whoever calls.
+-- Only well-formed packets are carried out: no table changes by bytes that the packet rules refuse, whoever calls. And none is
+-- refused where table, registered write and buffers are as they should be.
 use mathlib.Core.Path.{_≡_}
 use mathlib.Core.List.{List}
+use mathlib.Core.Option.{none}
 use Prim.Native.Nat.{ℕ, _≤_}
 use lib.ListN.{length}
-use Rattle.lists.specs.Answer.{unlessRefused}
-use Rattle.lists.specs.Write.{overwritten}
 use Rattle.stuffing.specs.Stuffing.{unstuff}
+use Rattle.stuffing.specs.Answers.{removalRefusal}
 use Rattle.packet_front.specs.Front.{idOf}
 use Rattle.packet.specs.Packet.{bodyOf, WellFormed}
 use Rattle.status.specs.Status.{silence}
-use Rattle.device.specs.Answers.{answeredBy, callRefusal, callAnswer, callTable, callRegistered, callOut}
+use Rattle.device.specs.Answers.{answeredBy, stateRefusal}
 use Rattle.instructions.specs.declared.RegisteredWrite.{RegisteredWrite}
-use Rattle.reactions.specs.declared.Heard.the-variants.{Packet}
-use Rattle.exchange.specs.Exchange.{exchangeRefusal, exchangeAnswer, exchangeTable, exchangeRegistered, exchangeOut, exchangeBody}
+use Rattle.exchange.specs.Exchange.{heardOf, packetRefusal, packetReply, packetTable, packetRegistered, exchangeRefusal, exchangeAnswer, exchangeTable, exchangeRegistered, exchangeOut}
 
-module _ (table : List ℕ) (w : RegisteredWrite) (packet body out : List ℕ) where
-  -- nothing changes, and the answer is a refusal by its number, or 0 bytes in slot 0
-  pub record Unheard : Type 0 where
-    pub same-table : exchangeTable table w packet body out ≡ table
-    pub same-registered : exchangeRegistered table w packet body out ≡ w
-    pub same-reply : exchangeOut table w packet body out ≡ out
-    pub silent : exchangeAnswer table w packet body out ≡ answeredBy (exchangeRefusal table w packet body out) silence
+-- nothing changes, and the answer is a refusal by its number, or 0 bytes in slot 0; the reply of the first call is silence
+pub record Unheard (table : List ℕ) (w : RegisteredWrite) (packet body out : List ℕ) : Type 0 where
+  pub same-table : exchangeTable table w packet body out ≡ table
+  pub same-registered : exchangeRegistered table w packet body out ≡ w
+  pub same-reply : exchangeOut table w packet body out ≡ out
+  pub silent : exchangeAnswer table w packet body out ≡ answeredBy (exchangeRefusal table w packet body out) silence
+  pub first-table : packetTable table w packet body ≡ table
+  pub first-registered : packetRegistered table w packet body ≡ w
+  pub first-reply : packetReply table w packet body ≡ silence
 
-  -- the packet's ID and its unstuffed body are answered, and that body is in the body buffer
-  pub record HeardOut : Type 0 where
-    pub answers : exchangeAnswer table w packet body out ≡ callAnswer table w Packet (idOf packet) (unstuff (bodyOf packet)) out
-    pub new-table : exchangeTable table w packet body out ≡ callTable table w Packet (idOf packet) (unstuff (bodyOf packet)) out
-    pub new-registered : exchangeRegistered table w packet body out ≡ callRegistered table w Packet (idOf packet) (unstuff (bodyOf packet)) out
-    pub new-reply : exchangeOut table w packet body out ≡ callOut table w Packet (idOf packet) (unstuff (bodyOf packet)) out
-    pub new-body : exchangeBody table w packet body out ≡ unlessRefused (callRefusal table w out) body (overwritten body (unstuff (bodyOf packet)))
-
--- the bytes are one well-formed packet, with room for its body, or they are not [D38]
+-- [D38]
 pub record OnlyPackets : Type 0 where
-  pub packets : (table : List ℕ) (w : RegisteredWrite) (packet body out : List ℕ) → WellFormed packet
-      → length (unstuff (bodyOf packet)) ≤ length body → HeardOut table w packet body out
+  -- a well-formed packet is heard, if there is room for its body
+  pub its-id : (packet : List ℕ) → WellFormed packet → heardOf packet .id ≡ idOf packet
+  pub with-room : (packet body : List ℕ) → WellFormed packet → length (unstuff (bodyOf packet)) ≤ length body
+      → removalRefusal (bodyOf packet) body ≡ none
   pub others : (table : List ℕ) (w : RegisteredWrite) (packet body out : List ℕ) → ¬ WellFormed packet → Unheard table w packet body out
+  -- 'No bytes on the line lead to a refused call': a packet, a body buffer of 1,022 bytes, a reply buffer of 32, and a table and a
+  -- registered write that are accepted give no refusal [D42]
+  pub never-refused : (table : List ℕ) (w : RegisteredWrite) (packet body out : List ℕ) → WellFormed packet → 1022 ≤ length body
+      → 32 ≤ length out → stateRefusal table w ≡ none
+      → (exchangeRefusal table w packet body out ≡ none) × (packetRefusal table w packet body ≡ none)

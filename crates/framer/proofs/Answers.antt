@@ -14,7 +14,7 @@ use Rattle.reading.proofs.Held.{packet-good}
 use Rattle.protocols.specs.declared.Protocol.{Protocol}
 use Rattle.protocols.specs.declared.Protocol.the-variants.{Two, One, Mercury}
 use Rattle.protocols.specs.Protocols.{rulesOf, idPlace, idIn}
-use Rattle.protocols.proofs.Shapes.{laws}
+use Rattle.protocols.proofs.Shapes.{laws, id-at}
 use Rattle.framer.specs.declared.Step.{Step}
 use Rattle.framer.specs.Results.{mostHeld, eventFor, packetBytes, stepFor, heldFor, packetFor}
 use Rattle.framer.specs.Delivered.{eventWith, sizeIn, Delivered}
@@ -59,7 +59,8 @@ event-is p none bytes g b = refl
 event-is p (some (badChecksum id)) bytes g b = refl
 event-is p (some (packet w)) bytes g b =
     let h = id-inside p w (g w refl) in
-    let e : idIn p bytes ≡ idIn p w = sym (getD-take (length w) bytes (idPlace p) 0 h) ∙ ap (λ (s : List ℕ). getD s (idPlace p) 0) b in
+    let e : idIn p bytes ≡ idIn p w =
+    sym (id-at p bytes) ∙ sym (getD-take (length w) bytes (idPlace p) 0 h) ∙ ap (λ (s : List ℕ). getD s (idPlace p) 0) b ∙ id-at p w in
     rw e
 
 -- ---- the call

@@ -12,6 +12,7 @@ use lib.IntN.{ℤ, pos}
 use borrow.Author.Tests.{eq-eqb, lt-ltb, ltb-true, ltb-false, leb-true}
 use Rattle.lists.proofs.Bools.{and-left, and-right, or-right}
 use Rattle.registers.specs.Registers.{Register, registers, tableSize, endOf, deviceId, goalPosition, minPosition, presentPosition, hardwareError, registeredInstruction}
+use Rattle.registers.proofs.Rows.{placeIn, placeOf}
 use Rattle.lists.specs.Numbers.{bytesOf}
 use Rattle.items.specs.Items.{put, unsigned, itemBytes, valueOf, valueInRange}
 use Rattle.items.proofs.Signed.{value-byte}
@@ -82,9 +83,9 @@ if-touched address n b h l e = or-right (not (touches address n deviceId)) b e (
 -- whose range the write rule has tested
 own-in-range : (new : List ℕ) (address n : ℕ) → everyTouched address n (valueInRange new) registers ≡ true → address ≤ 7 → 7 < address + n
     → getD new 7 0 ≤ 252
-unfolding registers
+unfolding registers placeIn
 own-in-range new address n e h l =
-    let range = if-touched address n (valueInRange new deviceId) h l (each (valueInRange new) address n registers 2 (omega arith) e) in
+    let range = if-touched address n (valueInRange new deviceId) h l (each (valueInRange new) address n registers (placeOf deviceId) (omega arith) e) in
     let top = and-right (leZ (pos 0) (valueOf deviceId new)) (leZ (valueOf deviceId new) (pos 252)) range in
     leb-true (getD new 7 0) 252 (sym (ap (λ (z : ℤ). leZ z (pos 252)) (value-byte new 7 1 refl)) ∙ top)
 

@@ -1,2 +1,4 @@
 pub mod Turns
 pub mod Promises
+pub mod Applied
+pub mod Overwritten

@@ -7,17 +7,12 @@ use lib.ListN.{take}
 use Rattle.lists.specs.Numbers.{bytesOf}
 use Rattle.lists.specs.Write.{placed}
 use Rattle.log_layout.specs.Log.{logOf}
+use Rattle.log_layout.specs.Samples.{twoPings}
 use Rattle.log_salvage.specs.Report.{Report, reportOf, emptyReport}
 
--- Ping to 1, Ping to 2, and the log of these two, of 1,068 bytes
-abbrev pub pingTo1 : List ℕ
-pingTo1 = 0xFF ∷ 0xFF ∷ 0xFD ∷ 0x00 ∷ 0x01 ∷ 0x03 ∷ 0x00 ∷ 0x01 ∷ 0x19 ∷ 0x4E ∷ []
-
-abbrev pub pingTo2 : List ℕ
-pingTo2 = 0xFF ∷ 0xFF ∷ 0xFD ∷ 0x00 ∷ 0x02 ∷ 0x03 ∷ 0x00 ∷ 0x01 ∷ 0x19 ∷ 0x72 ∷ []
-
-abbrev pub twoPings : List ℕ
-twoPings = logOf (pingTo1 ∷ pingTo2 ∷ [])
+-- the log of two Pings, of 1,068 bytes
+abbrev pub wholeLog : List ℕ
+wholeLog = logOf twoPings
 
 -- another number in a file's header
 abbrev pub numbered : List ℕ → ℕ → ℕ → List ℕ
@@ -30,24 +25,24 @@ pub record Case : Type 0 where
 
 abbrev pub table : List Case
 table =
-    record { file = twoPings; report = emptyReport }
+    record { file = wholeLog; report = emptyReport }
     -- the last byte is cut off
     ∷ record {
-      file = take 1067 twoPings;
+      file = take 1067 wholeLog;
       report = record { dropped = (1, 2) ∷ []; header-changed = true; index-changed = 1; leftover = 9 };
     }
     -- another place of the directory
     ∷ record {
-      file = numbered twoPings 4 99;
+      file = numbered wholeLog 4 99;
       report = record { dropped = []; header-changed = true; index-changed = 0; leftover = 0 };
     }
     -- 3 segments, and as many as there can be
     ∷ record {
-      file = numbered twoPings 0 3;
+      file = numbered wholeLog 0 3;
       report = record { dropped = (0, 1) ∷ (2, 1) ∷ []; header-changed = true; index-changed = 4; leftover = 2 };
     }
     ∷ record {
-      file = numbered twoPings 0 0xFFFFFFFF;
+      file = numbered wholeLog 0 0xFFFFFFFF;
       report = record { dropped = (0, 1) ∷ (1, 1) ∷ (2, 1) ∷ (3, 1) ∷ []; header-changed = true; index-changed = 4; leftover = 4 };
     }
     -- no segments, and three bytes behind the index

@@ -1,8 +1,10 @@
 // The packets of a segment by their IDs: marks in an index of all IDs, and the last packet for one ID.
 use plain_reader::Next;
+use protocols::Protocol;
 ghost use mathlib.Core.Path.{_≡_};
 ghost use Rattle.reading.specs.Reading.{reading};
 ghost use Rattle.packet.specs.Verdict.{protocol2};
+ghost use Rattle.plain_reader.specs.Next.{nextEvent};
 ghost use Rattle.log_index.specs.Last.{placeOf, lastIn};
 ghost use Rattle.log_index.specs.Marks.{marked, offsetOf};
 
@@ -19,13 +21,22 @@ pub fn place_of(id: u8) -> usize
     if id < 253 { id as usize } else { 253 }
 }
 
+// The next event at the offset `from` or behind it: the plain reader's, asked only where a packet may begin, since the search for
+// that passes noise faster.
+fn next_event(segment: &[u8], from: usize) -> Next
+    ensures { λ r. ⌜ r ≡ nextEvent (now (segment .entry)) from ⌝ }
+{
+    let start = protocols::next_start(Protocol::Two, segment, from);
+    plain_reader::next_event(segment, start)
+}
+
 // Writes the number of a segment for each ID that has a packet in it. A bad checksum is no packet. [I5 I8]
 pub fn mark(index: &mut [usize; 254], segment: &[u8], number: usize)
     ensures { λ _. ⌜ now (index .exit) ≡ marked number (now (index .entry)) (reading protocol2 (now (segment .entry))) ⌝ }
 {
     let mut from = 0;
     loop {
-        match plain_reader::next_event(segment, from) {
+        match next_event(segment, from) {
             Next::Packet {
                 offset: _,
                 count: _,
@@ -55,7 +66,7 @@ pub fn last_in(segment: &[u8], wanted: u8) -> Offset
     let mut last = Offset::Nothing;
     let mut from = 0;
     loop {
-        match plain_reader::next_event(segment, from) {
+        match next_event(segment, from) {
             Next::Packet {
                 offset,
                 count: _,

@@ -32,12 +32,6 @@ module _ (file : List ℕ) where
   pub old-end : 1032 ≤ length file → segmentsPlace (entryCount file) ≤ length file
   old-end h = omega arith
 
-  pub kept-most : length (keptSegments file) ≤ entryCount file
-  kept-most =
-      let s = segments-count file (keptOf file (entryCount file)) in
-      let c = counts-of file (entryCount file) in
-      omega arith
-
   pub salvaged-size : length (salvaged file) ≡ segmentsPlace (length (keptOf file (entryCount file))) + bytesBy file (keptOf file (entryCount file))
   salvaged-size =
       log-length (keptSegments file)

@@ -3,3 +3,4 @@ pub mod Turns
 pub mod Answer
 pub mod LeftOver
 pub mod Promises
+pub mod Applied

@@ -4,3 +4,4 @@ pub mod Laws
 pub mod Looks
 pub mod Begins
 pub mod Burst
+pub mod Applied

@@ -4,16 +4,12 @@ use mathlib.Core.Bool.{true, false, _&&_}
 use mathlib.Core.List.{List}
 use Prim.Native.Nat.{ℕ, _≤_, _<_}
 use lib.ListN.{length}
-use borrow.Author.Tests.{lt-ltb, le-ltb, le-leb, lt-leb}
+use borrow.Author.Tests.{le-ltb, le-leb, lt-leb}
 use Rattle.packet_front.specs.Front.{lengthOf}
 use Rattle.packet_front.specs.Begun.{frontAgrees, lengthAgrees}
 
 module _ (s : List ℕ) where
   -- the tests on the length field, by the bytes that are there
-  pub length-early : length s < 7 → lengthAgrees s ≡ true
-  unfolding lengthAgrees
-  length-early h = rw (lt-ltb (length s) 7 h)
-
   pub length-short : 7 ≤ length s → lengthOf s < 3 → lengthAgrees s ≡ false
   unfolding lengthAgrees
   length-short h k = rw (le-ltb (length s) 7 h, lt-leb 3 (lengthOf s) k)

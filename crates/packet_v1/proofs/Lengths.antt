@@ -4,15 +4,11 @@ use mathlib.Core.Bool.{true, false}
 use mathlib.Core.List.{List}
 use Prim.Native.Nat.{ℕ, _≤_, _<_}
 use lib.ListN.{length}
-use borrow.Author.Tests.{lt-ltb, le-ltb, le-leb, lt-leb}
+use borrow.Author.Tests.{le-ltb, le-leb, lt-leb}
 use Rattle.packet_v1.specs.Packet.{lengthOf}
 use Rattle.packet_v1.specs.Verdict.{lengthAgrees}
 
 module _ (s : List ℕ) where
-  pub length-early : length s < 4 → lengthAgrees s ≡ true
-  unfolding lengthAgrees
-  length-early h = rw (lt-ltb (length s) 4 h)
-
   pub length-short : 4 ≤ length s → lengthOf s < 2 → lengthAgrees s ≡ false
   unfolding lengthAgrees
   length-short h k = rw (le-ltb (length s) 4 h, lt-leb 2 (lengthOf s) k)

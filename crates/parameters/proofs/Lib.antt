@@ -1,2 +1,3 @@
+mod Apart
 pub mod Searching
 pub mod Bulk

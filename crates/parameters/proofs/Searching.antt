@@ -1,13 +1,13 @@
 -- The search in a list, turn by turn. Which IDs have passed stands in a table of marks.
 use mathlib.Core.Path.{_≡_, refl, sym, ap, _∙_}
-use mathlib.Core.Bool.{Bool, true, false, cond, _||_}
+use mathlib.Core.Bool.{Bool, true, false, not, cond, _&&_, _||_}
 use mathlib.Core.List.{List, [], _∷_}
 use Prim.Native.Nat.{ℕ, zero, suc, _+_, _-_, _≤_, _<_}
 use native.Mathlib.Omega.{arith}
 use lib.Dec.{leb, eqb}
 use lib.ListN.{length, take, drop, getD, set, replicate, length-set, length-drop, getD-replicate}
 use lib.Seq.{take-all, getD-set-same, getD-set-other}
-use borrow.Author.Tests.{leb-true, le-leb, lt-leb, eqb-true, eqb-false, eq-eqb, ne-eqb}
+use borrow.Author.Tests.{leb-true, le-leb, lt-leb, eqb-true, eqb-false, eq-eqb, ne-eqb, not-true}
 use Rattle.lists.proofs.Bools.{and-left, and-right}
 use Rattle.parameters.specs.Entries.{Entry, occurs, entryGood, searchFrom, search}
 use Rattle.parameters.specs.Parameters.{wordAt, plain, entryOf, syncSearch}
@@ -15,6 +15,7 @@ use Rattle.parameters.specs.declared.EntryKind.{EntryKind}
 use Rattle.parameters.specs.declared.EntryKind.the-variants.{Plain, BulkRead, BulkWrite}
 use Rattle.parameters.specs.declared.Found.{Found}
 use Rattle.parameters.specs.declared.Found.the-variants.{At, Nothing}
+use Rattle.parameters.proofs.Apart.{Apart, none-apart, apart-next, apart-few}
 
 -- ---- what `entry_size` has told of the entry at `at`
 
@@ -200,14 +201,15 @@ module _ (e : Entry) (own : ℕ) (params : List ℕ) (from : ℕ) where
       by-steps zero = rw (le-leb (length params) from h)
       by-steps (suc steps) = rw (le-leb (length params) from h)
 
-  -- ---- an entry that was found is allowed and whole
+  -- ---- an entry that was found is allowed and whole, and stands behind 252 others at the most
 
-  pub record Whole (at : ℕ) : Type 0 where
+  pub record Whole (slot at : ℕ) : Type 0 where
     pub ok : e .allowed (drop at params) ≡ true
     pub fits : at + e .size (drop at params) ≤ length params
+    pub early : slot ≤ 252
 
   AllWhole : Found → Type 0
-  AllWhole found = (slot at : ℕ) → found ≡ At slot at → Whole at
+  AllWhole found = (slot at : ℕ) → found ≡ At slot at → Whole slot at
 
   nothing-whole : AllWhole Nothing
   unfolding AllWhole
@@ -217,29 +219,50 @@ module _ (e : Entry) (own : ℕ) (params : List ℕ) (from : ℕ) where
   pick-whole true x y f g = f refl
   pick-whole false x y f g = g refl
 
-  here-whole : (n at : ℕ) → Whole at → AllWhole (At n at)
+  here-whole : (n at : ℕ) → Whole n at → AllWhole (At n at)
   unfolding AllWhole
-  here-whole n at w slot k e = let z : at ≡ k = cc in rw z at w
+  here-whole n at w slot k e =
+      let y : n ≡ slot = cc in
+      let z : at ≡ k = cc in
+      rw (y, z) at w
 
-  good-whole : (at : ℕ) (passed : List ℕ) → entryGood e params at passed ≡ true → Whole at
-  good-whole at passed g =
-      record {
-        ok = and-left (e .allowed (drop at params)) _ g;
-        fits = leb-true (at + e .size (drop at params)) (length params) (and-left _ _ (and-right (e .allowed (drop at params)) _ g));
-      }
+  module _ (at : ℕ) (passed : List ℕ) (g : entryGood e params at passed ≡ true) where
+    among : (leb (getD params at 0) 252 && not (occurs (getD params at 0) passed)) ≡ true
+    among = and-right (leb (at + e .size (drop at params)) (length params)) _ (and-right (e .allowed (drop at params)) _ g)
 
-  from-whole : (steps at : ℕ) (passed : List ℕ) (found : Found) → AllWhole found → AllWhole (searchFrom e own params steps at passed found)
+    good-apart : Apart passed → Apart (getD params at 0 ∷ passed)
+    good-apart d =
+        apart-next (getD params at 0) passed d (leb-true (getD params at 0) 252 (and-left _ _ among))
+        (not-true (occurs (getD params at 0) passed) (and-right (leb (getD params at 0) 252) _ among))
+
+    good-whole : Apart passed → Whole (length passed) at
+    good-whole d =
+        record {
+          ok = and-left (e .allowed (drop at params)) _ g;
+          fits = leb-true (at + e .size (drop at params)) (length params) (and-left _ _ (and-right (e .allowed (drop at params)) _ g));
+          early = let n = apart-few (getD params at 0 ∷ passed) (good-apart d) in omega arith;
+        }
+
+  from-whole : (steps at : ℕ) (passed : List ℕ) (found : Found) → Apart passed → AllWhole found
+      → AllWhole (searchFrom e own params steps at passed found)
   unfolding searchFrom
-  from-whole zero at passed found f = pick-whole (leb (length params) at) found Nothing (λ _. f) (λ _. nothing-whole)
-  from-whole (suc steps) at passed found f =
-      pick-whole (leb (length params) at) found _ (λ _. f) (λ _. pick-whole (entryGood e params at passed) _ Nothing (λ g. from-whole steps (at + e .size (drop at params)) (getD params at 0 ∷ passed) _ (pick-whole (eqb (getD params at 0) own) (At (length passed) at) found (λ _. here-whole (length passed) at (good-whole at passed g)) (λ _. f))) (λ _. nothing-whole))
+  from-whole zero at passed found d f = pick-whole (leb (length params) at) found Nothing (λ _. f) (λ _. nothing-whole)
+  from-whole (suc steps) at passed found d f =
+      pick-whole (leb (length params) at) found _ (λ _. f) (λ _. pick-whole (entryGood e params at passed) _ Nothing (λ g. from-whole steps (at + e .size (drop at params)) (getD params at 0 ∷ passed) _ (good-apart at passed g d) (pick-whole (eqb (getD params at 0) own) (At (length passed) at) found (λ _. here-whole (length passed) at (good-whole at passed g d)) (λ _. f))) (λ _. nothing-whole))
 
-  pub found-whole : (slot at : ℕ) → search e own params from ≡ At slot at → Whole at
+  pub found-whole : (slot at : ℕ) → search e own params from ≡ At slot at → Whole slot at
   unfolding AllWhole
-  found-whole slot at s = from-whole (length params) from [] Nothing nothing-whole slot at s
+  found-whole slot at s = from-whole (length params) from [] Nothing none-apart nothing-whole slot at s
 
-pub sync-whole : (size own : ℕ) (params : List ℕ) (slot at : ℕ) → syncSearch size own params ≡ At slot at → at + size ≤ length params
-unfolding AllWhole
-sync-whole size own params slot at e =
-    pick-whole (plain size) own params 4 (eqb (wordAt params 2) 0) Nothing (search (plain size) own params 4) (λ _. nothing-whole (plain size) own params 4)
-    (λ _ s k f. found-whole (plain size) own params 4 s k f) slot at e .fits
+module _ (size own : ℕ) (params : List ℕ) (slot at : ℕ) (e : syncSearch size own params ≡ At slot at) where
+  sync-found : Whole (plain size) own params 4 slot at
+  unfolding AllWhole
+  sync-found =
+      pick-whole (plain size) own params 4 (eqb (wordAt params 2) 0) Nothing (search (plain size) own params 4)
+      (λ _. nothing-whole (plain size) own params 4) (λ _ s k f. found-whole (plain size) own params 4 s k f) slot at e
+
+  pub sync-whole : at + size ≤ length params
+  sync-whole = sync-found .fits
+
+  pub sync-early : slot ≤ 252
+  sync-early = sync-found .early

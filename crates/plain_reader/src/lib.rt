@@ -1,6 +1,5 @@
 // A plain reader: the next event of a whole segment, which lies in one slice, by the rule of reading and nothing else. It keeps no
 // bytes of its own.
-use packet_rules::Begun;
 use packet_rules::Judgement;
 use protocols::Protocol;
 ghost use mathlib.Core.Path.{_≡_};
@@ -23,37 +22,26 @@ pub enum Next {
 }
 
 // The next event at the offset `from` or behind it. At each offset stands a packet, or a bad checksum, or it is passed by one byte;
-// so is one that waits for more bytes, since none follow a whole segment. Offsets at which no packet may begin are passed by a
-// search, and the last nine, where none has room, are left. [R1-R5]
+// so is one that waits for more bytes, since none follow a whole segment. [R1-R5]
 pub fn next_event(segment: &[u8], from: usize) -> Next
     ensures { λ r. ⌜ r ≡ nextEvent (now (segment .entry)) from ⌝ }
 {
-    if segment.len() < from {
-        return Next::Nothing;
-    }
-    let mut offset = protocols::next_start(Protocol::Two, segment, from);
-    while 10 <= segment.len() - offset {
-        if let Begun::Whole(size) = protocols::look(Protocol::Two, &segment[offset..]) {
-            match protocols::judge_whole(Protocol::Two, &segment[offset..offset + size]) {
-                Judgement::Packet(count) => {
-                    return Next::Packet {
-                        offset,
-                        count,
-                        next: offset + count,
-                        id: segment[offset + 4],
-                    };
-                }
-                Judgement::BadChecksum(id) => {
-                    return Next::BadChecksum {
-                        offset,
-                        next: offset + 1,
-                        id,
-                    };
-                }
-                _ => {}
-            }
+    let mut offset = from;
+    while offset < segment.len() {
+        match protocols::judge(Protocol::Two, segment, offset) {
+            Judgement::Packet(count) => return Next::Packet {
+                offset,
+                count,
+                next: offset + count,
+                id: segment[offset + 4],
+            },
+            Judgement::BadChecksum(id) => return Next::BadChecksum {
+                offset,
+                next: offset + 1,
+                id,
+            },
+            Judgement::Waiting(_) | Judgement::Nothing => offset += 1,
         }
-        offset = protocols::next_start(Protocol::Two, segment, offset + 1);
     }
     Next::Nothing
 }

@@ -1,3 +1,4 @@
 pub mod Wanted
 pub mod Packets
 pub mod Lists
+pub mod Samples

@@ -1,3 +1,4 @@
 pub mod Goals
 pub mod Plan
 pub mod Planner
+pub mod Samples

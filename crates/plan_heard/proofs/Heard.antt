@@ -19,7 +19,7 @@ use Rattle.reading.proofs.Clean.{call-promises}
 use Rattle.packet.specs.Packet.{bodyOf}
 use Rattle.packet.specs.Verdict.{protocol2}
 use Rattle.packet.proofs.Laws.{laws}
-use Rattle.reader.proofs.Records.{reader-promises}
+use Rattle.reader.proofs.Records.{every-protocol}
 use Rattle.registers.specs.Registers.{tableSize, goalPosition, endOf}
 use Rattle.items.specs.Items.{valueOf}
 use Rattle.table_rules.specs.Rules.{stored}
@@ -29,7 +29,7 @@ use Rattle.device.proofs.Calls.{state-accepted, accepted}
 use Rattle.plan.specs.Goals.{unwanted, goalOf, wanted, goalWithin}
 use Rattle.plan.specs.Plan.{goalFound, paramsOf, goalsIn, GoalWrite}
 use Rattle.plan.proofs.Wanted.{goals-within, within-at}
-use Rattle.plan_heard.specs.Hearing.{Device, Form, inTwo, inOne, hears, hearsAll}
+use Rattle.plan_heard.specs.Hearing.{Device, Form, inTwo, inOne, unstuffed, hears, hearsAll}
 use Rattle.plan_heard.specs.PlanCarriedOut.{admits, faultOf, Obeyed, PlanCarriedOut}
 use Rattle.plan_heard.proofs.Written.{goal-is}
 use Rattle.plan_heard.proofs.Step.{Fit, changed, same-room, not-found, Wrote, is-found}
@@ -167,6 +167,9 @@ fit-of : (form : Form) (d : Device) → faultOf form d ≡ none → Fit form d
 fit-of inTwo d e =
     let a = state-accepted (d .table) (d .registered) e in
     record { sized = a .sized; known = a .known; short = a .short; answerable = tt }
+fit-of unstuffed d e =
+    let a = state-accepted (d .table) (d .registered) e in
+    record { sized = a .sized; known = a .known; short = a .short; answerable = tt }
 fit-of inOne d e =
     let a = accepted (d .table) (d .registered) (d .reply) e in
     record { sized = a .sized; known = a .known; short = a .short; answerable = a .room }
@@ -217,7 +220,7 @@ plan-carried-out =
       carried-out = λ goals bytes good plan x fresh earlier start chunks g taken form d ready.
           let ws = plan .packets in
           let fit = fit-of form d (ready .faultless) in
-          let line = reader-promises .calls .clean-line x fresh earlier start chunks g ws (λ w m. plan .each w m .well)
+          let line = every-protocol .two .calls .clean-line x fresh earlier start chunks g ws (λ w m. plan .each w m .well)
           (taken .0 ∙ sym (plan .end-to-end)) (taken .1) in
           subst (λ (events : List Event). Obeyed goals d (hearsAll form d events)) (sym (line .1))
           (obeyed goals form d fit ws (plan .each) (ready .room) (plan .stands (ownId (d .table)) (let k = fit .known in omega arith))

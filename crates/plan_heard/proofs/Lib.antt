@@ -1,3 +1,4 @@
 mod Written
 mod Step
 pub mod Heard
+pub mod Applied

@@ -30,7 +30,7 @@ use Rattle.device.proofs.Calls.{accepts-state, accepts}
 use Rattle.exchange.specs.Exchange.{idHeard}
 use Rattle.exchange.proofs.Hearing.{heard-packet}
 use Rattle.plan.specs.Plan.{planHead, goalAt, goalFound, paramsOf, GoalWrite}
-use Rattle.plan_heard.specs.Hearing.{Device, Form, inTwo, inOne, hears}
+use Rattle.plan_heard.specs.Hearing.{Device, Form, inTwo, inOne, unstuffed, hears}
 use Rattle.plan_heard.specs.PlanCarriedOut.{admits}
 use Rattle.plan_heard.proofs.Written.{rule-is}
 
@@ -67,6 +67,7 @@ with-head body h = ap (λ (l : List ℕ). l ++ drop 5 body) (sym h) ∙ take-app
 
 abbrev Answerable : Form → List ℕ → Type 0
 Answerable inTwo reply = Unit {0}
+Answerable unstuffed reply = Unit {0}
 Answerable inOne reply = 32 ≤ length reply
 
 pub record Fit (form : Form) (d : Device) : Type 0 where
@@ -104,11 +105,13 @@ module _ (w : List ℕ) (g : GoalWrite w) where
     abbrev found : Found
     found = syncSearch 5 (ownId (d .table)) (paramsOf w)
 
-    -- in both forms: what is left is what the effect leaves
+    -- in each form: what is left is what the effect leaves
     after : (form : Form) → Fit form d → (e : Effect) → effectOf (d .table) (d .registered) (paramsOf w) found ≡ e → e .registered ≡ d .registered
         → hears form d (packet w) ≡ changed d (e .table) w
     after inTwo f e is r =
         rw (removed, accepts-state (d .table) (d .registered) (f .sized) (f .known) (f .short), carried (d .table) (d .registered) (f .known), is, r)
+    after unstuffed f e is r =
+        rw (removed, accepts-state (d .table) (d .registered) (f .sized) (f .known) (f .short), sym (heard-packet w (g .well)), carried (d .table) (d .registered) (f .known), is, r)
     after inOne f e is r =
         rw (removed, accepts (d .table) (d .registered) (d .reply) (f .sized) (f .known) (f .short) (f .answerable), carried (d .table) (d .registered) (f .known), is, r)
 

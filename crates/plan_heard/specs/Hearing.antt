@@ -1,9 +1,15 @@
 -- A device with its buffers, and what it is after the events that it is handed.
 use mathlib.Core.List.{List, [], _∷_}
 use Prim.Native.Nat.{ℕ}
+use Rattle.lists.specs.Answer.{unlessRefused}
+use Rattle.stuffing.specs.Stuffing.{unstuff}
+use Rattle.stuffing.specs.Answers.{removalRefusal, removalOut}
 use Rattle.reading.specs.Reading.{Event, packet, badChecksum}
+use Rattle.packet_front.specs.Front.{idOf}
+use Rattle.packet.specs.Packet.{bodyOf}
+use Rattle.instructions.specs.Registered.{keptBy}
 use Rattle.instructions.specs.declared.RegisteredWrite.{RegisteredWrite}
-use Rattle.reactions.specs.declared.Heard.the-variants.{BadChecksum}
+use Rattle.reactions.specs.declared.Heard.the-variants.{Packet, BadChecksum}
 use Rattle.device.specs.Answers.{carriedTable, carriedRegistered, callTable, callRegistered, callOut}
 use Rattle.exchange.specs.Exchange.{packetTable, packetRegistered, packetBody, exchangeTable, exchangeRegistered, exchangeBody, exchangeOut}
 
@@ -14,10 +20,12 @@ pub record Device : Type 0 where
   pub body : List ℕ
   pub reply : List ℕ
 
--- the device call in two, of which the first carries out and the second has nothing to do with the table; or in one
+-- the device call on a packet in two, of which the first carries out and the second has nothing to do with the table; in one; or the
+-- stuffing is removed, and the device call in two gets the body
 pub data Form : Type 0 where
   inTwo : Form
   inOne : Form
+  unstuffed : Form
 
 -- the device after an event of the reader [D50 D54]
 abbrev pub hears : Form → Device → Event → Device
@@ -48,6 +56,20 @@ hears inOne d (badChecksum id) =
       registered = callRegistered (d .table) (d .registered) BadChecksum id [] (d .reply);
       body = d .body;
       reply = callOut (d .table) (d .registered) BadChecksum id [] (d .reply);
+    }
+hears unstuffed d (packet w) =
+    record {
+      table = unlessRefused (removalRefusal (bodyOf w) (d .body)) (d .table) (carriedTable (d .table) (d .registered) Packet (idOf w) (unstuff (bodyOf w)));
+      registered = keptBy (removalRefusal (bodyOf w) (d .body)) (d .registered) (carriedRegistered (d .table) (d .registered) Packet (idOf w) (unstuff (bodyOf w)));
+      body = removalOut (bodyOf w) (d .body);
+      reply = d .reply;
+    }
+hears unstuffed d (badChecksum id) =
+    record {
+      table = carriedTable (d .table) (d .registered) BadChecksum id [];
+      registered = carriedRegistered (d .table) (d .registered) BadChecksum id [];
+      body = d .body;
+      reply = d .reply;
     }
 
 -- each event in its order

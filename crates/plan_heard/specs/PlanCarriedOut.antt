@@ -21,7 +21,7 @@ use Rattle.reactions.specs.Reactions.{ownId}
 use Rattle.device.specs.Answers.{stateRefusal, callRefusal}
 use Rattle.plan.specs.Goals.{wanted, goalsRefusal}
 use Rattle.plan.specs.Plan.{Plan}
-use Rattle.plan_heard.specs.Hearing.{Device, Form, inTwo, inOne, hearsAll}
+use Rattle.plan_heard.specs.Hearing.{Device, Form, inTwo, inOne, unstuffed, hearsAll}
 
 -- the limits that stand in the table admit the goal [W10]
 abbrev pub admits : List ℕ → ℕ → Bool
@@ -30,6 +30,7 @@ admits table goal = leZ (valueOf minPosition table) (pos goal) && leZ (pos goal)
 -- the device's own test of faults: 21 to 23, and in the one call 24
 abbrev pub faultOf : Form → Device → Option ℕ
 faultOf inTwo d = stateRefusal (d .table) (d .registered)
+faultOf unstuffed d = stateRefusal (d .table) (d .registered)
 faultOf inOne d = callRefusal (d .table) (d .registered) (d .reply)
 
 -- No call gives 13, or 21 to 25: the device's test passes, and the body buffer has room for each packet's unstuffed body. 25 comes

@@ -1,3 +1,4 @@
 mod Accepted
 mod Fewest
 pub mod Planned
+pub mod Applied

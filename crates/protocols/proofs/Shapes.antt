@@ -5,7 +5,7 @@ use mathlib.Core.List.{List, [], _∷_}
 use Prim.Native.Nat.{ℕ, _+_, _-_, _≤_, _<_}
 use native.Mathlib.Omega.{arith}
 use lib.Dec.{leb}
-use lib.ListN.{length, take, drop}
+use lib.ListN.{length, take, drop, getD}
 use borrow.Author.Tests.{le-leb, lt-leb, lt-ltb, le-ltb}
 use Rattle.lists.proofs.Bools.{and-left}
 use Rattle.reading.specs.Rules.{Laws}
@@ -32,7 +32,7 @@ use Rattle.packet_v1.specs.Verdict.{lengthAgrees as lengthAgrees1, frontAgrees 
 use Rattle.packet_v1.proofs.Laws.{shape-laws as laws1, front-begins as begins1}
 use Rattle.protocols.specs.declared.Protocol.{Protocol}
 use Rattle.protocols.specs.declared.Protocol.the-variants.{Two, One, Mercury}
-use Rattle.protocols.specs.Protocols.{shapeOf, rulesOf, lastOf, frontAgreesOf, lengthIn, leastLength, greatestLength, mayBeginOf, wholeOf}
+use Rattle.protocols.specs.Protocols.{shapeOf, rulesOf, idIn, idPlace, lastOf, frontAgreesOf, lengthIn, leastLength, greatestLength, mayBeginOf, wholeOf}
 
 -- ---- the laws
 
@@ -171,3 +171,10 @@ begins Mercury b s e = begins1 (upTo lastOfMercury) b s e
 pub none-before-start : (p : Protocol) (s : List ℕ) (q : ℕ) → q < beforeStart (mayBeginOf p) s
     → NoneBegins (rulesOf p) (settledBy (shapeOf p)) (drop q s)
 none-before-start p s q h = none-before (mayBeginOf p) (shapeOf p) (begins p) s q h
+
+-- ---- where the ID stands
+
+pub id-at : (p : Protocol) (w : List ℕ) → getD w (idPlace p) 0 ≡ idIn p w
+id-at Two w = refl
+id-at One w = refl
+id-at Mercury w = refl

@@ -2,17 +2,16 @@
 use mathlib.Core.Bool.{Bool}
 use mathlib.Core.List.{List}
 use Prim.Native.Nat.{ℕ}
-use lib.ListN.{getD}
 use Rattle.reading.specs.Rules.{Rules}
 use Rattle.packet_rules.specs.Shape.{Shape, rules}
 use Rattle.packet_rules.specs.Answers.{answerFor}
 use Rattle.packet_rules.specs.declared.Judgement.{Judgement}
 use Rattle.packet_front.specs.Begun.{frontAgrees}
 use Rattle.packet_front.specs.Begun.{mayBegin as mayBegin2}
-use Rattle.packet_front.specs.Front.{lengthOf as lengthOf2}
+use Rattle.packet_front.specs.Front.{idOf as idOf2, lengthOf as lengthOf2}
 use Rattle.packet.specs.Verdict.{shape, wholeAnswer}
 use Rattle.packet_v1.specs.Packet.{upTo, lastOfP1, lastOfMercury}
-use Rattle.packet_v1.specs.Packet.{lengthOf as lengthOf1}
+use Rattle.packet_v1.specs.Packet.{idOf as idOf1, lengthOf as lengthOf1}
 use Rattle.packet_v1.specs.Verdict.{judged, shapeUpTo}
 use Rattle.packet_v1.specs.Verdict.{frontAgrees as frontAgrees1, mayBegin as mayBegin1}
 use Rattle.protocols.specs.declared.Protocol.{Protocol}
@@ -28,14 +27,17 @@ shapeOf Mercury = shapeUpTo lastOfMercury
 abbrev pub rulesOf : Protocol → Rules
 rulesOf p = rules (shapeOf p)
 
--- where the ID stands in a packet [O1 F9]
+-- the ID of a packet [O1 F9]
+abbrev pub idIn : Protocol → List ℕ → ℕ
+idIn Two w = idOf2 w
+idIn One w = idOf1 w
+idIn Mercury w = idOf1 w
+
+-- at this place
 abbrev pub idPlace : Protocol → ℕ
 idPlace Two = 4
 idPlace One = 2
 idPlace Mercury = 2
-
-abbrev pub idIn : Protocol → List ℕ → ℕ
-idIn p w = getD w (idPlace p) 0
 
 -- the largest ID of a device [O2 P2]
 abbrev pub lastOf : Protocol → ℕ

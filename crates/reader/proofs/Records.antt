@@ -26,7 +26,7 @@ use Rattle.framer.specs.declared.StepEvent.the-variants.{Refused}
 use Rattle.framer.specs.Results.{mostHeld, eventFor, packetBytes, heldFor}
 use Rattle.reader.specs.declared.Reader.{Reader}
 use Rattle.lists.specs.Write.{padded}
-use Rattle.reader.specs.Records.{heldIn, stepIn, leftIn, packetIn, eventIn, recordsOf, NeverRefusedIn, FollowedBy1030, ReaderPromises, ProtocolPromises, EveryProtocol}
+use Rattle.reader.specs.Records.{heldIn, stepIn, leftIn, packetIn, eventIn, recordsOf, NeverRefusedIn, ProtocolPromises, EveryProtocol}
 
 -- ---- one call on a record that is not refused
 
@@ -110,9 +110,6 @@ pub record-left : (p : Protocol) (step : Step) (bytes : List ℕ) (r : Reader) (
 unfolding leftIn
 record-left p step bytes r c e b = λ i. record { bytes = b i; count = e i .held }
 
-followed-by-1030 : FollowedBy1030
-followed-by-1030 s = (λ h. omega arith, λ h. omega arith)
-
 -- ---- all that is promised
 
 -- every packet begins with FF
@@ -138,16 +135,3 @@ protocol-promises p =
 
 pub every-protocol : EveryProtocol
 every-protocol = record { two = protocol-promises Two; one = protocol-promises One; mercury = protocol-promises Mercury }
-
-pub reader-promises : ReaderPromises
-reader-promises =
-    let two = protocol-promises Two in
-    record {
-      any-fresh = two .any-fresh;
-      follows = two .follows;
-      calls = two .calls;
-      never-refused = two .never-refused;
-      followed-by-1030 = followed-by-1030;
-      none-without-ff = none-without-ff;
-      every-protocol = every-protocol;
-    }

@@ -12,7 +12,6 @@ use Rattle.reading.specs.Calls.{Call, call}
 use Rattle.reading.specs.Lists.{AnyReader, after, Follows}
 use Rattle.reading.specs.Promise.{Followed}
 use Rattle.reading.specs.Across.{NoneWithout, CallPromises}
-use Rattle.packet.specs.Verdict.{protocol2}
 use Rattle.protocols.specs.declared.Protocol.{Protocol}
 use Rattle.protocols.specs.declared.Protocol.the-variants.{Two, One, Mercury}
 use Rattle.protocols.specs.Protocols.{rulesOf, idIn}
@@ -82,46 +81,22 @@ abbrev pub NeverRefusedIn : Protocol → Type 0
 NeverRefusedIn p =
     (r : Reader) → r .count ≡ 0 → (cs : List Call) (c : Call) → ¬ (stepIn p (after (recordsOf p) r cs) c .event ≡ Refused)
 
-abbrev pub NeverRefused : Type 0
-NeverRefused = NeverRefusedIn Two
-
--- "at least 1,030 bytes"
-abbrev pub AtLeast1030 : List ℕ → Type 0
-AtLeast1030 s = 1030 ≤ length s
-
--- "at least 1,030 bytes have followed the damage": what `Followed` asks for, with the longest packet of Protocol 2.0 [Q11]
-abbrev pub FollowedBy1030 : Type 0
-FollowedBy1030 = (s : List ℕ) → (Followed protocol2 s → AtLeast1030 s) × (AtLeast1030 s → Followed protocol2 s)
-
 -- what is promised of every list of calls of a protocol, with the figure: one byte less than its longest packet [O15]
 pub record ProtocolPromises (p : Protocol) (most : ℕ) : Type 0 where
+  -- there are fresh records: any bytes with a count of 0 [F2]
   pub any-fresh : (bytes : List ℕ) → recordsOf p .Fresh (lent bytes 0)
   -- a record that holds at most so many bytes keeps to the protocol's rules
   pub follows : Follows (rulesOf p) (recordsOf p) (λ r. r .count ≤ most) heldIn
   -- the laws and demand 3, with what holds it in place
   pub calls : CallPromises (rulesOf p) (recordsOf p)
   pub never-refused : NeverRefusedIn p
-  -- so many bytes have to follow the damage, and no more
+  -- "at least 1,030 bytes have followed the damage", 258 on the old boards: what `Followed` asks for, no more and no less [Q11]
   pub followed-by : (s : List ℕ) → (Followed (rulesOf p) s → most ≤ length s) × (most ≤ length s → Followed (rulesOf p) s)
+  -- noise in which no byte is FF [Q14]
   pub none-without-ff : NoneWithout (rulesOf p) 0xFF
 
--- demand 3 over all the packet rules [O15]
+-- demand 3 over all the packet rules, and what holds it in place [O15]
 pub record EveryProtocol : Type 0 where
   pub two : ProtocolPromises Two 1030
   pub one : ProtocolPromises One 258
   pub mercury : ProtocolPromises Mercury 258
-
--- what is promised of every list of calls on the records
-pub record ReaderPromises : Type 0 where
-  -- there are fresh records: any bytes with a count of 0 [F2]
-  pub any-fresh : (bytes : List ℕ) → records .Fresh (lent bytes 0)
-  -- a record that holds at most 1,030 bytes keeps to the rules of Protocol 2.0
-  pub follows : Follows protocol2 records (λ r. r .count ≤ 1030) heldIn
-  -- demand 3, with what holds it in place
-  pub calls : CallPromises protocol2 records
-  pub never-refused : NeverRefused
-  pub followed-by-1030 : FollowedBy1030
-  -- noise in which no byte is FF [Q14]
-  pub none-without-ff : NoneWithout protocol2 0xFF
-  -- and the same of every protocol [O15]
-  pub every-protocol : EveryProtocol

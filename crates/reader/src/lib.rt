@@ -4,7 +4,7 @@ use framer::Step;
 ghost use mathlib.Core.Path.{_≡_};
 ghost use lib.ListN.{replicate};
 ghost use Rattle.reading.specs.Calls.{feed as Call·feed, gap as Call·gap};
-ghost use Rattle.reader.specs.Records.{stepOn, leftBy, packetOn, ReaderPromises};
+ghost use Rattle.reader.specs.Records.{stepOn, leftBy, packetOn, EveryProtocol};
 
 // The reader's record, which lives as long as the device: the held bytes stand at the start, and the rest is 0.
 #[repr(C)]
@@ -26,7 +26,7 @@ pub fn feed(reader: Reader, chunk: &[u8]) -> Fed
     ensures { λ r. ⌜ (r .step ≡ stepOn reader (Call·feed (now (chunk .entry))))
         × (r .packet ≡ packetOn reader (Call·feed (now (chunk .entry))) (replicate 1031 0))
         × (r .reader ≡ leftBy reader (Call·feed (now (chunk .entry)))) ⌝ }
-    ensures { λ _. ⌜ ReaderPromises ⌝ }
+    ensures { λ _. ⌜ EveryProtocol ⌝ }
 {
     let count = reader.count;
     let mut next = reader;
@@ -44,7 +44,7 @@ pub fn feed(reader: Reader, chunk: &[u8]) -> Fed
 pub fn gap(reader: Reader) -> Fed
     ensures { λ r. ⌜ (r .step ≡ stepOn reader Call·gap) × (r .packet ≡ packetOn reader Call·gap (replicate 1031 0))
         × (r .reader ≡ leftBy reader Call·gap) ⌝ }
-    ensures { λ _. ⌜ ReaderPromises ⌝ }
+    ensures { λ _. ⌜ EveryProtocol ⌝ }
 {
     let count = reader.count;
     let mut next = reader;

@@ -8,3 +8,4 @@ pub mod Progress
 pub mod Ahead
 pub mod Across
 pub mod Clean
+pub mod Decided

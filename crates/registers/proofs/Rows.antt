@@ -17,6 +17,9 @@ use Rattle.registers.specs.declared.Row.{Row}
 abbrev pub noRegister : Register
 noRegister = register 0 0 readOnly ram 0
 
+abbrev pub count : ℕ
+count = length registers
+
 abbrev pub nth : ℕ → Register
 nth i = getD registers i noRegister
 
@@ -27,6 +30,10 @@ placeIn (r ∷ rs) a = cond (holds r a) 0 (suc (placeIn rs a))
 
 abbrev pub place : ℕ → ℕ
 place a = placeIn registers a
+
+-- by its name, so that a proof stays as it is when the list grows
+abbrev pub placeOf : Register → ℕ
+placeOf r = place (r .address)
 
 -- ---- the list, whatever registers it has
 
@@ -84,49 +91,44 @@ run-place i from n t a h k =
     let e : from + (a - from) ≡ a = omega arith in
     rw e at (eqb→eq (place (from + (a - from))) i (below (λ (j : ℕ). eqb (place (from + j)) i) n t (a - from) (omega arith)))
 
-pub none-from : (from n : ℕ) → T (run 15 from n) → (a : ℕ) → from ≤ a → a < from + n → noRow ≡ rowAt a
-unfolding registers
-none-from from n t a h k = let e = run-place 15 from n t a h k in sym (row-none a registers (omega arith))
+pub none-from : (from n : ℕ) → T (run count from n) → (a : ℕ) → from ≤ a → a < from + n → noRow ≡ rowAt a
+none-from from n t a h k = let e = run-place count from n t a h k in sym (row-none a registers (omega arith))
 
 -- past the table there is no register
-inside : List Register → Bool
+abbrev pub inside : List Register → Bool
 inside [] = true
-inside (r ∷ rs) = cond (leb (endOf r) tableSize) (inside rs) false
+inside (r ∷ rs) = leb (endOf r) tableSize && inside rs
 
-past-in : (rs : List Register) → T (inside rs) → (a : ℕ) → tableSize ≤ a → noRow ≡ rowIn rs a
-unfolding rowIn inside
-past-in [] t a h = refl
-past-in (r ∷ rs) t a h = by-end (leb (endOf r) tableSize) refl t (λ u. past-in rs u a h)
-  where
-    by-end : (b : Bool) → leb (endOf r) tableSize ≡ b → T (cond b (inside rs) false) → (T (inside rs) → noRow ≡ rowIn rs a)
-        → noRow ≡ rowIn (r ∷ rs) a
-    by-end false e u rest = absurd u
-    by-end true e u rest =
-        let k = leb-true (endOf r) tableSize e in
-        simp (le-ltb a (endOf r) (omega arith), and-false) (rest u)
+pub first-inside : (r : Register) (rs : List Register) → inside (r ∷ rs) ≡ true → endOf r ≤ tableSize
+first-inside r rs e = leb-true (endOf r) tableSize (and-left (leb (endOf r) tableSize) (inside rs) e)
+
+past-in : (rs : List Register) → inside rs ≡ true → (a : ℕ) → tableSize ≤ a → noRow ≡ rowIn rs a
+unfolding rowIn
+past-in [] e a h = refl
+past-in (r ∷ rs) e a h =
+    let k = first-inside r rs e in
+    simp (le-ltb a (endOf r) (omega arith), and-false) (past-in rs (and-right (leb (endOf r) tableSize) (inside rs) e) a h)
 
 pub none-past : (a : ℕ) → tableSize ≤ a → noRow ≡ rowAt a
-unfolding registers inside
-none-past a h = past-in registers tt a h
+unfolding registers
+none-past a h = past-in registers refl a h
 
 -- ---- the register of a byte that permits something
 
 pub permits-row : (a : ℕ) → rowAt a .permits ≡ permits a
 permits-row a = row-permits a registers
 
-placed-row : (a : ℕ) → place a < 15 → rowAt a ≡ rowOf (nth (place a))
-unfolding registers
+placed-row : (a : ℕ) → place a < count → rowAt a ≡ rowOf (nth (place a))
 placed-row a h = row-placed a registers h
 
 module _ (a : ℕ) (h : 1 ≤ permits a) where
-  pub place-inside : place a < 15
-  unfolding registers
-  place-inside = by-test (ltb (place a) 15) refl
+  pub place-inside : place a < count
+  place-inside = by-test (ltb (place a) count) refl
     where
-      by-test : (b : Bool) → ltb (place a) 15 ≡ b → place a < 15
-      by-test true e = ltb-true (place a) 15 e
+      by-test : (b : Bool) → ltb (place a) count ≡ b → place a < count
+      by-test true e = ltb-true (place a) count e
       by-test false e =
-          let l = ltb-false (place a) 15 e in
+          let l = ltb-false (place a) count e in
           let none = ap (λ (r : Row). r .permits) (row-none a registers (omega arith)) in
           let p = row-permits a registers in
           absurd (omega arith)
@@ -138,7 +140,6 @@ module _ (a : ℕ) (h : 1 ≤ permits a) where
   own-grant = sym (ap (λ (r : Row). r .permits) row-is) ∙ permits-row a
 
   has : holds (nth (place a)) a ≡ true
-  unfolding registers
   has = place-holds a registers place-inside
 
   pub starts : nth (place a) .address ≤ a
@@ -163,10 +164,10 @@ pub true-holds : (b : Bool) → b ≡ true → T b
 true-holds true e = tt
 true-holds false e = absurd (false≢true e)
 
-module _ (i : ℕ) (h : i < 15) where
+module _ (i : ℕ) (h : i < count) where
   nth-sound : sound i ≡ true
   unfolding registers placeIn
-  nth-sound = holds-true (sound i) (below sound 15 tt i h)
+  nth-sound = holds-true (sound i) (below sound count tt i h)
 
   pub nth-end : endOf (nth i) ≤ tableSize
   nth-end = leb-true (endOf (nth i)) tableSize (and-left _ _ nth-sound)
@@ -188,7 +189,7 @@ module _ (i : ℕ) (h : i < 15) where
       (and-right (run i (nth i .address) (nth i .bytes)) (eqb (grant (nth i .access) (nth i .area)) 1 || oneOrFour (nth i .bytes)) nth-rest)
 
 -- each byte of a register has it
-pub own-row : (i : ℕ) → i < 15 → (a : ℕ) → nth i .address ≤ a → a < endOf (nth i) → rowOf (nth i) ≡ rowAt a
+pub own-row : (i : ℕ) → i < count → (a : ℕ) → nth i .address ≤ a → a < endOf (nth i) → rowOf (nth i) ≡ rowAt a
 own-row i h a l k =
     let e = nth-place i h a l k in
     sym (placed-row a (omega arith) ∙ ap (λ (j : ℕ). rowOf (nth j)) e)

@@ -2,7 +2,7 @@
 use mathlib.Core.Path.{_≡_, refl, ap, _∙_}
 use mathlib.Core.Bool.{Bool, true, false, not, cond, _&&_}
 use mathlib.Core.List.{List, [], _∷_, _++_}
-use Prim.Native.Nat.{ℕ, _+_, _≤_}
+use Prim.Native.Nat.{ℕ, suc, _+_, _≤_}
 use native.Mathlib.Omega.{arith}
 use lib.Dec.{leb}
 use lib.IntN.{ℤ, pos}
@@ -13,14 +13,16 @@ use borrow.Author.Tests.{leb-true, not-true}
 use Rattle.lists.specs.Numbers.{numberAt, bytesOf}
 use Rattle.lists.proofs.Numbers.{part-number}
 use Rattle.lists.proofs.Bools.{and-left, and-right}
-use Rattle.registers.specs.Registers.{Register, registers, tableSize, endOf, maxPosition, minPosition, goalPosition, writable}
+use Rattle.registers.specs.Registers.{Register, registers, tableSize, endOf, maxPosition, minPosition, goalPosition}
+use Rattle.registers.proofs.Rows.{placeIn, placeOf}
 use Rattle.items.specs.Items.{signed, valueAt, valueOf, itemBytes, put}
 use Rattle.items.proofs.Signed.{le-refl}
 use Rattle.table_rules.specs.Rules.{touches, goalInside}
 use Rattle.table_rules.proofs.Stored.{value-at, value-kept, stored-length}
 use Rattle.control_table.specs.Fresh.{freshened}
 use Rattle.control_table.proofs.Put.{put-length, put-value, put-kept}
-use Rattle.resets.specs.Resets.{only, isRom, resetAtReboot, rebooted, resetRom}
+use Rattle.resets.specs.Resets.{only, resetAtReboot, rebooted, resetRom}
+use Rattle.resets.proofs.Resets.{resetBy}
 
 -- a table of its size in which the register has this value
 record Holds (r : Register) (value : ℤ) (table : List ℕ) : Type 0 where
@@ -102,12 +104,12 @@ module _ (test : Register → Bool) (r : Register) where
 
 module _ (table : List ℕ) (sized : length table ≡ tableSize) (test : Register → Bool) where
   min-picked : Holds minPosition (cond (test minPosition) (pos 0) (valueOf minPosition table)) (freshened (only test registers) table)
-  unfolding registers bytesOf numberAt valueAt
-  min-picked = picked test minPosition (take 6 registers) (drop 7 registers) refl refl (omega arith) table sized
+  unfolding registers placeIn bytesOf numberAt valueAt
+  min-picked = picked test minPosition (take (placeOf minPosition) registers) (drop (suc (placeOf minPosition)) registers) refl refl (omega arith) table sized
 
   max-picked : Holds maxPosition (cond (test maxPosition) (pos 4095) (valueOf maxPosition table)) (freshened (only test registers) table)
-  unfolding registers bytesOf numberAt valueAt
-  max-picked = picked test maxPosition (take 5 registers) (drop 6 registers) refl refl (omega arith) table sized
+  unfolding registers placeIn bytesOf numberAt valueAt
+  max-picked = picked test maxPosition (take (placeOf maxPosition) registers) (drop (suc (placeOf maxPosition)) registers) refl refl (omega arith) table sized
 
 -- ---- Reboot
 
@@ -154,9 +156,6 @@ module _ (table : List ℕ) (sized : length table ≡ tableSize) where
       rw (rebooted-goal, rebooted-kept minPosition ram-min refl, rebooted-kept maxPosition ram-max refl, le-refl (valueOf minPosition table)) ordered
 
 -- ---- Factory Reset
-
-abbrev resetBy : (Register → Bool) → Register → Bool
-resetBy keeps r = isRom (r .area) && (writable (r .access) && not (keeps r))
 
 -- where it resets both limits, they are in order
 module _ (table : List ℕ) (sized : length table ≡ tableSize) (keeps : Register → Bool) where

@@ -1,3 +1,4 @@
 pub mod Sending
 pub mod Packets
 pub mod Sent
+pub mod Applied

@@ -2,3 +2,4 @@ pub mod Status
 pub mod Sending
 pub mod Sent
 pub mod Results
+pub mod Applied

@@ -91,6 +91,19 @@ stuffed-length a b (c ∷ s) = turn (stuffed-length b c s) (mark a b c)
 pub length-stuff : (body : List ℕ) → length (stuff body) ≡ length body + marks body
 length-stuff body = stuffed-length 0 0 body
 
+unstuffed-length : (a b c : ℕ) (s : List ℕ) → length (unstuffAfter a b c s) ≤ length s
+unfolding unstuffAfter
+unstuffed-length a b c [] = omega arith
+unstuffed-length a b c (d ∷ s) = turn (unstuffed-length b c d s) (mark a b c)
+  where
+    turn : length (unstuffAfter b c d s) ≤ length s → (m : Bool)
+        → length (cond m (unstuffAfter b c d s) (d ∷ unstuffAfter b c d s)) ≤ length (d ∷ s)
+    turn rest false = omega arith
+    turn rest true = omega arith
+
+pub unstuff-short : (bytes : List ℕ) → length (unstuff bytes) ≤ length bytes
+unstuff-short bytes = unstuffed-length 0 0 0 bytes
+
 -- ---- where nothing is added, or taken away
 
 no-marks : (a b : ℕ) (s : List ℕ) → marksAfter a b s ≡ 0 → stuffAfter a b s ≡ s

@@ -4,3 +4,4 @@ pub mod Judged
 pub mod Size
 pub mod Limits
 pub mod Fence
+pub mod Applied

@@ -10,7 +10,7 @@ use lib.ListN.{length, getD}
 use borrow.Author.Tests.{leb-true, ltb-true, ltb-false, eqb-true, eqb-false, lt-ltb, le-leb, lt-leb}
 use Rattle.lists.proofs.Bools.{and-left, and-right}
 use Rattle.registers.specs.Registers.{Register, registers, endOf, permits}
-use Rattle.registers.proofs.Rows.{noRegister, nth, place, place-inside, starts, ends, nth-some, nth-place}
+use Rattle.registers.proofs.Rows.{noRegister, count, nth, place, place-inside, starts, ends, nth-some, nth-place}
 use Rattle.table_rules.specs.Rules.{touches, everyTouched}
 use Rattle.table_rules.specs.Stages.{whole}
 
@@ -41,17 +41,17 @@ module _ (test : Register → Bool) where
       (ap (λ (t : Bool). t && everyTouched b m test rs)
       (⊎-elim (λ e. ap (λ (t : Bool). not t || test r) e) (λ e. simp (e, or-true)) (f 0 (omega arith))))
 
-module _ (i j : ℕ) (l : i < 15) (k : j < 15) (x : ℕ) where
+module _ (i j : ℕ) (l : i < count) (k : j < count) (x : ℕ) where
   -- no two registers have a byte in common
   alone : nth i .address ≤ x → x < endOf (nth i) → nth j .address ≤ x → x < endOf (nth j) → i ≡ j
   alone h₁ h₂ h₃ h₄ = sym (nth-place i l x h₁ h₂) ∙ nth-place j k x h₃ h₄
 
 -- no register has bytes before b and from b on
 pub Border : ℕ → Type 0
-Border b = (j : ℕ) → j < 15 → touches b 0 (nth j) ≡ false
+Border b = (j : ℕ) → j < count → touches b 0 (nth j) ≡ false
 
 pub border-done : (test : Register → Bool) (b : ℕ) → Border b → everyTouched b 0 test registers ≡ true
-unfolding registers Border
+unfolding Border
 border-done test b f = none-touched test b 0 registers f
 
 -- ---- one step of a walk by registers: from a byte that has one to the end of that register
@@ -81,7 +81,7 @@ module _ (a : ℕ) (defined : 1 ≤ permits a) where
           ∙ and-false (ltb (nth j .address) (endOf own + 0))
 
   -- another register ends before a or after this one
-  same-side : (j : ℕ) → j < 15 → (place a ≡ j → ⊥) → ltb a (endOf (nth j)) ≡ ltb (endOf own) (endOf (nth j))
+  same-side : (j : ℕ) → j < count → (place a ≡ j → ⊥) → ltb a (endOf (nth j)) ≡ ltb (endOf own) (endOf (nth j))
   same-side j h other = by-end (ltb a (endOf (nth j))) refl (ltb (endOf own) (endOf (nth j))) refl
     where
       by-end : (b : Bool) → ltb a (endOf (nth j)) ≡ b → (d : Bool) → ltb (endOf own) (endOf (nth j)) ≡ d
@@ -102,7 +102,6 @@ module _ (a : ℕ) (defined : 1 ≤ permits a) where
 
   module _ (test : Register → Bool) (end : ℕ) (before : a < end) where
     pub walk-failed : test own ≡ false → everyTouched a (end - a) test registers ≡ false
-    unfolding registers
     walk-failed f = by-all (everyTouched a (end - a) test registers) refl
       where
         by-all : (b : Bool) → everyTouched a (end - a) test registers ≡ b → everyTouched a (end - a) test registers ≡ false
@@ -118,10 +117,9 @@ module _ (a : ℕ) (defined : 1 ≤ permits a) where
 
     pub walk-passed : test own ≡ true → endOf own ≤ end
         → everyTouched (endOf own) (end - endOf own) test registers ≡ everyTouched a (end - a) test registers
-    unfolding registers
     walk-passed t fits = sym (moved test a (end - a) (endOf own) (end - endOf own) registers (λ j h. by-place (eqb (place a) j) j refl h))
       where
-        by-place : (b : Bool) (j : ℕ) → eqb (place a) j ≡ b → j < 15
+        by-place : (b : Bool) (j : ℕ) → eqb (place a) j ≡ b → j < count
             → (touches a (end - a) (nth j) ≡ touches (endOf own) (end - endOf own) (nth j)) ⊎ (test (nth j) ≡ true)
         by-place true j e h = inr (ap (λ (i : ℕ). test (nth i)) (sym (eqb-true (place a) j e)) ∙ t)
         by-place false j e h =

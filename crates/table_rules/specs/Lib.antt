@@ -3,3 +3,4 @@ pub mod Fence
 pub mod Outcomes
 pub mod Limits
 pub mod Stages
+pub mod Applied

@@ -1,4 +1,6 @@
-use mathlib.Core.Path.{sym, _∙_}
+use mathlib.Core.Path.{sym, ap, ap₂, _∙_}
+use Rattle.numbers.specs.declared.CarriedNumbers.{CarriedNumbers}
+use Rattle.exchange.specs.Calls.{stateOf}
 use Rattle.device.proofs.Promises.{device-promises}
 use Rattle.table_rules.proofs.Fence.{fence}
 use Rattle.exchange.proofs.Stays.{stays-accepted}
@@ -29,9 +31,10 @@ returns c =
     let h = c .before .before .before in
     let e = h .carry-out .ensures in
     let i = h .before .before in
+    let q = c .carried .ensures ∙ by-parts _ _ _ _ _ _ (e .0) (e .1 .0) (e .1 .1 .0) in
     rw (sym (i .before .heard-by .ensures), sym (i .id-of-kind .ensures)) (
-      c .carried .ensures ∙ by-parts _ _ _ _ _ _ (e .0) (e .1 .0) (e .1 .1 .0),
-      (e .1 .1 .1, (device-promises, split, stays-accepted, goal-within-limits, fence)),
+      q,
+      (e .1 .1 .1, ((device-promises, split, stays-accepted, goal-within-limits, fence), ap₂ stateOf (e .1 .1 .1) (ap (λ (x : CarriedNumbers). x .registered) q))),
     )
 
 pub dxl-carry-out-spec : {M : Type 1} → statement M

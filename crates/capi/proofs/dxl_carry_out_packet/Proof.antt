@@ -1,6 +1,11 @@
-use mathlib.Core.Path.{_∙_}
+use mathlib.Core.Path.{_∙_, ap, ap₂}
+use Rattle.numbers.specs.declared.CarriedNumbers.{CarriedNumbers}
+use Rattle.exchange.specs.Calls.{stateOf}
+use Rattle.device.proofs.Promises.{device-promises}
+use Rattle.device.proofs.Split.{split}
 use Rattle.exchange.proofs.Promises.{exchange-promises}
-use Rattle.exchange.proofs.Split.{split}
+use Rattle.exchange.proofs.Stays.{stays-accepted}
+use Rattle.exchange.proofs.GoalWithinLimits.{goal-within-limits}
 use Rattle.capi.proofs.Carried.{by-parts}
 use borrow.Author.Needs.{needs}
 use Rattle.capi.proofs.dxl_carry_out_packet.Statement.{statement}
@@ -21,9 +26,10 @@ same-length-2 c = search needs
 returns : tie.Need-returns
 returns c =
     let h = c .before .before .before .before .before in
-    let e = h .carry-out .ensures in (
-      c .carried-packet .ensures ∙ by-parts _ _ _ _ _ _ (e .0) (e .1 .0) (e .1 .1 .0),
-      ((e .1 .1 .1 .0, e .1 .1 .1 .1), (exchange-promises, split)),
+    let e = h .carry-out .ensures in
+    let q = c .carried-packet .ensures ∙ by-parts _ _ _ _ _ _ (e .0) (e .1 .0) (e .1 .1 .0) in (
+      q,
+      ((e .1 .1 .1 .0, e .1 .1 .1 .1), ((device-promises, split, exchange-promises, stays-accepted, goal-within-limits), ap₂ stateOf (e .1 .1 .1 .0) (ap (λ (x : CarriedNumbers). x .registered) q))),
     )
 
 pub dxl-carry-out-packet-spec : {M : Type 1} → statement M

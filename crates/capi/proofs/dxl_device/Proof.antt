@@ -1,9 +1,11 @@
 use mathlib.Core.Path.{sym, ap₂, _∙_}
+use Rattle.exchange.specs.Calls.{stateOf}
 use Rattle.device.proofs.Promises.{device-promises}
 use Rattle.table_rules.proofs.Fence.{fence}
 use Rattle.exchange.proofs.Stays.{stays-accepted}
 use Rattle.exchange.proofs.GoalWithinLimits.{goal-within-limits}
 use Rattle.numbers.specs.Exported.{deviceNumbers}
+use Rattle.capi.proofs.Carried.{its-registered}
 use borrow.Author.Needs.{needs}
 use Rattle.capi.proofs.dxl_device.Statement.{statement}
 use Rattle.capi.proofs.dxl_device.Tie as tie
@@ -31,8 +33,11 @@ returns c =
     let h = c .before .before .before .before .before in
     let e = h .hear .ensures in
     let i = h .before .before .before in
-    rw (sym (i .before .heard-by .ensures), sym (i .id-of-kind .ensures))
-    (c .response .ensures ∙ ap₂ deviceNumbers (e .0) (e .1 .0), ((e .1 .1 .0, e .1 .1 .1), (device-promises, stays-accepted, goal-within-limits, fence)))
+    let q = c .response .ensures ∙ ap₂ deviceNumbers (e .0) (e .1 .0) in
+    rw (sym (i .before .heard-by .ensures), sym (i .id-of-kind .ensures)) (
+      q,
+      ((e .1 .1 .0, e .1 .1 .1), ((device-promises, stays-accepted, goal-within-limits, fence), ap₂ stateOf (e .1 .1 .0) (its-registered _ (e .0) (e .1 .0) (c .response .ensures)))),
+    )
 
 pub dxl-device-spec : {M : Type 1} → statement M
 dxl-device-spec =

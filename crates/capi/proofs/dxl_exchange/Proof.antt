@@ -1,7 +1,12 @@
 use mathlib.Core.Path.{ap₂, _∙_}
+use Rattle.exchange.specs.Calls.{stateOf}
+use Rattle.device.proofs.Promises.{device-promises}
 use Rattle.exchange.proofs.Promises.{exchange-promises}
+use Rattle.exchange.proofs.Stays.{stays-accepted}
+use Rattle.exchange.proofs.GoalWithinLimits.{goal-within-limits}
 use Rattle.cases.proofs.Cases.{cases-hold}
 use Rattle.numbers.specs.Exported.{deviceNumbers}
+use Rattle.capi.proofs.Carried.{its-registered}
 use borrow.Author.Needs.{needs}
 use Rattle.capi.proofs.dxl_exchange.Statement.{statement}
 use Rattle.capi.proofs.dxl_exchange.Tie as tie
@@ -24,7 +29,10 @@ same-length-3 c = search needs
 returns : tie.Need-returns
 returns c =
     let e = c .before .before .before .before .before .before .before .answer .ensures in
-    (c .answered .ensures ∙ ap₂ deviceNumbers (e .0) (e .1 .0), ((e .1 .1 .0, e .1 .1 .1 .0, e .1 .1 .1 .1), (exchange-promises, cases-hold)))
+    let q = c .answered .ensures ∙ ap₂ deviceNumbers (e .0) (e .1 .0) in (
+      q,
+      ((e .1 .1 .0, e .1 .1 .1 .0, e .1 .1 .1 .1), ((device-promises, exchange-promises, stays-accepted, goal-within-limits, cases-hold), ap₂ stateOf (e .1 .1 .0) (its-registered _ (e .0) (e .1 .0) (c .answered .ensures)))),
+    )
 
 pub dxl-exchange-spec : {M : Type 1} → statement M
 dxl-exchange-spec =

@@ -3,7 +3,7 @@ use Rattle.numbers.specs.Exported.{stepNumbers}
 use Rattle.protocols.specs.declared.Protocol.the-variants.{Two}
 use Rattle.reader.specs.Records.{stepIn, packetIn}
 use Rattle.packet.proofs.Burst.{burst-detected}
-use Rattle.reader.proofs.Records.{record-left, reader-promises}
+use Rattle.reader.proofs.Records.{record-left, every-protocol}
 use borrow.Author.Needs.{needs}
 use Rattle.capi.proofs.dxl_feed.Statement.{statement}
 use Rattle.capi.proofs.dxl_feed.Tie as tie
@@ -19,7 +19,7 @@ unfolding stepIn packetIn
 returns c =
     let e = c .before .feed-in .ensures in (
       c .step .ensures ∙ ap stepNumbers (e .0),
-      (record-left Two (c .before .feed-in .result) _ _ _ (e .0) (e .1), (e .2, (reader-promises, burst-detected))),
+      (record-left Two (c .before .feed-in .result) _ _ _ (e .0) (e .1), (e .2, (every-protocol, burst-detected))),
     )
 
 pub dxl-feed-spec : {M : Type 1} → statement M

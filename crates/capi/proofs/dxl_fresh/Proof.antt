@@ -1,6 +1,9 @@
 use mathlib.Core.Path.{ap, _∙_}
 use mir.Facts.{toZ-ofZ}
 use mir.Syntax.{w64}
+use mathlib.Core.List.{List}
+use Prim.Native.Nat.{ℕ}
+use Rattle.exchange.specs.Calls.{stateOf}
 use Rattle.exchange.proofs.Stays.{stays-accepted}
 use Rattle.exchange.proofs.GoalWithinLimits.{goal-within-limits}
 use Rattle.numbers.specs.Exported.{exportedRefusal}
@@ -21,7 +24,7 @@ returns : tie.Need-returns
 returns c =
     let e = c .before .before .before .fresh in (
       toZ-ofZ {w = w64} (record { sfits = c .change .ok }) ∙ c .change .ensures ∙ ap exportedRefusal (e .ensures .0),
-      (e .ensures .1, (stays-accepted, goal-within-limits)),
+      (e .ensures .1, ((λ w. ap (λ (t : List ℕ). stateOf t w) (e .ensures .1)), (stays-accepted, goal-within-limits))),
     )
 
 pub dxl-fresh-spec : {M : Type 1} → statement M

@@ -2,7 +2,7 @@ use mathlib.Core.Path.{ap, _∙_}
 use Rattle.numbers.specs.Exported.{stepNumbers}
 use Rattle.protocols.specs.declared.Protocol.the-variants.{Two}
 use Rattle.reader.specs.Records.{stepIn, packetIn}
-use Rattle.reader.proofs.Records.{record-left, reader-promises}
+use Rattle.reader.proofs.Records.{record-left, every-protocol}
 use borrow.Author.Needs.{needs}
 use Rattle.capi.proofs.dxl_gap.Statement.{statement}
 use Rattle.capi.proofs.dxl_gap.Tie as tie
@@ -18,7 +18,7 @@ unfolding stepIn packetIn
 returns c =
     let e = c .before .gap-in .ensures in (
       c .step .ensures ∙ ap stepNumbers (e .0),
-      (record-left Two (c .before .gap-in .result) _ _ _ (e .0) (e .1), (e .2, reader-promises)),
+      (record-left Two (c .before .gap-in .result) _ _ _ (e .0) (e .1), (e .2, every-protocol)),
     )
 
 pub dxl-gap-spec : {M : Type 1} → statement M

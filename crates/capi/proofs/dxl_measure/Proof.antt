@@ -3,6 +3,9 @@ use mir.Facts.{toZ-ofZ}
 use mir.Syntax.{w32, w64}
 use lib.IntN.{ℤ}
 use Rattle.control_table.specs.Answers.{measureOut}
+use mathlib.Core.List.{List}
+use Prim.Native.Nat.{ℕ}
+use Rattle.exchange.specs.Calls.{stateOf}
 use Rattle.exchange.proofs.Stays.{stays-accepted}
 use Rattle.exchange.proofs.GoalWithinLimits.{goal-within-limits}
 use Rattle.numbers.specs.Exported.{exportedRefusal}
@@ -22,9 +25,10 @@ same-length c = search needs
 returns : tie.Need-returns
 returns c =
     let a = c .before .before .before .before .before .before in
-    let e = c .before .before .before .measure in (
+    let e = c .before .before .before .measure in
+    let left = e .ensures .1 ∙ ap (λ (z : ℤ). measureOut (a .args .table .now) z (a .args .hardware-error)) (toZ-ofZ {w = w32} (a .fits .position)) in (
       toZ-ofZ {w = w64} (record { sfits = c .change .ok }) ∙ c .change .ensures ∙ ap exportedRefusal (e .ensures .0),
-      (e .ensures .1 ∙ ap (λ (z : ℤ). measureOut (a .args .table .now) z (a .args .hardware-error)) (toZ-ofZ {w = w32} (a .fits .position)), (stays-accepted, goal-within-limits)),
+      (left, ((λ w. ap (λ (t : List ℕ). stateOf t w) left), (stays-accepted, goal-within-limits))),
     )
 
 pub dxl-measure-spec : {M : Type 1} → statement M

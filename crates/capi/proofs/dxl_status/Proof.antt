@@ -3,7 +3,6 @@ use mir.Facts.{toZ-ofZ}
 use mir.Syntax.{w64}
 use Rattle.status.proofs.Sent.{reply-written}
 use Rattle.device.proofs.Split.{split}
-use Rattle.exchange.proofs.Split.{split as exchange-split}
 use Rattle.numbers.specs.Exported.{exported}
 use borrow.Author.Needs.{needs}
 use Rattle.capi.proofs.dxl_status.Statement.{statement}
@@ -22,7 +21,7 @@ returns : tie.Need-returns
 returns c =
     let e = c .before .before .before .send in (
       toZ-ofZ {w = w64} (record { sfits = c .written .ok }) ∙ c .written .ensures ∙ ap exported (e .ensures .0),
-      (e .ensures .1, (split, exchange-split, reply-written)),
+      (e .ensures .1, (split, reply-written)),
     )
 
 pub dxl-status-spec : {M : Type 1} → statement M

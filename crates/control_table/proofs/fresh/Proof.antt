@@ -1,12 +1,11 @@
-use Rattle.registers.specs.Registers.{registers, tableSize}
+use Rattle.registers.specs.Registers.{registers}
 use Rattle.lists.specs.Numbers.{bytesOf}
 use Rattle.items.specs.Items.{put}
-use Rattle.control_table.specs.Fresh.{freshened, freshTable}
-use mathlib.Core.Path.{_≡_, ap, _∙_}
-use mathlib.Core.List.{List}
+use Rattle.control_table.specs.Fresh.{freshened}
+use mathlib.Core.Path.{ap, _∙_}
 use Prim.Native.Nat.{ℕ, _-_}
 use native.Mathlib.Omega.{arith}
-use lib.ListN.{length-set, set, replicate}
+use lib.ListN.{length-set, replicate}
 use borrow.Author.Tests.{eq-eqb, ne-eqb}
 use borrow.Author.Needs.{needs}
 use Rattle.control_table.proofs.fresh.Statement.{statement}
@@ -61,20 +60,16 @@ slice-write-table-8 : tie.Need-slice-write-table-8
 slice-write-table-8 c = simp length-set (omega arith)
 
 same-length : tie.Need-same-length
-same-length c = search needs
+same-length c = simp length-set (search needs)
 
 -- computed, byte for byte
-written : (table : List ℕ) → table ≡ replicate tableSize 0
-    → set (set (set (set (set (set (set (set table 0 6) 1 4) 6 38) 7 1) 8 1) 48 255) 49 15) 68 2 ≡ freshTable
-unfolding registers bytesOf put freshened
-written table e = rw e
-
 returns-2 : tie.Need-returns-2
+unfolding registers bytesOf put freshened
 returns-2 c =
     let l = c .before .before .before .before .if1 .left in
     let e = eq-eqb _ _ l in
     let k = c .before .before .clear in
-    (rw e, rw e (written (k .last .0) (k .ensures ∙ ap (λ (n : ℕ). replicate (n - 0) 0) l)))
+    (rw e, rw (e, k .ensures ∙ ap (λ (n : ℕ). replicate (n - 0) 0) l))
 
 pub fresh-spec : {M : Type 1} → statement M
 fresh-spec =

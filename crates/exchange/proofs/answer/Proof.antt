@@ -10,9 +10,8 @@ use Rattle.status.specs.declared.Reply.{Reply}
 use Rattle.device.specs.Answers.{withSlot, repliedAnswer, answeredBy, callRefusal}
 use Rattle.device.proofs.Calls.{fault-told, no-fault, short-refused}
 use Rattle.exchange.specs.Exchange.{exchangedAnswer, packetRefusal, packetReply}
-use Rattle.exchange.specs.Split.{SameAsOne}
 use Rattle.exchange.proofs.Hearing.{answers-first, keeps-first, leaves-first}
-use Rattle.exchange.proofs.Split.{with-room, not-device, goes-on}
+use Rattle.exchange.proofs.Split.{SameAsOne, with-room, not-device, goes-on}
 use borrow.Author.Needs.{needs}
 use Rattle.exchange.proofs.answer.Statement.{statement}
 use Rattle.exchange.proofs.answer.Tie as tie

@@ -1,8 +1,9 @@
-use mathlib.Core.Path.{ap}
+use mathlib.Core.Path.{ap, _∙_}
 use native.Mathlib.Omega.{arith}
 use Prim.Native.Nat.{ℕ}
 use lib.ListN.{getD}
 use borrow.Author.Needs.{needs}
+use Rattle.protocols.proofs.Shapes.{id-at}
 use Rattle.framer.proofs.Answers.{id-short}
 use Rattle.framer.proofs.id_in.Statement.{statement}
 use Rattle.framer.proofs.id_in.Tie as tie
@@ -16,7 +17,9 @@ shared-slice-read-result c =
     omega (arith, id-short (s .args .protocol), c .before .id-place .ensures, s .pre)
 
 returns : tie.Need-returns
-returns c = ap (λ (k : ℕ). getD (c .before .before .before .args .packet .now) k 0) (c .before .id-place .ensures)
+returns c =
+    let s = c .before .before .before in
+    ap (λ (k : ℕ). getD (s .args .packet .now) k 0) (c .before .id-place .ensures) ∙ id-at (s .args .protocol) (s .args .packet .now)
 
 pub id-in-spec : {M : Type 1} → statement M
 id-in-spec = tie.close (tie.spec id-place-requires shared-slice-read-result returns)

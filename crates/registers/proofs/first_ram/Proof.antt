@@ -1,8 +1,8 @@
 use mathlib.Core.Path.{_∙_}
 use native.Mathlib.Omega.{arith}
 use borrow.Author.Needs.{needs}
-use Rattle.registers.specs.Registers.{registers}
-use Rattle.registers.proofs.Rows.{placeIn, own-row, none-from}
+use Rattle.registers.specs.Registers.{registers, torqueEnable, lamp, statusReturnLevel, registeredInstruction, hardwareError}
+use Rattle.registers.proofs.Rows.{placeIn, placeOf, own-row, none-from}
 use Rattle.registers.proofs.first_ram.Statement.{statement}
 use Rattle.registers.proofs.first_ram.Tie as tie
 
@@ -13,8 +13,8 @@ in-ram-requires : tie.Need-in-ram-requires
 in-ram-requires c κs = search needs
 
 returns : tie.Need-returns
-unfolding registers
-returns c = c .in-ram .ensures ∙ own-row 7 (omega arith) _ (omega arith) (omega arith)
+unfolding registers placeIn
+returns c = c .in-ram .ensures ∙ own-row (placeOf torqueEnable) (omega arith) _ (omega arith) (omega arith)
 
 add-if2 : tie.Need-add-if2
 add-if2 c = search needs
@@ -23,8 +23,8 @@ in-ram-requires-2 : tie.Need-in-ram-requires-2
 in-ram-requires-2 c κs = search needs
 
 returns-2 : tie.Need-returns-2
-unfolding registers
-returns-2 c = c .in-ram2 .ensures ∙ own-row 8 (omega arith) _ (omega arith) (omega arith)
+unfolding registers placeIn
+returns-2 c = c .in-ram2 .ensures ∙ own-row (placeOf lamp) (omega arith) _ (omega arith) (omega arith)
 
 undefined-requires : tie.Need-undefined-requires
 undefined-requires c κs = search needs
@@ -40,8 +40,8 @@ in-ram-requires-3 : tie.Need-in-ram-requires-3
 in-ram-requires-3 c κs = search needs
 
 returns-4 : tie.Need-returns-4
-unfolding registers
-returns-4 c = c .in-ram3 .ensures ∙ own-row 9 (omega arith) _ (omega arith) (omega arith)
+unfolding registers placeIn
+returns-4 c = c .in-ram3 .ensures ∙ own-row (placeOf statusReturnLevel) (omega arith) _ (omega arith) (omega arith)
 
 add-if5 : tie.Need-add-if5
 add-if5 c = search needs
@@ -50,8 +50,8 @@ read-only-requires : tie.Need-read-only-requires
 read-only-requires c κs = search needs
 
 returns-5 : tie.Need-returns-5
-unfolding registers
-returns-5 c = c .read-only .ensures ∙ own-row 10 (omega arith) _ (omega arith) (omega arith)
+unfolding registers placeIn
+returns-5 c = c .read-only .ensures ∙ own-row (placeOf registeredInstruction) (omega arith) _ (omega arith) (omega arith)
 
 add-if6 : tie.Need-add-if6
 add-if6 c = search needs
@@ -60,8 +60,8 @@ read-only-requires-2 : tie.Need-read-only-requires-2
 read-only-requires-2 c κs = search needs
 
 returns-6 : tie.Need-returns-6
-unfolding registers
-returns-6 c = c .read-only2 .ensures ∙ own-row 11 (omega arith) _ (omega arith) (omega arith)
+unfolding registers placeIn
+returns-6 c = c .read-only2 .ensures ∙ own-row (placeOf hardwareError) (omega arith) _ (omega arith) (omega arith)
 
 undefined-requires-2 : tie.Need-undefined-requires-2
 undefined-requires-2 c κs = search needs

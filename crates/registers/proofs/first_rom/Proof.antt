@@ -1,8 +1,8 @@
 use mathlib.Core.Path.{_∙_}
 use native.Mathlib.Omega.{arith}
 use borrow.Author.Needs.{needs}
-use Rattle.registers.specs.Registers.{registers}
-use Rattle.registers.proofs.Rows.{placeIn, own-row, none-from}
+use Rattle.registers.specs.Registers.{registers, modelNumber, firmwareVersion, deviceId, baudCode}
+use Rattle.registers.proofs.Rows.{placeIn, placeOf, own-row, none-from}
 use Rattle.registers.proofs.first_rom.Statement.{statement}
 use Rattle.registers.proofs.first_rom.Tie as tie
 
@@ -13,8 +13,8 @@ read-only-requires : tie.Need-read-only-requires
 read-only-requires c κs = search needs
 
 returns : tie.Need-returns
-unfolding registers
-returns c = c .read-only .ensures ∙ own-row 0 (omega arith) _ (omega arith) (omega arith)
+unfolding registers placeIn
+returns c = c .read-only .ensures ∙ own-row (placeOf modelNumber) (omega arith) _ (omega arith) (omega arith)
 
 undefined-requires : tie.Need-undefined-requires
 undefined-requires c κs = search needs
@@ -30,8 +30,8 @@ read-only-requires-2 : tie.Need-read-only-requires-2
 read-only-requires-2 c κs = search needs
 
 returns-3 : tie.Need-returns-3
-unfolding registers
-returns-3 c = c .read-only2 .ensures ∙ own-row 1 (omega arith) _ (omega arith) (omega arith)
+unfolding registers placeIn
+returns-3 c = c .read-only2 .ensures ∙ own-row (placeOf firmwareVersion) (omega arith) _ (omega arith) (omega arith)
 
 add-if4 : tie.Need-add-if4
 add-if4 c = search needs
@@ -40,8 +40,8 @@ in-rom-requires : tie.Need-in-rom-requires
 in-rom-requires c κs = search needs
 
 returns-4 : tie.Need-returns-4
-unfolding registers
-returns-4 c = c .in-rom .ensures ∙ own-row 2 (omega arith) _ (omega arith) (omega arith)
+unfolding registers placeIn
+returns-4 c = c .in-rom .ensures ∙ own-row (placeOf deviceId) (omega arith) _ (omega arith) (omega arith)
 
 add-if5 : tie.Need-add-if5
 add-if5 c = search needs
@@ -50,8 +50,8 @@ in-rom-requires-2 : tie.Need-in-rom-requires-2
 in-rom-requires-2 c κs = search needs
 
 returns-5 : tie.Need-returns-5
-unfolding registers
-returns-5 c = c .in-rom2 .ensures ∙ own-row 3 (omega arith) _ (omega arith) (omega arith)
+unfolding registers placeIn
+returns-5 c = c .in-rom2 .ensures ∙ own-row (placeOf baudCode) (omega arith) _ (omega arith) (omega arith)
 
 undefined-requires-2 : tie.Need-undefined-requires-2
 undefined-requires-2 c κs = search needs

@@ -1,8 +1,8 @@
 use mathlib.Core.Path.{_∙_}
 use native.Mathlib.Omega.{arith}
 use borrow.Author.Needs.{needs}
-use Rattle.registers.specs.Registers.{registers}
-use Rattle.registers.proofs.Rows.{placeIn, own-row, none-from, none-past}
+use Rattle.registers.specs.Registers.{registers, goalVelocity, goalPosition, presentPosition}
+use Rattle.registers.proofs.Rows.{placeIn, placeOf, own-row, none-from, none-past}
 use Rattle.registers.proofs.last_ram.Statement.{statement}
 use Rattle.registers.proofs.last_ram.Tie as tie
 
@@ -13,8 +13,8 @@ in-ram-requires : tie.Need-in-ram-requires
 in-ram-requires c κs = search needs
 
 returns : tie.Need-returns
-unfolding registers
-returns c = c .in-ram .ensures ∙ own-row 12 (omega arith) _ (omega arith) (omega arith)
+unfolding registers placeIn
+returns c = c .in-ram .ensures ∙ own-row (placeOf goalVelocity) (omega arith) _ (omega arith) (omega arith)
 
 undefined-requires : tie.Need-undefined-requires
 undefined-requires c κs = search needs
@@ -30,8 +30,8 @@ in-ram-requires-2 : tie.Need-in-ram-requires-2
 in-ram-requires-2 c κs = search needs
 
 returns-3 : tie.Need-returns-3
-unfolding registers
-returns-3 c = c .in-ram2 .ensures ∙ own-row 13 (omega arith) _ (omega arith) (omega arith)
+unfolding registers placeIn
+returns-3 c = c .in-ram2 .ensures ∙ own-row (placeOf goalPosition) (omega arith) _ (omega arith) (omega arith)
 
 undefined-requires-2 : tie.Need-undefined-requires-2
 undefined-requires-2 c κs = search needs
@@ -47,8 +47,8 @@ read-only-requires : tie.Need-read-only-requires
 read-only-requires c κs = search needs
 
 returns-5 : tie.Need-returns-5
-unfolding registers
-returns-5 c = c .read-only .ensures ∙ own-row 14 (omega arith) _ (omega arith) (omega arith)
+unfolding registers placeIn
+returns-5 c = c .read-only .ensures ∙ own-row (placeOf presentPosition) (omega arith) _ (omega arith) (omega arith)
 
 undefined-requires-3 : tie.Need-undefined-requires-3
 undefined-requires-3 c κs = search needs

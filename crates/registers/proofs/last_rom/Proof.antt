@@ -1,8 +1,8 @@
 use mathlib.Core.Path.{_∙_}
 use native.Mathlib.Omega.{arith}
 use borrow.Author.Needs.{needs}
-use Rattle.registers.specs.Registers.{registers}
-use Rattle.registers.proofs.Rows.{placeIn, own-row, none-from}
+use Rattle.registers.specs.Registers.{registers, homingOffset, maxPosition, minPosition}
+use Rattle.registers.proofs.Rows.{placeIn, placeOf, own-row, none-from}
 use Rattle.registers.proofs.last_rom.Statement.{statement}
 use Rattle.registers.proofs.last_rom.Tie as tie
 
@@ -13,8 +13,8 @@ in-rom-requires : tie.Need-in-rom-requires
 in-rom-requires c κs = search needs
 
 returns : tie.Need-returns
-unfolding registers
-returns c = c .in-rom .ensures ∙ own-row 4 (omega arith) _ (omega arith) (omega arith)
+unfolding registers placeIn
+returns c = c .in-rom .ensures ∙ own-row (placeOf homingOffset) (omega arith) _ (omega arith) (omega arith)
 
 undefined-requires : tie.Need-undefined-requires
 undefined-requires c κs = search needs
@@ -30,8 +30,8 @@ in-rom-requires-2 : tie.Need-in-rom-requires-2
 in-rom-requires-2 c κs = search needs
 
 returns-3 : tie.Need-returns-3
-unfolding registers
-returns-3 c = c .in-rom2 .ensures ∙ own-row 5 (omega arith) _ (omega arith) (omega arith)
+unfolding registers placeIn
+returns-3 c = c .in-rom2 .ensures ∙ own-row (placeOf maxPosition) (omega arith) _ (omega arith) (omega arith)
 
 add-if4 : tie.Need-add-if4
 add-if4 c = search needs
@@ -40,8 +40,8 @@ in-rom-requires-3 : tie.Need-in-rom-requires-3
 in-rom-requires-3 c κs = search needs
 
 returns-4 : tie.Need-returns-4
-unfolding registers
-returns-4 c = c .in-rom3 .ensures ∙ own-row 6 (omega arith) _ (omega arith) (omega arith)
+unfolding registers placeIn
+returns-4 c = c .in-rom3 .ensures ∙ own-row (placeOf minPosition) (omega arith) _ (omega arith) (omega arith)
 
 undefined-requires-2 : tie.Need-undefined-requires-2
 undefined-requires-2 c κs = search needs

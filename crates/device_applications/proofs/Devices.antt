@@ -1,0 +1,178 @@
+use mathlib.Core.Path.{_≡_, refl, ap, subst, _∙_}
+use mathlib.Core.Bool.{Bool, true, _&&_}
+use mathlib.Core.List.{List, [], _∷_, _++_, List·Memᴰ, List·Memᴰ·cases-cons, List·Memᴰ·not-nil}
+use mathlib.Core.Logic.{⊎-elim}
+use mathlib.Core.Option.{none, some}
+use Prim.Native.Nat.{ℕ, _≤_}
+use native.Mathlib.Omega.{arith}
+use lib.Dec.{leb}
+use lib.IntN.{ℤ, pos}
+use lib.ListN.{take, replicate}
+use borrow.Author.Tests.{leb-true, ltb-true}
+use Rattle.lists.specs.Numbers.{numberAt, bytesOf}
+use Rattle.lists.proofs.Bools.{and-left, and-right, both-ways}
+use Rattle.crc.specs.Crc.{reduceIf, shift, shifts, crcByte, crcFrom}
+use Rattle.stuffing.specs.Stuffing.{stuffAfter, wellAfter, unstuffAfter}
+use Rattle.stuffing.specs.Answers.{removalRefusal}
+use Rattle.reading.proofs.Decided.{well}
+use Rattle.packet_front.specs.Front.{lengthOf}
+use Rattle.packet_front.specs.Begun.{frontAgrees, lengthAgrees}
+use Rattle.packet_rules.specs.Shape.{verdict as shapeVerdict}
+use Rattle.packet.specs.Packet.{bodyOf, checksumRight, WellFormed}
+use Rattle.packet.specs.Verdict.{protocol2}
+use Rattle.packet.proofs.Laws.{laws}
+use Rattle.encoder.specs.Writing.{withChecksum, packetOf}
+use Rattle.encoder.specs.Encoding.{encodeRefusal}
+use Rattle.registers.specs.Registers.{registers, permitsBy, everyByte, deviceId}
+use Rattle.items.specs.Items.{valueAt, put}
+use Rattle.table_rules.specs.Rules.{everyTouched, goalInside, limitsKept, writeRule, readRule}
+use Rattle.control_table.specs.Fresh.{freshened, freshTable}
+use Rattle.instructions.specs.Instructions.{read, write, regWrite, action}
+use Rattle.instructions.specs.Registered.{sameLimits, dropped, LimitsOf}
+use Rattle.instructions.specs.declared.RegisteredWrite.{RegisteredWrite}
+use Rattle.reactions.specs.Reactions.{heardInstruction}
+use Rattle.reactions.specs.declared.Heard.the-variants.{Packet}
+use Rattle.device.specs.Device.{executed}
+use Rattle.device.specs.Answers.{DeviceAnswer, sent, refused, stateRefusal, roomRefusal, callRefusal}
+use Rattle.exchange.specs.Exchange.{idHeard}
+use Rattle.exchange.specs.Calls.{State, DeviceCall, fresh, measurement, device, exchange, carry, carryPacket, lend, stateOf, afterAll, refusalIn}
+use Rattle.cases.specs.Exchanges.{goalAt512, registeredTable, goalTooLarge, goalRegistered, pingWrongSum}
+use Rattle.cases.specs.Cases.{writeGoal}
+use Rattle.device_applications.specs.Devices.{room, short, bodyRoom, behindFresh, eachKind, longest, start, ended, tooMany, StaysAcceptedApplied, restored, GoalWithinLimitsApplied, writeTooLarge, otherLimits, alerted, DevicePromisesApplied, SplitApplied, sevenBytes, sixBytes, ExchangePromisesApplied}
+
+-- every lent count is at most 8, by a test
+abbrev lentFits : DeviceCall → Bool
+lentFits fresh = true
+lentFits (measurement position error) = true
+lentFits (device heard id body out) = true
+lentFits (exchange packet body out) = true
+lentFits (carry heard id body) = true
+lentFits (carryPacket packet body) = true
+lentFits (lend w) = leb (w .count) 8
+
+abbrev allFit : List DeviceCall → Bool
+allFit [] = true
+allFit (c ∷ cs) = lentFits c && allFit cs
+
+all-lent : (cs : List DeviceCall) → allFit cs ≡ true → (w : RegisteredWrite) → List·Memᴰ (lend w) cs → w .count ≤ 8
+all-lent [] e w m = absurd (List·Memᴰ·not-nil m)
+all-lent (c ∷ cs) e w m =
+    ⊎-elim (λ i. leb-true (w .count) 8 (ap lentFits i ∙ and-left (lentFits c) (allFit cs) e)) (λ n. all-lent cs (and-right (lentFits c) (allFit cs) e) w n)
+    (List·Memᴰ·cases-cons m)
+
+ends : afterAll start eachKind ≡ ended
+unfolding reduceIf shift shifts crcByte crcFrom stuffAfter wellAfter unstuffAfter lengthOf bodyOf checksumRight withChecksum packetOf frontAgrees lengthAgrees registers permitsBy numberAt valueAt bytesOf put freshened everyByte everyTouched goalInside limitsKept writeRule readRule read write sameLimits regWrite action heardInstruction executed stateRefusal roomRefusal callRefusal removalRefusal idHeard shapeVerdict
+ends = refl
+
+accepted-start : refusalIn start ≡ none
+unfolding put bytesOf freshened registers stateRefusal
+accepted-start = refl
+
+pub stays-accepted-applied : StaysAcceptedApplied
+stays-accepted-applied t = (
+  ends,
+  subst (λ (s : State). refusalIn s ≡ none) ends (t .stays start eachKind accepted-start (all-lent eachKind refl)),
+  subst (λ (s : State). refusalIn (stateOf (s .table) tooMany) ≡ some 23) ends (t .by-lent start (eachKind ++ lend tooMany ∷ []) accepted-start),
+)
+
+pub goal-within-limits-applied : GoalWithinLimitsApplied
+unfolding put bytesOf freshened registers goalInside valueAt numberAt stateRefusal
+goal-within-limits-applied t = (
+  subst (λ (s : State). goalInside (s .table) ≡ true) ends (t .stays start eachKind refl refl),
+  t .always (stateOf (replicate 136 0xFF) dropped) behindFresh refl,
+  t .from-reboot restored (measurement (pos 166) 0 ∷ []) refl refl,
+)
+
+-- contradictory answers
+not-refused : (n slot m : ℕ) → ¬ (_≡_ {A = DeviceAnswer} (sent n slot) (refused m))
+not-refused n slot m e = let z : _≡_ {A = ℕ} 0 1 = cc in absurd (omega arith)
+
+other-limits : ¬ LimitsOf otherLimits goalRegistered
+unfolding put bytesOf freshened registers valueAt numberAt
+other-limits l = let z : _≡_ {A = ℤ} (pos 4095) (pos 4000) = l .same-max in let y : _≡_ {A = ℕ} 4095 4000 = cc in absurd (omega arith)
+
+pub device-promises-applied : DevicePromisesApplied
+unfolding reduceIf shift shifts crcByte crcFrom stuffAfter wellAfter unstuffAfter lengthOf bodyOf checksumRight withChecksum packetOf frontAgrees lengthAgrees registers permitsBy numberAt valueAt bytesOf put freshened everyByte everyTouched goalInside limitsKept writeRule readRule read write sameLimits regWrite action heardInstruction executed stateRefusal roomRefusal callRefusal removalRefusal idHeard shapeVerdict
+device-promises-applied t =
+    let refused-call = t .demand-1 .refused-call goalAt512 goalRegistered Packet 1 (0x05 ∷ []) short 24 refl in
+    let refused-write = t .demand-1 .refused-instruction registeredTable goalRegistered Packet 1 writeTooLarge room 11 0 refl (λ e. absurd (omega (arith, e))) in
+    let refused-action = t .demand-1 .refused-instruction registeredTable goalTooLarge Packet 254 (0x05 ∷ []) room 0 0 refl (λ e. absurd (omega (arith, e))) in
+    let written = t .status-written alerted goalTooLarge Packet 1 (0x05 ∷ []) room 11 0 refl (ltb-true _ _ refl) in
+    let done = t .action-needs-same-limits .done registeredTable goalRegistered Packet 1 (0x05 ∷ []) room 11 0 refl refl refl in
+    let changed = t .action-needs-same-limits .changed otherLimits goalRegistered Packet 1 (0x05 ∷ []) room 11 0 refl refl other-limits in
+    record {
+      call-table = refused-call .same-table;
+      call-registered = refused-call .same-registered;
+      call-reply = refused-call .same-reply;
+      write-table = refused-write .left-table;
+      write-registered = refused-write .left-registered;
+      action-table = refused-action .left-table;
+      action-registered = refused-action .left-registered;
+      error-byte = t .demand-1 .in-status alerted goalTooLarge Packet 1 (0x05 ∷ []) room 11 0 refl (ltb-true _ _ refl);
+      well-formed = written .formed;
+      own-id = written .own-id;
+      few = written .short;
+      slot = t .slot-within .in-one (put freshTable deviceId 252) longest Packet 254 (0x01 ∷ []) room 14 252 refl;
+      first-slot = t .slot-within .in-two (put freshTable deviceId 252) longest Packet 254 (0x01 ∷ []);
+      same-min = done .same-min;
+      same-max = done .same-max;
+      limits-number = changed .number;
+      limits-table = changed .left-table;
+      limits-registered = changed .left-registered;
+    }
+
+write-well : WellFormed writeGoal
+unfolding reduceIf shift shifts crcByte crcFrom wellAfter lengthOf bodyOf checksumRight frontAgrees lengthAgrees shapeVerdict
+write-well = well protocol2 laws writeGoal refl
+
+wrong-sum : ¬ WellFormed pingWrongSum
+unfolding reduceIf shift shifts crcByte crcFrom bodyOf checksumRight
+wrong-sum w = both-ways (checksumRight pingWrongSum) (w .summed) refl
+
+pub split-applied : SplitApplied
+unfolding reduceIf shift shifts crcByte crcFrom stuffAfter wellAfter unstuffAfter lengthOf bodyOf checksumRight withChecksum packetOf frontAgrees lengthAgrees registers permitsBy numberAt valueAt bytesOf put freshened everyByte everyTouched goalInside limitsKept writeRule readRule read write sameLimits regWrite action heardInstruction executed stateRefusal roomRefusal callRefusal removalRefusal idHeard shapeVerdict encodeRefusal
+split-applied t =
+    let ping = t freshTable dropped Packet 1 (0x01 ∷ []) room (not-refused 14 0 24) in
+    let act = t registeredTable goalRegistered Packet 1 (0x05 ∷ []) room (not-refused 11 0 24) in
+    (ping .same-answer, act .same-table, act .same-registered, ap (take 14) (ping .same-reply))
+
+pub exchange-promises-applied : ExchangePromisesApplied
+unfolding reduceIf shift shifts crcByte crcFrom stuffAfter wellAfter unstuffAfter lengthOf bodyOf checksumRight withChecksum packetOf frontAgrees lengthAgrees registers permitsBy numberAt valueAt bytesOf put freshened everyByte everyTouched goalInside limitsKept writeRule readRule read write sameLimits regWrite action heardInstruction executed stateRefusal roomRefusal callRefusal removalRefusal idHeard shapeVerdict
+exchange-promises-applied t =
+    let room-is = t .only-packets .with-room writeGoal sevenBytes write-well (leb-true _ _ refl) in
+    let heard = t .as-device .passed-on freshTable longest writeGoal sevenBytes room room-is in
+    let stopped = t .as-device .stopped freshTable longest writeGoal sixBytes room 13 refl in
+    let unheard = t .only-packets .others freshTable longest pingWrongSum bodyRoom room wrong-sum in
+    let accepted = t .only-packets .never-refused freshTable longest writeGoal (replicate 1022 0xAA) room write-well (leb-true _ _ refl) (leb-true _ _ refl) refl in
+    record {
+      its-id = t .only-packets .its-id writeGoal write-well;
+      answer = heard .answer;
+      new-table = heard .new-table;
+      registered = heard .registered;
+      reply = ap (take 11) (heard .reply);
+      new-body = heard .new-body;
+      first-answer = heard .first-answer;
+      first-reply = heard .first-reply;
+      first-table = heard .first-table;
+      first-registered = heard .first-registered;
+      first-body = heard .first-body;
+      stopped = stopped .answer;
+      stopped-table = stopped .same-table;
+      stopped-registered = stopped .same-registered;
+      stopped-reply = stopped .same-reply;
+      stopped-body = stopped .same-body;
+      stopped-first = stopped .first-answer;
+      stopped-first-reply = stopped .first-reply;
+      stopped-first-table = stopped .first-table;
+      stopped-first-registered = stopped .first-registered;
+      stopped-first-body = stopped .first-body;
+      unheard = unheard .silent;
+      unheard-table = unheard .same-table;
+      unheard-registered = unheard .same-registered;
+      unheard-reply = unheard .same-reply;
+      unheard-first-table = unheard .first-table;
+      unheard-first-registered = unheard .first-registered;
+      unheard-first-reply = unheard .first-reply;
+      accepted = accepted .0;
+      first-accepted = accepted .1;
+    }

@@ -1,0 +1,10 @@
+-- What is promised of our planner's plans, applied to the worked one: it is a plan, and none has fewer packets.
+use Prim.Native.Nat.{ℕ, _≤_}
+use lib.ListN.{length}
+use Rattle.plan.specs.Plan.{Plan}
+use Rattle.plan.specs.Planner.{planPackets}
+use Rattle.plan.specs.Samples.{twoGoals, planOfTwo}
+use Rattle.plan_laws.specs.Planned.{Planned}
+
+abbrev pub PlannedApplied : Type 0
+PlannedApplied = Planned → Plan twoGoals planOfTwo × (length (planPackets twoGoals) ≤ 1)

@@ -24,10 +24,9 @@ use Rattle.framer.specs.Results.{eventFor, packetBytes, stepFor, leanHeld, lean
 use Rattle.reader.specs.declared.Reader.{Reader}
 use Rattle.reader.specs.Records.{heldIn, lent}
 use Rattle.instructions.specs.declared.RegisteredWrite.{RegisteredWrite}
-use Rattle.status.specs.Status.{silence}
 use Rattle.board.specs.declared.BoardStep.{BoardStep}
-use Rattle.board.specs.Board.{Board, Outcome, readerLeft, carriedIfAny, boardRefusal, outcomeUnless, outcome}
-use Rattle.board.specs.Numbers.{stepWith, stepUnless, boardStep, bufferFor, bufferUnless, bufferLeft}
+use Rattle.board.specs.Board.{Board, Outcome, readerLeft, carriedIfAny, reportOf, boardRefusal, outcomeUnless, outcome}
+use Rattle.board.specs.Numbers.{stepWith, refusedStep, stepUnless, boardStep, bufferFor, bufferUnless, bufferLeft}
 use Rattle.board.specs.Inside.{numberOf, eventBy, Fits, bufferBy}
 use Rattle.board.proofs.Refusals.{accepted, never-0}
 use Rattle.board.proofs.ByAnswer.{Left}
@@ -69,7 +68,7 @@ module _ (b : Board) (c : Call) (old : List ℕ) where
       × ((reader ≡ outcome b c .board .reader) × (table ≡ outcome b c .board .table) × (buffer ≡ bufferLeft b c old))
 
   pub refused-call : (number : ℕ) → number ≡ numberOf (boardRefusal b) → ¬ (number ≡ 0) → (r : BoardStep)
-      → r ≡ record { taken = 0; count = 0; kind = number; id = 0; reply = silence; registered = b .registered }
+      → r ≡ refusedStep number (b .registered)
       → Says r (b .reader) (b .table) old
   unfolding boardStep outcome bufferLeft
   refused-call number n some-number r e = by (boardRefusal b) refl
@@ -115,14 +114,14 @@ module _ (b : Board) (c : Call) (old : List ℕ) where
       left-buffer : bufferBy (step .event) buffer ≡ bufferFor (leanPacket Two (b .reader .count) old result) (result .answer)
       left-buffer = rw (step-is, buffer-is) (buffer-back base (result .answer))
 
-      pub heard-call : (r : BoardStep) (table′ buffer′ : List ℕ) → Left (b .table) (b .registered) (step .taken) buffer (step .event) r table′ buffer′
+      pub received-call : (r : BoardStep) (table′ buffer′ : List ℕ) → Left (b .table) (b .registered) (step .taken) buffer (step .event) r table′ buffer′
           → Says r (lent bytes (step .held)) table′ buffer′
       unfolding boardStep outcome bufferLeft
-      heard-call r table′ buffer′ left =
+      received-call r table′ buffer′ left =
           let t = b .table in
           let w = b .registered in (
             left .0
-                ∙ (λ i. stepWith (taken-is i) (event-is i) (carriedIfAny t w (event-is i) .reply) (carriedIfAny t w (event-is i) .registered))
+                ∙ (λ i. stepWith (reportOf t w (taken-is i) (event-is i)) (carriedIfAny t w (event-is i) .registered))
                 ∙ rw ok refl,
             (
               reader-is ∙ rw ok refl,

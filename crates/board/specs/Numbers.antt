@@ -14,23 +14,47 @@ use Rattle.protocols.specs.declared.Protocol.the-variants.{Two}
 use Rattle.framer.specs.Results.{leanPacket}
 use Rattle.reader.specs.Records.{heldIn}
 use Rattle.instructions.specs.declared.RegisteredWrite.{RegisteredWrite}
-use Rattle.status.specs.declared.Reply.{Reply}
-use Rattle.board.specs.Board.{Board, Told, Outcome, boardRefusal, outcome}
+use Rattle.status.specs.Status.{silence}
+use Rattle.board.specs.Board.{Board, Report, Outcome, boardRefusal, outcome}
 use Rattle.board.specs.declared.BoardStep.{BoardStep}
 
 -- kind 1 is a packet, with its byte count and ID, 2 a bad checksum, with its ID, and 0 no event
-abbrev pub stepWith : ℕ → Option Event → Reply → RegisteredWrite → BoardStep
-stepWith taken (some (packet w)) reply kept =
-    record { taken = taken; count = length w; kind = 1; id = idOf w; reply = reply; registered = kept }
-stepWith taken (some (badChecksum id)) reply kept =
-    record { taken = taken; count = 0; kind = 2; id = id; reply = reply; registered = kept }
-stepWith taken none reply kept = record { taken = taken; count = 0; kind = 0; id = 0; reply = reply; registered = kept }
+abbrev pub kindOf : Option Event → ℕ
+kindOf (some (packet w)) = 1
+kindOf (some (badChecksum id)) = 2
+kindOf none = 0
 
--- a refusal is the kind of its number
+abbrev pub countOf : Option Event → ℕ
+countOf (some (packet w)) = length w
+countOf (some (badChecksum id)) = 0
+countOf none = 0
+
+abbrev pub idIn : Option Event → ℕ
+idIn (some (packet w)) = idOf w
+idIn (some (badChecksum id)) = id
+idIn none = 0
+
+abbrev pub stepWith : Report → RegisteredWrite → BoardStep
+stepWith r kept =
+    record {
+      taken = r .taken;
+      count = countOf (r .event);
+      kind = kindOf (r .event);
+      id = idIn (r .event);
+      instruction = r .instruction;
+      error = r .error;
+      reply = r .reply;
+      registered = kept;
+    }
+
+-- a refusal is the kind of its number, and all else is 0
+abbrev pub refusedStep : ℕ → RegisteredWrite → BoardStep
+refusedStep number w =
+    record { taken = 0; count = 0; kind = number; id = 0; instruction = 0; error = 0; reply = silence; registered = w }
+
 abbrev pub stepUnless : Option ℕ → Outcome → BoardStep
-stepUnless none o = stepWith (o .told .taken) (o .told .event) (o .told .reply) (o .board .registered)
-stepUnless (some number) o =
-    record { taken = 0; count = 0; kind = number; id = 0; reply = o .told .reply; registered = o .board .registered }
+stepUnless none o = stepWith (o .report) (o .board .registered)
+stepUnless (some number) o = refusedStep number (o .board .registered)
 
 unfoldable pub boardStep : Board → Call → BoardStep
 boardStep b c = stepUnless (boardRefusal b) (outcome b c)

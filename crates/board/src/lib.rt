@@ -1,38 +1,53 @@
 // From the line to the table: a call takes bytes up to the next event and carries it out at once.
+use codes::ERROR_CHECKSUM;
 use device::CarriedOut;
 use device::Replied;
 use framer::Step;
 use framer::StepEvent;
 use instructions::RegisteredWrite;
+use packet_front::BROADCAST_ID;
 use reactions::Heard;
+use registers::REG_ID;
 use status::Reply;
 ghost use mathlib.Core.Path.{_≡_};
+ghost use mathlib.Core.Bool.{cond};
 ghost use mathlib.Core.Option.{none};
 ghost use Prim.Native.Nat.{_≤_};
+ghost use lib.Dec.{eqb};
 ghost use lib.ListN.{length, take};
 ghost use Rattle.lists.specs.Write.{placed};
 ghost use Rattle.stuffing.specs.Stuffing.{unstuff};
 ghost use Rattle.reading.specs.Calls.{feed as Call·feed, gap as Call·gap};
 ghost use Rattle.packet.specs.Packet.{bodyOf};
 ghost use Rattle.reader.specs.Records.{lent};
+ghost use Rattle.registers.specs.Registers.{tableSize};
+ghost use Rattle.reactions.specs.Reactions.{ownId};
 ghost use Rattle.reactions.specs.declared.Heard.the-variants.{Packet as Heard·Packet};
 ghost use Rattle.status.specs.Status.{silence as Status·silence};
-ghost use Rattle.device.specs.Answers.{stateRefusal, carriedReply, carriedRegistered, carriedTable};
-ghost use Rattle.board.specs.Board.{lentRefusal, boardOf, carriedIfAny, outcome};
+ghost use Rattle.device.specs.Answers.{stateRefusal, carriedReply, carriedRegistered, carriedError, carriedTable};
+ghost use Rattle.board.specs.Board.{addressed, lentRefusal, boardOf, carriedIfAny, reportOf, outcome};
 ghost use Rattle.board.specs.Numbers.{stepWith, boardStep, bufferLeft};
 ghost use Rattle.board.specs.Inside.{numberOf, eventBy, Fits, bufferBy};
 
-// What a call returns: how many bytes it took; the event as of `dxl_feed`, or the number of a refusal as its kind; the reply that
-// waits; and the registered write from now on.
+// What a call returns: how many bytes it took; the event as of `dxl_feed`, or the number of a refusal as its kind; the instruction, if
+// it is for this device, and its error number; the reply that waits; and the registered write from now on.
 #[repr(C)]
 pub struct BoardStep {
     pub taken: usize,
     pub count: usize,
     pub kind: u8,
     pub id: u8,
+    pub instruction: u8,
+    pub error: u8,
     pub reply: Reply,
     pub registered: RegisteredWrite,
 }
+
+pub const KIND_NONE: u8 = 0;
+
+pub const KIND_PACKET: u8 = 1;
+
+pub const KIND_BAD_CHECKSUM: u8 = 2;
 
 // The number of the caller's fault, 0 for none.
 fn refusal(held: usize, table: &[u8], registered: RegisteredWrite) -> u8
@@ -52,6 +67,31 @@ fn refusal(held: usize, table: &[u8], registered: RegisteredWrite) -> u8
     }
 }
 
+// The instruction of a packet with this ID, or 0 if it is for another device.
+fn instruction_for(table: &[u8], id: u8, instruction: u8) -> u8
+    requires { ⌜ length (now table) ≡ tableSize ⌝ }
+    ensures { λ r. ⌜ r ≡ cond (addressed (now (table .entry)) id) instruction 0 ⌝ }
+{
+    if id == table[REG_ID] {
+        return instruction;
+    }
+    if id == BROADCAST_ID {
+        return instruction;
+    }
+    0
+}
+
+// The error number of a bad checksum: it is this device's fault only under its own ID.
+fn checksum_error(table: &[u8], id: u8) -> u8
+    requires { ⌜ length (now table) ≡ tableSize ⌝ }
+    ensures { λ r. ⌜ r ≡ cond (eqb id (ownId (now (table .entry)))) 3 0 ⌝ }
+{
+    if id == table[REG_ID] {
+        return ERROR_CHECKSUM;
+    }
+    0
+}
+
 // A packet as received, the first bytes of the buffer, is carried out; its stuffing is removed where it stands.
 fn carry_packet(
     table: &mut [u8],
@@ -63,6 +103,7 @@ fn carry_packet(
     requires { ⌜ (9 ≤ size) × (size ≤ length (now packet)) ⌝ }
     ensures { λ r. ⌜ r .reply ≡ carriedReply (now (table .entry)) registered Heard·Packet id (unstuff (bodyOf (take size (now (packet .entry))))) ⌝ }
     ensures { λ r. ⌜ r .registered ≡ carriedRegistered (now (table .entry)) registered Heard·Packet id (unstuff (bodyOf (take size (now (packet .entry))))) ⌝ }
+    ensures { λ r. ⌜ r .error ≡ carriedError (now (table .entry)) registered Heard·Packet id (unstuff (bodyOf (take size (now (packet .entry))))) ⌝ }
     ensures { λ _. ⌜ now (table .exit) ≡ carriedTable (now (table .entry)) registered Heard·Packet id (unstuff (bodyOf (take size (now (packet .entry))))) ⌝ }
     ensures { λ _. ⌜ now (packet .exit) ≡ placed (now (packet .entry)) 7 (unstuff (bodyOf (take size (now (packet .entry))))) ⌝ }
 {
@@ -73,40 +114,31 @@ fn carry_packet(
     device::carry_out(table, registered, heard, id, &packet[7..stop])
 }
 
-fn carried_step(taken: usize, count: usize, kind: u8, id: u8, carried: CarriedOut) -> BoardStep
-    ensures { λ r. ⌜ r ≡ record { taken = taken; count = count; kind = kind; id = id; reply = carried .reply; registered = carried .registered } ⌝ }
-{
-    let reply = carried.reply;
-    let registered = carried.registered;
-    BoardStep {
-        taken,
-        count,
-        kind,
-        id,
-        reply,
-        registered,
-    }
-}
-
 // Nothing is carried out: no event, or a refusal by its number.
 fn idle_step(taken: usize, kind: u8, registered: RegisteredWrite) -> BoardStep
-    ensures { λ r. ⌜ r ≡ record { taken = taken; count = 0; kind = kind; id = 0; reply = Status·silence; registered = registered } ⌝ }
+    ensures { λ r. ⌜ r ≡ record { taken = taken; count = 0; kind = kind; id = 0; instruction = 0; error = 0; reply = Status·silence; registered = registered } ⌝ }
 {
     BoardStep {
         taken,
         count: 0,
         kind,
         id: 0,
+        instruction: 0,
+        error: 0,
         reply: status::silence(),
         registered,
     }
 }
 
 // What the reader's call found is carried out.
-fn heard(table: &mut [u8], registered: RegisteredWrite, step: Step, packet: &mut [u8]) -> BoardStep
+fn receive(
+    table: &mut [u8],
+    registered: RegisteredWrite,
+    step: Step,
+    packet: &mut [u8],
+) -> BoardStep
     requires { ⌜ (stateRefusal (now table) registered ≡ none) × Fits (step .event) (now packet) ⌝ }
-    ensures { λ r. ⌜ r ≡ stepWith (step .taken) (eventBy (step .event) (now (packet .entry)))
-        (carriedIfAny (now (table .entry)) registered (eventBy (step .event) (now (packet .entry))) .reply)
+    ensures { λ r. ⌜ r ≡ stepWith (reportOf (now (table .entry)) registered (step .taken) (eventBy (step .event) (now (packet .entry))))
         (carriedIfAny (now (table .entry)) registered (eventBy (step .event) (now (packet .entry))) .registered) ⌝ }
     ensures { λ _. ⌜ now (table .exit) ≡ carriedIfAny (now (table .entry)) registered (eventBy (step .event) (now (packet .entry))) .table ⌝ }
     ensures { λ _. ⌜ now (packet .exit) ≡ bufferBy (step .event) (now (packet .entry)) ⌝ }
@@ -115,16 +147,40 @@ fn heard(table: &mut [u8], registered: RegisteredWrite, step: Step, packet: &mut
     let event = step.event;
     match event {
         StepEvent::Packet { id, size } => {
+            let instruction = instruction_for(&table[..], id, packet[7]);
             let carried = carry_packet(table, registered, id, packet, size);
-            carried_step(taken, size, 1, id, carried)
+            let reply = carried.reply;
+            let kept = carried.registered;
+            BoardStep {
+                taken,
+                count: size,
+                kind: KIND_PACKET,
+                id,
+                instruction,
+                error: carried.error,
+                reply,
+                registered: kept,
+            }
         }
         StepEvent::BadChecksum { id } => {
+            let error = checksum_error(&table[..], id);
             let wrong = Heard::BadChecksum;
             let carried = device::carry_out(table, registered, wrong, id, &packet[..0]);
-            carried_step(taken, 0, 2, id, carried)
+            let reply = carried.reply;
+            let kept = carried.registered;
+            BoardStep {
+                taken,
+                count: 0,
+                kind: KIND_BAD_CHECKSUM,
+                id,
+                instruction: 0,
+                error,
+                reply,
+                registered: kept,
+            }
         }
-        StepEvent::Silent => idle_step(taken, 0, registered),
-        StepEvent::Refused => idle_step(taken, 0, registered),
+        StepEvent::Silent => idle_step(taken, KIND_NONE, registered),
+        StepEvent::Refused => idle_step(taken, KIND_NONE, registered),
     }
 }
 
@@ -155,9 +211,9 @@ pub fn feed(
     *count = step.held;
     let event = step.event;
     if let StepEvent::Silent = event {
-        return idle_step(step.taken, 0, registered);
+        return idle_step(step.taken, KIND_NONE, registered);
     }
-    heard(table, registered, step, packet)
+    receive(table, registered, step, packet)
 }
 
 // A gap call, likewise: the next event, with the held bytes as the end of the segment. Call it until nothing is left.
@@ -185,7 +241,7 @@ pub fn gap(
     *count = step.held;
     let event = step.event;
     if let StepEvent::Silent = event {
-        return idle_step(step.taken, 0, registered);
+        return idle_step(step.taken, KIND_NONE, registered);
     }
-    heard(table, registered, step, packet)
+    receive(table, registered, step, packet)
 }

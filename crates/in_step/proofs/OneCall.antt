@@ -62,8 +62,8 @@ pub follows : Follows protocol2 boards (λ b. boardRefusal b ≡ none) (λ b. he
 follows =
     record {
       fresh = λ b f. (f .1, reader-promises .follows .fresh (b .reader) (f .0) .1);
-      same-taken = λ b c e. ap (λ (o : Outcome). o .told .taken) (outcome-is b c e);
-      same-answer = λ b c e. ap (λ (o : Outcome). o .told .event) (outcome-is b c e);
+      same-taken = λ b c e. ap (λ (o : Outcome). o .report .taken) (outcome-is b c e);
+      same-answer = λ b c e. ap (λ (o : Outcome). o .report .event) (outcome-is b c e);
       same-next = λ b c e. (
         next-accepted b c e,
         ap (λ (o : Outcome). heldIn (o .board .reader)) (outcome-is b c e) ∙ left-held (b .reader) c,

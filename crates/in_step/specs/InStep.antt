@@ -47,14 +47,14 @@ boards =
     record {
       State = Board;
       Fresh = λ b. (b .reader .count ≡ 0) × (boardRefusal b ≡ none);
-      taken = λ b c. outcome b c .told .taken;
-      answer = λ b c. outcome b c .told .event;
+      taken = λ b c. outcome b c .report .taken;
+      answer = λ b c. outcome b c .report .event;
       next = λ b c. outcome b c .board;
     }
 
 unfoldable pub repliesOf : Board → List Call → List Reply
 repliesOf b [] = []
-repliesOf b (c ∷ cs) = spoken (outcome b c .told .reply) ++ repliesOf (outcome b c .board) cs
+repliesOf b (c ∷ cs) = spoken (outcome b c .report .reply) ++ repliesOf (outcome b c .board) cs
 
 -- what the board has to show after these calls
 abbrev pub shownAfter : Board → List Call → Shown

@@ -34,7 +34,7 @@ returns c =
     let q = c .carried .ensures ∙ by-parts _ _ _ _ _ _ (e .0) (e .1 .0) (e .1 .1 .0) in
     rw (sym (i .before .heard-by .ensures), sym (i .id-of-kind .ensures)) (
       q,
-      (e .1 .1 .1, ((device-promises, split, stays-accepted, goal-within-limits, fence), ap₂ stateOf (e .1 .1 .1) (ap (λ (x : CarriedNumbers). x .registered) q))),
+      (e .1 .1 .1 .1, ((device-promises, split, stays-accepted, goal-within-limits, fence), ap₂ stateOf (e .1 .1 .1 .1) (ap (λ (x : CarriedNumbers). x .registered) q))),
     )
 
 pub dxl-carry-out-spec : {M : Type 1} → statement M

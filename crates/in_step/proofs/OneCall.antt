@@ -1,46 +1,17 @@
 -- One call on a board that is not refused: it goes by the packet rules, and leaves a board that is not refused.
 use mathlib.Core.Path.{_≡_, refl, sym, ap, _∙_}
-use mathlib.Core.List.{List, [], _∷_, List·Memᴰ, List·Memᴰ·head}
+use mathlib.Core.List.{List, [], _∷_}
 use mathlib.Core.Option.{Option, none, some}
-use Prim.Native.Nat.{ℕ, _≤_}
-use native.Mathlib.Omega.{arith}
-use Rattle.stuffing.specs.Stuffing.{unstuff}
-use Rattle.reading.specs.Reading.{Event, packet, badChecksum}
+use Prim.Native.Nat.{ℕ}
 use Rattle.reading.specs.Calls.{Call, call}
 use Rattle.reading.specs.Lists.{after, Follows}
-use Rattle.packet_front.specs.Front.{idOf}
-use Rattle.packet.specs.Packet.{bodyOf}
 use Rattle.packet.specs.Verdict.{protocol2}
 use Rattle.reader.specs.Records.{heldIn, leftBy}
-use Rattle.reader.proofs.Records.{reader-promises}
-use Rattle.instructions.specs.declared.RegisteredWrite.{RegisteredWrite}
-use Rattle.reactions.specs.declared.Heard.{Heard}
-use Rattle.reactions.specs.declared.Heard.the-variants.{Packet, BadChecksum}
-use Rattle.device.specs.Device.{carryOut}
-use Rattle.device.specs.Answers.{stateRefusal}
-use Rattle.exchange.specs.Calls.{DeviceCall, carry, lend, stateOf, afterAll, refusalIn}
-use Rattle.exchange.proofs.Stays.{stays-accepted}
-use Rattle.board.proofs.Refusals.{accepted, accepts}
+use Rattle.reader.proofs.Records.{every-protocol}
+use Rattle.board.proofs.Refusals.{accepted, accepts, any-accepted}
 use Rattle.board.proofs.Left.{left-held, left-count, left-clean, left-reader}
-use Rattle.board.specs.Board.{Board, Outcome, carriedOut, carriedIfAny, boardRefusal, outcomeUnless, outcome}
+use Rattle.board.specs.Board.{Board, Outcome, boardRefusal, outcomeUnless, outcome}
 use Rattle.in_step.specs.InStep.{boards, Clean}
-
--- ---- table and registered write stay accepted
-
-module _ (table : List ℕ) (w : RegisteredWrite) (e : stateRefusal table w ≡ none) where
-  none-lent : (heard : Heard) (id : ℕ) (body : List ℕ) (v : RegisteredWrite) → List·Memᴰ (lend v) (carry heard id body ∷ []) → v .count ≤ 8
-  none-lent heard id body v (List·Memᴰ·head i) = let z : _≡_ {A = ℕ} 0 1 = cc in absurd (omega arith)
-
-  stays : (heard : Heard) (id : ℕ) (body : List ℕ) → stateRefusal (carryOut table w heard id body .table) (carryOut table w heard id body .registered) ≡ none
-  stays heard id body = rw e at (stays-accepted .stays (stateOf table w) (carry heard id body ∷ []) e (none-lent heard id body))
-
-  event-stays : (v : Event) → stateRefusal (carriedOut table w v .table) (carriedOut table w v .registered) ≡ none
-  event-stays (packet bytes) = stays Packet (idOf bytes) (unstuff (bodyOf bytes))
-  event-stays (badChecksum id) = stays BadChecksum id []
-
-  pub any-stays : (v : Option Event) → stateRefusal (carriedIfAny table w v .table) (carriedIfAny table w v .registered) ≡ none
-  any-stays none = e
-  any-stays (some v) = event-stays v
 
 -- ---- the call
 
@@ -54,14 +25,14 @@ next-accepted b c e =
     rw (outcome-is b c e)
     (accepts (outcomeUnless none b c .board) (record {
       held = left-count (b .reader) c (a .held);
-      state = any-stays (b .table) (b .registered) (a .state) (call protocol2 (heldIn (b .reader)) c .answer);
+      state = any-accepted (b .table) (b .registered) (a .state) (call protocol2 (heldIn (b .reader)) c .answer);
     }))
 
 -- a board keeps to the packet rules
 pub follows : Follows protocol2 boards (λ b. boardRefusal b ≡ none) (λ b. heldIn (b .reader))
 follows =
     record {
-      fresh = λ b f. (f .1, reader-promises .follows .fresh (b .reader) (f .0) .1);
+      fresh = λ b f. (f .1, every-protocol .two .follows .fresh (b .reader) (f .0) .1);
       same-taken = λ b c e. ap (λ (o : Outcome). o .report .taken) (outcome-is b c e);
       same-answer = λ b c e. ap (λ (o : Outcome). o .report .event) (outcome-is b c e);
       same-next = λ b c e. (

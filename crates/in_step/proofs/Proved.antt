@@ -15,7 +15,7 @@ use Rattle.reading.proofs.Follows.{follows-after, follows-took, follows-given}
 use Rattle.packet.specs.Verdict.{protocol2}
 use Rattle.packet.proofs.Laws.{laws}
 use Rattle.reader.specs.Records.{heldIn}
-use Rattle.reader.proofs.Records.{reader-promises}
+use Rattle.reader.proofs.Records.{every-protocol}
 use Rattle.instructions.specs.declared.RegisteredWrite.{RegisteredWrite}
 use Rattle.board.specs.Board.{Board, boardRefusal}
 use Rattle.in_step.specs.InStep.{Shown, hearing, boards, shownAfter, CaughtUp, NotBehind, InStep}
@@ -83,7 +83,7 @@ promised b legal empty chunks g noise packets rest is good across =
           (subst (λ (l : List Found). AllOut l (length noise) packets) all (m .out-by-gap f))
           (v ∙ sym (m .firsts) ∙ ap (λ (l : List Found). map what l) all);
       by-feed = λ z chunk s many.
-          let o = m .out-by-feed z chunk s (reader-promises .followed-by-1030 (joined packets ++ rest) .1 many) in
+          let o = m .out-by-feed z chunk s (every-protocol .two .followed-by (joined packets ++ rest) .1 many) in
           caught-up b legal cs (givenAt protocol2 boards b chunks g) noise packets (rw (t, v) o) (rw (t, v) (sym (m .firsts)));
     }
 

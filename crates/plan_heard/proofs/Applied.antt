@@ -21,11 +21,14 @@ use Rattle.registers.specs.Registers.{registers, maxPosition}
 use Rattle.items.specs.Items.{valueAt, put}
 use Rattle.control_table.specs.Fresh.{freshened, freshTable}
 use Rattle.device.specs.Answers.{stateRefusal, roomRefusal, callRefusal}
+use Rattle.board.specs.Board.{boardOf, lentRefusal, readerLeft, outcome}
+use Rattle.device_calls.specs.Calls.{State, stateOf}
+use Rattle.in_step.specs.InStep.{boards}
 use Rattle.plan.specs.Samples.{twoGoals, planOfTwo}
 use Rattle.plan.proofs.Samples.{plan-of-two, two-goals-good}
 use Rattle.plan_heard.specs.Hearing.{Form, inTwo, inOne, unstuffed}
-use Rattle.plan_heard.specs.PlanCarriedOut.{faultOf, Ready, Obeyed, TakenWhole, PlanCarriedOut}
-use Rattle.plan_heard.specs.Applied.{device9, with, earlier, inHalves, having, Heard, PlanCarriedOutApplied}
+use Rattle.plan_heard.specs.PlanCarriedOut.{faultOf, Ready, ofBoard, Obeyed, TakenWhole, PlanCarriedOut}
+use Rattle.plan_heard.specs.Applied.{device9, longest, with, earlier, inHalves, by, onBoard, Heard, PlanCarriedOutApplied}
 
 ready : (form : Form) (table : List ℕ) → faultOf form (with table) ≡ none → Ready form (with table) (planOfTwo ∷ [])
 unfolding bodyOf unstuffAfter
@@ -43,41 +46,53 @@ taken : TakenWhole inHalves 1 planOfTwo
 unfolding after took first fed call reduceIf shift shifts crcByte crcFrom wellAfter lengthOf bodyOf checksumRight frontAgrees lengthAgrees shapeVerdict
 taken = (refl, (0, omega arith, refl))
 
-obeyed : PlanCarriedOut → (form : Form) (table : List ℕ) → faultOf form (with table) ≡ none → Obeyed twoGoals (with table) (having form table)
-unfolding plan-of-two
-obeyed t form table e = t .carried-out twoGoals planOfTwo two-goals-good plan-of-two (lent [] 0) refl earlier at-start inHalves 1 taken form (with table) (ready form table e)
+-- what is promised of a table
+abbrev Obeys : (List ℕ → State) → List ℕ → Type 0
+Obeys left table = Obeyed twoGoals (stateOf table longest) (left table)
 
-pub record Faultless (form : Form) : Type 0 where
-  pub nine : faultOf form (with device9) ≡ none
-  pub narrow : faultOf form (with (put device9 maxPosition 254)) ≡ none
-  pub one : faultOf form (with freshTable) ≡ none
-
-heard : PlanCarriedOut → (form : Form) → Faultless form → Heard form
+heard : (left : List ℕ → State) → Obeys left device9 → Obeys left (put device9 maxPosition 254) → Obeys left freshTable → Heard left
 unfolding registers freshened put bytesOf valueAt numberAt
-heard t form f =
-    let nine = obeyed t form device9 (f .nine) in
+heard left nine narrow one =
     record {
       stored = nine .stored 255 refl refl;
-      refused = obeyed t form (put device9 maxPosition 254) (f .narrow) .refused 255 refl refl;
-      unwanted = obeyed t form freshTable (f .one) .unwanted refl;
+      refused = narrow .refused 255 refl refl;
+      unwanted = one .unwanted refl;
       before = nine .others 115 (inl (ltb-true _ _ refl));
       behind = nine .others 120 (inr (leb-true _ _ refl));
       registered = nine .registered;
     }
 
-in-two : Faultless inTwo
-unfolding registers freshened put bytesOf stateRefusal
-in-two = record { nine = refl; narrow = refl; one = refl }
+-- ---- by calls
 
-by-body : Faultless unstuffed
-unfolding registers freshened put bytesOf stateRefusal
-by-body = record { nine = refl; narrow = refl; one = refl }
+obeyed : PlanCarriedOut → (form : Form) (table : List ℕ) → faultOf form (with table) ≡ none → Obeys (by form) table
+unfolding plan-of-two
+obeyed t form table e =
+    t .carried-out twoGoals planOfTwo two-goals-good plan-of-two (lent [] 0) refl earlier at-start inHalves 1 taken form (with table) (ready form table e)
 
-in-one : Faultless inOne
+in-two : PlanCarriedOut → Heard (by inTwo)
+unfolding registers freshened put bytesOf stateRefusal
+in-two t = heard (by inTwo) (obeyed t inTwo _ refl) (obeyed t inTwo _ refl) (obeyed t inTwo _ refl)
+
+by-body : PlanCarriedOut → Heard (by unstuffed)
+unfolding registers freshened put bytesOf stateRefusal
+by-body t = heard (by unstuffed) (obeyed t unstuffed _ refl) (obeyed t unstuffed _ refl) (obeyed t unstuffed _ refl)
+
+in-one : PlanCarriedOut → Heard (by inOne)
 unfolding registers freshened put bytesOf stateRefusal roomRefusal callRefusal
-in-one = record { nine = refl; narrow = refl; one = refl }
+in-one t = heard (by inOne) (obeyed t inOne _ refl) (obeyed t inOne _ refl) (obeyed t inOne _ refl)
+
+-- ---- by a board
+
+board-obeys : PlanCarriedOut → (table : List ℕ) → boards .Fresh (boardOf (lent [] 0) table longest)
+    → Obeyed twoGoals (ofBoard (after boards (boardOf (lent [] 0) table longest) earlier)) (onBoard table)
+unfolding plan-of-two
+board-obeys t table fresh =
+    t .on-board twoGoals planOfTwo two-goals-good plan-of-two (boardOf (lent [] 0) table longest) fresh earlier at-start inHalves 1 taken
+
+on-board : PlanCarriedOut → Heard onBoard
+unfolding after outcome readerLeft first fed call frontAgrees lengthAgrees shapeVerdict registers freshened put bytesOf stateRefusal lentRefusal
+on-board t = heard onBoard (board-obeys t device9 (refl, refl)) (board-obeys t (put device9 maxPosition 254) (refl, refl)) (board-obeys t freshTable (refl, refl))
 
 pub plan-carried-out-applied : PlanCarriedOutApplied
 unfolding plan-of-two
-plan-carried-out-applied t =
-    (heard t inTwo in-two, heard t inOne in-one, heard t unstuffed by-body, t .can-be-taken twoGoals planOfTwo plan-of-two .0)
+plan-carried-out-applied t = (in-two t, in-one t, by-body t, on-board t, t .can-be-taken twoGoals planOfTwo plan-of-two .0)

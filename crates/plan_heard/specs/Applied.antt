@@ -1,4 +1,4 @@
--- What is promised of plans that are heard, applied to the worked one and to devices 9 and 1, in each form.
+-- What is promised of plans that are heard, applied to the worked one and to devices 9 and 1, by each form of calls, and to boards.
 use mathlib.Core.Path.{_≡_}
 use mathlib.Core.List.{List, [], _∷_}
 use Prim.Native.Nat.{ℕ}
@@ -13,9 +13,12 @@ use Rattle.registers.specs.Registers.{deviceId, maxPosition, goalPosition}
 use Rattle.items.specs.Items.{put, valueOf}
 use Rattle.control_table.specs.Fresh.{freshTable}
 use Rattle.instructions.specs.declared.RegisteredWrite.{RegisteredWrite}
+use Rattle.board.specs.Board.{boardOf}
+use Rattle.device_calls.specs.Calls.{State}
+use Rattle.in_step.specs.InStep.{boards}
 use Rattle.plan.specs.Samples.{planOfTwo}
 use Rattle.plan_heard.specs.Hearing.{Device, Form, inTwo, inOne, unstuffed, hearsAll}
-use Rattle.plan_heard.specs.PlanCarriedOut.{PlanCarriedOut}
+use Rattle.plan_heard.specs.PlanCarriedOut.{ofDevice, ofBoard, PlanCarriedOut}
 
 -- device 9, fresh but for its ID, and the longest registered write
 abbrev pub device9 : List ℕ
@@ -35,19 +38,28 @@ earlier = feed (0x01 ∷ []) ∷ gap ∷ []
 abbrev pub inHalves : List (List ℕ)
 inHalves = take 9 planOfTwo ∷ drop 9 planOfTwo ∷ []
 
-abbrev pub having : Form → List ℕ → Device
-having form table = hearsAll form (with table) (given records (after records (lent [] 0) earlier) (since inHalves 1))
+-- what a device with this table has then, by each form of calls, and what a board has
+abbrev pub by : Form → List ℕ → State
+by form table = ofDevice (hearsAll form (with table) (given records (after records (lent [] 0) earlier) (since inHalves 1)))
 
-pub record Heard (form : Form) : Type 0 where
+abbrev pub onBoard : List ℕ → State
+onBoard table = ofBoard (after boards (after boards (boardOf (lent [] 0) table longest) earlier) (since inHalves 1))
+
+pub record Heard (left : List ℕ → State) : Type 0 where
   -- device 9 has its goal; one whose limits do not admit it, or of which none is wanted, is as it was
-  pub stored : valueOf goalPosition (having form device9 .table) ≡ pos 255
-  pub refused : having form (put device9 maxPosition 254) .table ≡ put device9 maxPosition 254
-  pub unwanted : having form freshTable .table ≡ freshTable
+  pub stored : valueOf goalPosition (left device9 .table) ≡ pos 255
+  pub refused : left (put device9 maxPosition 254) .table ≡ put device9 maxPosition 254
+  pub unwanted : left freshTable .table ≡ freshTable
   -- no other byte changes, the last before the goal position and the first behind it, and no registered write
-  pub before : getD (having form device9 .table) 115 0 ≡ getD device9 115 0
-  pub behind : getD (having form device9 .table) 120 0 ≡ getD device9 120 0
-  pub registered : having form device9 .registered ≡ longest
+  pub before : getD (left device9 .table) 115 0 ≡ getD device9 115 0
+  pub behind : getD (left device9 .table) 120 0 ≡ getD device9 120 0
+  pub registered : left device9 .registered ≡ longest
 
 abbrev pub PlanCarriedOutApplied : Type 0
 PlanCarriedOutApplied =
-    PlanCarriedOut → Heard inTwo × Heard inOne × Heard unstuffed × (took (model protocol2) [] (since (planOfTwo ∷ []) 1) ≡ planOfTwo)
+    PlanCarriedOut
+    → Heard (by inTwo)
+    × Heard (by inOne)
+    × Heard (by unstuffed)
+    × Heard onBoard
+    × (took (model protocol2) [] (since (planOfTwo ∷ []) 1) ≡ planOfTwo)

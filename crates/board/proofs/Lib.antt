@@ -2,5 +2,5 @@ mod Body
 pub mod Refusals
 mod ByAnswer
 mod Sound
-mod OneCall
+pub mod OneCall
 pub mod Left

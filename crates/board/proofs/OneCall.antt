@@ -60,6 +60,15 @@ module _ (base : List ℕ) where
 
 -- ---- the call
 
+-- the registered write of the answer is that of the board
+pub step-registered : (b : Board) (c : Call) → boardStep b c .registered ≡ outcome b c .board .registered
+unfolding boardStep
+step-registered b c = by (boardRefusal b)
+  where
+    by : (r : Option ℕ) → stepUnless r (outcome b c) .registered ≡ outcome b c .board .registered
+    by none = refl
+    by (some number) = refl
+
 module _ (b : Board) (c : Call) (old : List ℕ) where
   -- what the contracts of `feed` and `gap` say
   abbrev pub Says : BoardStep → Reader → List ℕ → List ℕ → Type 0

@@ -35,7 +35,7 @@ use Rattle.reactions.specs.declared.Heard.the-variants.{Packet}
 use Rattle.device.specs.Device.{executed}
 use Rattle.device.specs.Answers.{DeviceAnswer, sent, refused, stateRefusal, roomRefusal, callRefusal}
 use Rattle.exchange.specs.Exchange.{idHeard}
-use Rattle.exchange.specs.Calls.{State, DeviceCall, fresh, measurement, device, exchange, carry, carryPacket, lend, stateOf, afterAll, refusalIn}
+use Rattle.device_calls.specs.Calls.{State, DeviceCall, fresh, measurement, device, exchange, carry, carryPacket, lend, stateOf, afterAll, refusalIn}
 use Rattle.cases.specs.Exchanges.{goalAt512, registeredTable, goalTooLarge, goalRegistered, pingWrongSum}
 use Rattle.cases.specs.Cases.{writeGoal}
 use Rattle.device_applications.specs.Devices.{room, short, bodyRoom, behindFresh, eachKind, longest, start, ended, tooMany, StaysAcceptedApplied, restored, GoalWithinLimitsApplied, writeTooLarge, otherLimits, alerted, DevicePromisesApplied, SplitApplied, sevenBytes, sixBytes, ExchangePromisesApplied}

@@ -21,9 +21,9 @@ use Rattle.device.specs.Demand1.{errorNumber}
 use Rattle.device.specs.Promises.{DevicePromises}
 use Rattle.device.specs.Split.{Split, answerOfBoth, outOfBoth}
 use Rattle.exchange.specs.Exchange.{heardOf, packetRefusal, packetAnswer, packetReply, packetTable, packetRegistered, packetBody, exchangeRefusal, exchangeAnswer, exchangeTable, exchangeRegistered, exchangeBody, exchangeOut}
-use Rattle.exchange.specs.Calls.{State, DeviceCall, fresh, measurement, device, exchange, carry, carryPacket, lend, stateOf, afterAll, refusalIn}
-use Rattle.exchange.specs.Stays.{StaysAccepted}
-use Rattle.exchange.specs.GoalWithinLimits.{GoalWithinLimits}
+use Rattle.device_calls.specs.Calls.{State, DeviceCall, fresh, measurement, device, exchange, carry, carryPacket, lend, stateOf, afterAll, refusalIn}
+use Rattle.device_calls.specs.Stays.{StaysAccepted}
+use Rattle.device_calls.specs.GoalWithinLimits.{GoalWithinLimits}
 use Rattle.exchange.specs.Promises.{ExchangePromises}
 use Rattle.cases.specs.Cases.{pingStatus, writeGoal, writeStatus}
 use Rattle.cases.specs.Exchanges.{goalAt512, registeredTable, goalTooLarge, goalRegistered, pingWrongSum, registerGoal}

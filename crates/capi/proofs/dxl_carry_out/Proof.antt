@@ -1,10 +1,10 @@
 use mathlib.Core.Path.{sym, ap, ap₂, _∙_}
 use Rattle.numbers.specs.declared.CarriedNumbers.{CarriedNumbers}
-use Rattle.exchange.specs.Calls.{stateOf}
+use Rattle.device_calls.specs.Calls.{stateOf}
 use Rattle.device.proofs.Promises.{device-promises}
 use Rattle.table_rules.proofs.Fence.{fence}
-use Rattle.exchange.proofs.Stays.{stays-accepted}
-use Rattle.exchange.proofs.GoalWithinLimits.{goal-within-limits}
+use Rattle.device_calls.proofs.Stays.{stays-accepted}
+use Rattle.device_calls.proofs.GoalWithinLimits.{goal-within-limits}
 use Rattle.device.proofs.Split.{split}
 use Rattle.capi.proofs.Carried.{by-parts}
 use borrow.Author.Needs.{needs}

@@ -687,6 +687,75 @@ struct dxl_carried dxl_carry_out_packet(uint8_t *table, size_t n_table, struct d
 int64_t dxl_status(struct dxl_reply reply, uint8_t *out, size_t n_out);
 
 /*
+ * A board: all that a device keeps, in one record. dxl_board_start makes it ready. The calls below take bytes of the line and carry
+ * out at once what they find, so that the table is never behind what was heard. Between the calls the table is there to be read,
+ * and dxl_measure writes to it.
+ */
+struct dxl_board {
+    uint8_t held[DXL_MAX_HELD];
+    uint8_t packet[DXL_MAX_PACKET];
+    uint8_t table[DXL_TABLE_BYTES];
+    size_t count;
+    struct dxl_registered registered;
+};
+
+/* What a call on a board found and did. If kind is a refusal, registered is as given and every other field is 0. */
+struct dxl_board_step {
+    size_t taken;                     /* bytes of the chunk that it took; of a gap call, 0 */
+    size_t count;                     /* the packet's bytes; 0 beside any other kind */
+    uint8_t kind;                     /* DXL_NO_EVENT, DXL_PACKET, DXL_BAD_CHECKSUM; or a refusal: 25, 22, 23, in this order */
+    uint8_t id;                       /* of the packet or the bad checksum */
+    uint8_t instruction;              /* of a packet for this device or for all; otherwise 0 */
+    uint8_t error;                    /* the instruction's error, also where no status is sent; 3 for a bad checksum with the own
+                                         ID; otherwise 0 */
+    struct dxl_reply reply;           /* for dxl_status, in its slot */
+    struct dxl_registered registered; /* the registered write from now on; dxl_board_feed and dxl_board_gap store it */
+};
+
+/*
+ * Feeds a board: takes bytes of the chunk up to the next event, or all of it, and carries the event out. Feed what is left of the
+ * chunk again until a call gives DXL_NO_EVENT, even if nothing is left.
+ *
+ * After a packet, the buffer begins with its step.count bytes, with its body, from packet[7] on, free of stuffing.
+ *
+ * Refusals, as step.kind: 25, 22, 23. A refused call takes no byte and changes nothing. No bytes on the line lead to one: it means
+ * that the record was overwritten.
+ *
+ * dxl_board_feed and dxl_board_gap below pass the parts of a record and store the registered write.
+ */
+struct dxl_board_step dxl_board_feed_parts(uint8_t held[DXL_MAX_HELD], size_t *count, const uint8_t *chunk, size_t n,
+                                           uint8_t packet[DXL_MAX_PACKET], uint8_t table[DXL_TABLE_BYTES],
+                                           struct dxl_registered registered);
+
+/* The same when the line was silent for longer than 1.5 ms. Call it until it gives DXL_NO_EVENT: then nothing is held. */
+struct dxl_board_step dxl_board_gap_parts(uint8_t held[DXL_MAX_HELD], size_t *count, uint8_t packet[DXL_MAX_PACKET],
+                                          uint8_t table[DXL_TABLE_BYTES], struct dxl_registered registered);
+
+/* Makes a board ready: no bytes held, nothing registered, a fresh table. */
+static inline void dxl_board_start(struct dxl_board *board)
+{
+    uint8_t *bytes = (uint8_t *)board;
+    for (size_t i = 0; i < sizeof *board; i++)
+        bytes[i] = 0;
+    (void)dxl_fresh(board->table, sizeof board->table); /* it refuses only another size */
+}
+
+static inline struct dxl_board_step dxl_board_feed(struct dxl_board *board, const uint8_t *chunk, size_t n)
+{
+    struct dxl_board_step step =
+        dxl_board_feed_parts(board->held, &board->count, chunk, n, board->packet, board->table, board->registered);
+    board->registered = step.registered;
+    return step;
+}
+
+static inline struct dxl_board_step dxl_board_gap(struct dxl_board *board)
+{
+    struct dxl_board_step step = dxl_board_gap_parts(board->held, &board->count, board->packet, board->table, board->registered);
+    board->registered = step.registered;
+    return step;
+}
+
+/*
  * Writes the wanted goal positions of many devices as Sync Writes, one behind the other, to the start of out: IDs rising, 203
  * devices to each packet but the last.
  *

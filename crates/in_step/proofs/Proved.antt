@@ -30,6 +30,15 @@ map-what : (a b : List Found) → map what (a ++ b) ≡ map what a ++ map what b
 map-what [] b = refl
 map-what (f ∷ a) b = ap (λ (l : List Event). what f ∷ l) (map-what a b)
 
+-- what came out, in three parts
+pub parts : (events : List Found) (p : ℕ) (packets : List (List ℕ)) (out : AllOut events p packets)
+    → map what events ≡ map what (out .sooner) ++ (map packet packets ++ map what (out .later))
+parts events p packets out =
+    ap (λ (l : List Found). map what l) (out .are)
+    ∙ map-what (out .sooner) (packetsAt p packets ++ out .later)
+    ∙ ap (λ (l : List Event). map what (out .sooner) ++ l)
+    (map-what (packetsAt p packets) (out .later) ∙ ap (λ (l : List Event). l ++ map what (out .later)) (what-packets p packets))
+
 module _ (b : Board) (legal : boardRefusal b ≡ none) (cs : List Call) (events : List Found) (noise : List ℕ) (packets : List (List ℕ))
     (out : AllOut events (length noise) packets) (are : given boards b cs ≡ map what events) where
   abbrev sooner : List Event
@@ -38,15 +47,8 @@ module _ (b : Board) (legal : boardRefusal b ≡ none) (cs : List Call) (events 
   abbrev later : List Event
   later = map what (out .later)
 
-  parts : map what events ≡ sooner ++ (map packet packets ++ later)
-  parts =
-      ap (λ (l : List Found). map what l) (out .are)
-      ∙ map-what (out .sooner) (packetsAt (length noise) packets ++ out .later)
-      ∙ ap (λ (l : List Event). sooner ++ l)
-      (map-what (packetsAt (length noise) packets) (out .later) ∙ ap (λ (l : List Event). l ++ later) (what-packets (length noise) packets))
-
   carried-out : shownAfter b cs ≡ hearing (b .table) (b .registered) (sooner ++ (map packet packets ++ later))
-  carried-out = each-once cs b legal ∙ ap (λ (l : List Event). hearing (b .table) (b .registered) l) (are ∙ parts)
+  carried-out = each-once cs b legal ∙ ap (λ (l : List Event). hearing (b .table) (b .registered) l) (are ∙ parts events (length noise) packets out)
 
   caught-up : CaughtUp b cs events noise packets
   caught-up =
@@ -96,7 +98,7 @@ in-step =
           let n = follows-after protocol2 boards (λ b. boardRefusal b ≡ none) (λ b. heldIn (b .reader)) follows b [] earlier (s .0) (s .1) in
           promised (after boards b earlier) (n .0) (n .1 ∙ fresh protocol2 laws earlier start) chunks g noise packets rest is good across;
       each-once = λ b legal cs. each-once cs b legal;
-      demand-3 = call-promises protocol2 laws boards (λ b. boardRefusal b ≡ none) (λ b. heldIn (b .reader)) follows;
+      demand-3 = call-promises protocol2 laws boards (λ b. boardRefusal b ≡ none) (λ b. heldIn (b .reader)) follows .demand-3;
       alike = λ b clean same-table same-registered cs events noise packets good up n m is-fresh chunks g is f.
           let s = follows .fresh clean is-fresh in
           let line = call-promises protocol2 laws boards (λ b. boardRefusal b ≡ none) (λ b. heldIn (b .reader)) follows .clean-line

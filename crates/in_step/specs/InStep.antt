@@ -10,8 +10,7 @@ use lib.ListN.{length, drop, replicate}
 use Rattle.reading.specs.Reading.{Event, packet, badChecksum, Found, reading}
 use Rattle.reading.specs.Calls.{Call, feed}
 use Rattle.reading.specs.Lists.{AnyReader, model, feeds, after, took, given}
-use Rattle.reading.specs.Promise.{what, joined, AllOut, since, EndsSilent, AtStart, Finished, AllWellFormed, NoneAcross, givenAt}
-use Rattle.reading.specs.Across.{CallPromises}
+use Rattle.reading.specs.Promise.{what, joined, AllOut, since, EndsSilent, AtStart, Finished, AllWellFormed, NoneAcross, givenAt, Demand3}
 use Rattle.packet_front.specs.Front.{idOf}
 use Rattle.packet.specs.Verdict.{protocol2}
 use Rattle.reader.specs.Records.{leftBy}
@@ -123,7 +122,7 @@ pub record InStep : Type 0 where
   -- every list of calls whatever, at any time: each event that has come out is carried out, once and in order, and nothing else is
   pub each-once : (b : Board) → boardRefusal b ≡ none → (cs : List Call) → shownAfter b cs ≡ hearing (b .table) (b .registered) (given boards b cs)
   -- demand 3 of a board, word for word as of a reader: nothing comes out among the packets, or of a packet still arriving
-  pub demand-3 : CallPromises protocol2 boards
+  pub demand-3 : Demand3 protocol2 boards
   -- Two boards that were alike are alike again: one has caught up behind a noisy line, with nothing else for it in the noise and after
   -- the packets; the other took the packets from a clean line, however cut, and finished the gap.
   pub alike : (b clean : Board) → b .table ≡ clean .table → b .registered ≡ clean .registered

@@ -227,11 +227,12 @@ class Tree:
         return {f"{crate}::{name}": self.statements.led_to(read(path), head) for crate, name, _, head, _, path in self.functions}
 
     def unpromised(self):
-        """A theorem has to be led to by a public function's contract, any other statement by some function's."""
+        """A theorem has to be led to by a public function's contract, any other statement by some function's, or be asked by one."""
         promised = self.promised()
+        asked = set().union(*(self.statements.asked(read(path), head) for *_, head, _, path in self.functions))
         public = {f"{crate}::{name}" for crate, name, public, _, _, _ in self.functions if public}
         by_public = set().union(*(places for who, places in promised.items() if who in public))
-        for place in sorted(self.statements.statements.keys() - set().union(*promised.values()) | self.statements.theorems - by_public):
+        for place in sorted(self.statements.statements.keys() - set().union(asked, *promised.values()) | self.statements.theorems - by_public):
             yield f"no function promises {place[2]} of {self.statements.statements[place]}"
 
     def unapplied(self):

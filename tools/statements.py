@@ -121,12 +121,18 @@ class Statements:
         while more:
             more = {place for place in self.statements.keys() - claims if claims & set(self.named[place])}
             claims |= more
+        self.claims = claims
         self.theorems = general & claims
 
     def cited(self, source, contract):
         """The definitions that a contract names; `source` is the file that it stands in."""
         clauses = re.findall(r"\bensures \{(.*?)⌝ \}", contract, flags=re.S)
         return [place for clause in clauses for place in named_in(clause, brought_in(source))]
+
+    def asked(self, source, contract):
+        """The definitions that a `requires` names."""
+        clauses = re.findall(r"\brequires \{(.*?)⌝ \}", contract, flags=re.S)
+        return {place for clause in clauses for place in named_in(clause, brought_in(source))}
 
     def led_to(self, source, contract):
         """All definitions that a contract leads to."""
@@ -150,7 +156,7 @@ class Statements:
                 continue
             seen.add(place)
             for field, concluded in self.fields.get(place, {}).items():
-                if place in self.statements:
+                if place in self.claims:
                     found.append((place, field))
                     ahead += concluded
             ahead += self.concluded.get(place, []) if place not in self.fields else []

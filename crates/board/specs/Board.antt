@@ -34,7 +34,7 @@ pub record Board : Type 0 where
 abbrev pub boardOf : Reader → List ℕ → RegisteredWrite → Board
 boardOf reader table w = record { reader = reader; table = table; registered = w }
 
--- an event is carried out: a packet by its ID and its body without stuffing, a bad checksum by its ID
+-- an event is carried out: a packet by its ID and its body without stuffing, a bad checksum by its ID [B1]
 abbrev pub carriedOut : List ℕ → RegisteredWrite → Event → Carried
 carriedOut table w (packet bytes) = carryOut table w Packet (idOf bytes) (unstuff (bodyOf bytes))
 carriedOut table w (badChecksum id) = carryOut table w BadChecksum id []
@@ -50,13 +50,14 @@ carriedIfAny table w none = record { table = table; registered = w; reply = sile
 abbrev pub addressed : List ℕ → ℕ → Bool
 addressed table id = eqb id (ownId table) || eqb id 254
 
--- the instruction of a packet that is for this device, by its ID before the packet is carried out; 0 beside anything else
+-- the instruction of a packet that is for this device, by its ID before the packet is carried out; 0 beside anything else [B4]
 abbrev pub instructionIn : List ℕ → Option Event → ℕ
 instructionIn table (some (packet bytes)) = cond (addressed table (idOf bytes)) (getD (bodyOf bytes) 0 0) 0
 instructionIn table (some (badChecksum id)) = 0
 instructionIn table none = 0
 
 -- the error number of that instruction, also where it is not answered; 3 for a bad checksum with the own ID; 0 beside anything else
+-- [B5]
 abbrev pub errorIn : List ℕ → RegisteredWrite → Option Event → ℕ
 errorIn table w (some (packet bytes)) = errorNumber table w Packet (idOf bytes) (unstuff (bodyOf bytes))
 errorIn table w (some (badChecksum id)) = cond (eqb id (ownId table)) 3 0
@@ -64,7 +65,7 @@ errorIn table w none = 0
 
 -- ---- a call
 
--- what the caller lent is refused: more than 1,030 held bytes, 25; then table and registered write, 21 to 23
+-- what the caller lent is refused: more than 1,030 held bytes, 25; then table and registered write, 21 to 23 [B2]
 unfoldable pub lentRefusal : ℕ → List ℕ → RegisteredWrite → Option ℕ
 lentRefusal held table w = orElse (firstFailing ((leb held 1030, 25) ∷ [])) (stateRefusal table w)
 
@@ -95,14 +96,14 @@ pub record Outcome : Type 0 where
   pub board : Board
 
 -- how a call leaves the reader: what is held then, and its count; 0 follows as far as bytes were held and taken, and what lies further
--- on stays
+-- on stays [B6]
 unfoldable pub readerLeft : Reader → Call → Reader
 readerLeft r c =
     let result = call protocol2 (heldIn r) c in
     record { bytes = leanHeld Two (r .count) (r .bytes) result; count = length (result .held) }
 
 -- The event of the reader's call is carried out on the table and the registered write as they stand. A refusal takes no byte and
--- leaves everything as it was.
+-- leaves everything as it was. [B1 B2]
 abbrev pub outcomeUnless : Option ℕ → Board → Call → Outcome
 outcomeUnless none b c =
     let result = call protocol2 (heldIn (b .reader)) c in

@@ -18,7 +18,7 @@ use Rattle.status.specs.Status.{silence}
 use Rattle.board.specs.Board.{Board, Report, Outcome, boardRefusal, outcome}
 use Rattle.board.specs.declared.BoardStep.{BoardStep}
 
--- kind 1 is a packet, with its byte count and ID, 2 a bad checksum, with its ID, and 0 no event
+-- kind 1 is a packet, with its byte count and ID, 2 a bad checksum, with its ID, and 0 no event [B3]
 abbrev pub kindOf : Option Event → ℕ
 kindOf (some (packet w)) = 1
 kindOf (some (badChecksum id)) = 2
@@ -47,7 +47,7 @@ stepWith r kept =
       registered = kept;
     }
 
--- a refusal is the kind of its number, and all else is 0
+-- a refusal is the kind of its number, and all else is 0 [B2]
 abbrev pub refusedStep : ℕ → RegisteredWrite → BoardStep
 refusedStep number w =
     record { taken = 0; count = 0; kind = number; id = 0; instruction = 0; error = 0; reply = silence; registered = w }
@@ -59,7 +59,7 @@ stepUnless (some number) o = refusedStep number (o .board .registered)
 unfoldable pub boardStep : Board → Call → BoardStep
 boardStep b c = stepUnless (boardRefusal b) (outcome b c)
 
--- the packet buffer, which the reader's call left so: in a packet the body without stuffing stands over the body
+-- the packet buffer, which the reader's call left so: in a packet the body without stuffing stands over the body [B7]
 abbrev pub bufferFor : List ℕ → Option Event → List ℕ
 bufferFor read (some (packet w)) = placed read 7 (unstuff (bodyOf w))
 bufferFor read (some (badChecksum id)) = read

@@ -43,6 +43,11 @@ pub struct BoardStep {
     pub registered: RegisteredWrite,
 }
 
+// The most bytes that a reader holds, and the number for more.
+const MAX_HELD: usize = 1030;
+
+const BAD_READER: u8 = 25;
+
 pub const KIND_NONE: u8 = 0;
 
 pub const KIND_PACKET: u8 = 1;
@@ -53,8 +58,8 @@ pub const KIND_BAD_CHECKSUM: u8 = 2;
 fn refusal(held: usize, table: &[u8], registered: RegisteredWrite) -> u8
     ensures { λ r. ⌜ r ≡ numberOf (lentRefusal held (now (table .entry)) registered) ⌝ }
 {
-    if 1030 < held {
-        return 25;
+    if MAX_HELD < held {
+        return BAD_READER;
     }
     match device::state_refusal(table, registered) {
         Replied::Sent(_, _) => 0,
@@ -185,7 +190,7 @@ fn receive(
 }
 
 // A feeding call on a board in its parts: it takes the fewest bytes of the chunk that decide an event, or all of it, and carries the
-// event out. Feed the rest again until a call gives no event, even if the rest is empty.
+// event out. Feed the rest again until a call gives no event, even if the rest is empty. [B1-B7]
 pub fn feed(
     held: &mut [u8; 1030],
     count: &mut usize,
@@ -216,7 +221,7 @@ pub fn feed(
     receive(table, registered, step, packet)
 }
 
-// A gap call, likewise: the next event, with the held bytes as the end of the segment. Call it until nothing is left.
+// A gap call, likewise: the next event, with the held bytes as the end of the segment. Call it until nothing is left. [B1-B7]
 pub fn gap(
     held: &mut [u8; 1030],
     count: &mut usize,

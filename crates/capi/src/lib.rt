@@ -386,7 +386,7 @@ pub extern "C" fn dxl_status(reply: Reply, out: &mut [u8]) -> i64
 
 // A feeding call on a board in its parts: bytes of the line are taken up to the next event, and it is carried out. That no board is
 // behind, also where the firmware measures between the calls, and what an accepted plan does to it, is promised too.
-// [B1-B9 G5]
+// [B1-B12 G5]
 #[no_mangle]
 pub extern "C" fn dxl_board_feed_parts(
     held: &mut [u8; 1030],
@@ -407,7 +407,7 @@ pub extern "C" fn dxl_board_feed_parts(
     board::feed(held, count, chunk, packet, table, registered)
 }
 
-// A gap call on a board in its parts, likewise. [B1-B9 G5]
+// A gap call on a board in its parts, likewise. [B1-B12 G5]
 #[no_mangle]
 pub extern "C" fn dxl_board_gap_parts(
     held: &mut [u8; 1030],

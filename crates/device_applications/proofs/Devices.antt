@@ -14,6 +14,7 @@ use Rattle.lists.proofs.Bools.{and-left, and-right, both-ways}
 use Rattle.crc.specs.Crc.{reduceIf, shift, shifts, crcByte, crcFrom}
 use Rattle.stuffing.specs.Stuffing.{stuffAfter, wellAfter, unstuffAfter}
 use Rattle.stuffing.specs.Answers.{removalRefusal}
+use Rattle.reading.specs.Calls.{first, fed, call}
 use Rattle.reading.proofs.Decided.{well}
 use Rattle.packet_front.specs.Front.{lengthOf}
 use Rattle.packet_front.specs.Begun.{frontAgrees, lengthAgrees}
@@ -35,7 +36,8 @@ use Rattle.reactions.specs.declared.Heard.the-variants.{Packet}
 use Rattle.device.specs.Device.{executed}
 use Rattle.device.specs.Answers.{DeviceAnswer, sent, refused, stateRefusal, roomRefusal, callRefusal}
 use Rattle.exchange.specs.Exchange.{idHeard}
-use Rattle.device_calls.specs.Calls.{State, DeviceCall, fresh, measurement, device, exchange, carry, carryPacket, lend, stateOf, afterAll, refusalIn}
+use Rattle.board.specs.Board.{lentRefusal, outcome}
+use Rattle.device_calls.specs.Calls.{State, DeviceCall, fresh, measurement, device, exchange, carry, carryPacket, onBoard, lend, stateOf, afterAll, refusalIn}
 use Rattle.cases.specs.Exchanges.{goalAt512, registeredTable, goalTooLarge, goalRegistered, pingWrongSum}
 use Rattle.cases.specs.Cases.{writeGoal}
 use Rattle.device_applications.specs.Devices.{room, short, bodyRoom, behindFresh, eachKind, longest, start, ended, tooMany, StaysAcceptedApplied, restored, GoalWithinLimitsApplied, writeTooLarge, otherLimits, alerted, DevicePromisesApplied, SplitApplied, sevenBytes, sixBytes, ExchangePromisesApplied}
@@ -48,6 +50,7 @@ lentFits (device heard id body out) = true
 lentFits (exchange packet body out) = true
 lentFits (carry heard id body) = true
 lentFits (carryPacket packet body) = true
+lentFits (onBoard reader c) = true
 lentFits (lend w) = leb (w .count) 8
 
 abbrev allFit : List DeviceCall → Bool
@@ -61,7 +64,7 @@ all-lent (c ∷ cs) e w m =
     (List·Memᴰ·cases-cons m)
 
 ends : afterAll start eachKind ≡ ended
-unfolding reduceIf shift shifts crcByte crcFrom stuffAfter wellAfter unstuffAfter lengthOf bodyOf checksumRight withChecksum packetOf frontAgrees lengthAgrees registers permitsBy numberAt valueAt bytesOf put freshened everyByte everyTouched goalInside limitsKept writeRule readRule read write sameLimits regWrite action heardInstruction executed stateRefusal roomRefusal callRefusal removalRefusal idHeard shapeVerdict
+unfolding reduceIf shift shifts crcByte crcFrom stuffAfter wellAfter unstuffAfter lengthOf bodyOf checksumRight withChecksum packetOf frontAgrees lengthAgrees registers permitsBy numberAt valueAt bytesOf put freshened everyByte everyTouched goalInside limitsKept writeRule readRule read write sameLimits regWrite action heardInstruction executed stateRefusal roomRefusal callRefusal removalRefusal idHeard shapeVerdict outcome lentRefusal first fed call
 ends = refl
 
 accepted-start : refusalIn start ≡ none

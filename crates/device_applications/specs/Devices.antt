@@ -6,9 +6,11 @@ use mathlib.Core.Option.{none, some}
 use Prim.Native.Nat.{ℕ, _≤_}
 use lib.IntN.{pos}
 use lib.ListN.{take, replicate, getD}
+use Rattle.reading.specs.Calls.{feed}
 use Rattle.packet_front.specs.Front.{idOf}
 use Rattle.packet.specs.Packet.{WellFormed}
-use Rattle.registers.specs.Registers.{deviceId, maxPosition, minPosition, lamp, registeredInstruction, hardwareError, goalVelocity, goalPosition}
+use Rattle.reader.specs.Records.{lent}
+use Rattle.registers.specs.Registers.{deviceId, maxPosition, minPosition, lamp, statusReturnLevel, registeredInstruction, hardwareError, goalVelocity, goalPosition}
 use Rattle.items.specs.Items.{put, valueOf}
 use Rattle.table_rules.specs.Rules.{goalInside}
 use Rattle.control_table.specs.Fresh.{freshTable, measured}
@@ -21,7 +23,7 @@ use Rattle.device.specs.Demand1.{errorNumber}
 use Rattle.device.specs.Promises.{DevicePromises}
 use Rattle.device.specs.Split.{Split, answerOfBoth, outOfBoth}
 use Rattle.exchange.specs.Exchange.{heardOf, packetRefusal, packetAnswer, packetReply, packetTable, packetRegistered, packetBody, exchangeRefusal, exchangeAnswer, exchangeTable, exchangeRegistered, exchangeBody, exchangeOut}
-use Rattle.device_calls.specs.Calls.{State, DeviceCall, fresh, measurement, device, exchange, carry, carryPacket, lend, stateOf, afterAll, refusalIn}
+use Rattle.device_calls.specs.Calls.{State, DeviceCall, fresh, measurement, device, exchange, carry, carryPacket, onBoard, lend, stateOf, afterAll, refusalIn}
 use Rattle.device_calls.specs.Stays.{StaysAccepted}
 use Rattle.device_calls.specs.GoalWithinLimits.{GoalWithinLimits}
 use Rattle.exchange.specs.Promises.{ExchangePromises}
@@ -40,6 +42,10 @@ bodyRoom = replicate 16 0xAA
 
 -- ---- lists of calls
 
+-- Write of 1 to the status return level
+abbrev pub writeLevel : List ℕ
+writeLevel = 0xFF ∷ 0xFF ∷ 0xFD ∷ 0x00 ∷ 0x01 ∷ 0x06 ∷ 0x00 ∷ 0x03 ∷ 0x44 ∷ 0x00 ∷ 0x01 ∷ 0x88 ∷ 0xE6 ∷ []
+
 -- one call of each kind, each of which changes something
 abbrev pub behindFresh : List DeviceCall
 behindFresh =
@@ -48,6 +54,7 @@ behindFresh =
     ∷ exchange registerGoal bodyRoom room
     ∷ carry Packet 1 (0x03 ∷ 104 ∷ 0 ∷ 10 ∷ 0 ∷ 0 ∷ 0 ∷ [])
     ∷ carryPacket writeGoal bodyRoom
+    ∷ onBoard (lent [] 0) (feed writeLevel)
     ∷ lend goalTooLarge
     ∷ []
 
@@ -61,10 +68,11 @@ longest = record { address = 48; count = 8; bytes = replicate 8 0; min = pos 0; 
 abbrev pub start : State
 start = stateOf (put freshTable goalVelocity 5) longest
 
--- lamp on, goal velocity 10, goal position 512
+-- lamp on, goal velocity 10, goal position 512, status return level 1
 abbrev pub ended : State
 ended =
-    stateOf (put (put (put (put (measured freshTable (pos 166) 0) lamp 1) registeredInstruction 1) goalVelocity 10) goalPosition 512)
+    stateOf
+    (put (put (put (put (put (measured freshTable (pos 166) 0) lamp 1) registeredInstruction 1) goalVelocity 10) goalPosition 512) statusReturnLevel 1)
     goalTooLarge
 
 -- a registered write that says 9 bytes

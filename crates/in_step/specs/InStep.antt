@@ -30,7 +30,7 @@ pub record Shown : Type 0 where
 abbrev pub spoken : Reply → List Reply
 spoken r = cond (eqb (r .speaks) 0) [] (r ∷ [])
 
--- events are carried out, one after the other
+-- events are carried out, one after the other [B9]
 unfoldable pub hearing : List ℕ → RegisteredWrite → List Event → Shown
 hearing table w [] = record { table = table; registered = w; replies = [] }
 hearing table w (e ∷ es) =
@@ -82,15 +82,17 @@ pub record SameState (a b : Shown) : Type 0 where
 -- Of these events, which begin in the noise, are the packets, or begin after them, the board has carried out each, once and in order;
 -- what it shows is what comes of that.
 pub record CaughtUp (b : Board) (cs : List Call) (events : List Found) (noise : List ℕ) (packets : List (List ℕ)) : Type 0 where
-  -- sooner ones, the packets, later ones
+  -- sooner ones, the packets, later ones [B10]
   pub out : AllOut events (length noise) packets
   pub carried-out : shownAfter b cs
       ≡ hearing (b .table) (b .registered) (map what (out .sooner) ++ (map packet packets ++ map what (out .later)))
   -- where none in the noise is for this device, and none after the packets, it is as if only the packets had been heard
+  -- [B10]
   pub only-packets : NoneFor (ownId (b .table)) (out .sooner)
       → NoneFor (ownId (hearing (b .table) (b .registered) (map packet packets) .table)) (out .later)
       → shownAfter b cs ≡ hearing (b .table) (b .registered) (map packet packets)
   -- a bad checksum is answered and changes nothing: for the state it is enough that no packet there is for this device
+  -- [B11]
   pub same-state : NoPacketFor (ownId (b .table)) (out .sooner)
       → NoPacketFor (ownId (hearing (b .table) (b .registered) (map packet packets) .table)) (out .later)
       → SameState (shownAfter b cs) (hearing (b .table) (b .registered) (map packet packets))
@@ -113,7 +115,7 @@ Clean b = drop (b .reader .count) (b .reader .bytes) ≡ replicate (1030 - b .re
 
 -- For every board that is not refused, and every list of feeding and gap calls on it from a fresh start or a finished gap, whatever was
 -- fed and however it was cut: let the bytes that they take, by the packet rules, be any noise, then well-formed packets, then any bytes,
--- and let nothing well-formed reach from the noise beyond it.
+-- and let nothing well-formed reach from the noise beyond it. [B9-B11]
 pub record InStep : Type 0 where
   pub in-step : (b : Board) → boards .Fresh b → (earlier : List Call) → AtStart (model protocol2) [] earlier
       → (chunks : List (List ℕ)) (g : ℕ) (noise : List ℕ) (packets : List (List ℕ)) (rest : List ℕ)
@@ -124,7 +126,7 @@ pub record InStep : Type 0 where
   -- demand 3 of a board, word for word as of a reader: nothing comes out among the packets, or of a packet still arriving
   pub demand-3 : Demand3 protocol2 boards
   -- Two boards that were alike are alike again: one has caught up behind a noisy line, with nothing else for it in the noise and after
-  -- the packets; the other took the packets from a clean line, however cut, and finished the gap.
+  -- the packets; the other took the packets from a clean line, however cut, and finished the gap. [B11]
   pub alike : (b clean : Board) → b .table ≡ clean .table → b .registered ≡ clean .registered
       → (cs : List Call) (events : List Found) (noise : List ℕ) (packets : List (List ℕ)) → AllWellFormed protocol2 packets
       → (up : CaughtUp b cs events noise packets) → NoneFor (ownId (b .table)) (up .out .sooner)
@@ -133,6 +135,6 @@ pub record InStep : Type 0 where
       → Finished (model protocol2) [] chunks g → shownAfter b cs ≡ shownAfter clean (since chunks g)
   -- no call is refused, whatever came before
   pub never-refused : (b : Board) → boards .Fresh b → (cs : List Call) → boardRefusal (after boards b cs) ≡ none
-  -- 0 follows the held bytes after any calls if it did before; each call then leaves the reader as the reader's own calls do
+  -- 0 follows the held bytes after any calls if it did before; each call then leaves the reader as the reader's own calls do [B8]
   pub stays-clean : (b : Board) → Clean b → (cs : List Call) → Clean (after boards b cs)
   pub as-a-reader : (b : Board) → Clean b → boardRefusal b ≡ none → (c : Call) → outcome b c .board .reader ≡ leftBy (b .reader) c

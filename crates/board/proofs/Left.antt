@@ -22,6 +22,10 @@ drop-zeros zero n = let z : n ≡ n - 0 = omega arith in ap (λ (m : ℕ). repli
 drop-zeros (suc k) zero = let z : 0 ≡ 0 - suc k = omega arith in ap (λ (m : ℕ). replicate m 0) z
 drop-zeros (suc k) (suc n) = let z : n - k ≡ suc n - suc k = omega arith in drop-zeros k n ∙ ap (λ (m : ℕ). replicate m 0) z
 
+joined-zeros : (a b n : ℕ) → a + b ≡ n → (later : List ℕ) → later ≡ replicate b 0 → replicate a 0 ++ later ≡ replicate n 0
+joined-zeros a b n z later e =
+    ap (λ (s : List ℕ). replicate a 0 ++ s) e ∙ replicate-append-replicate a b 0 ∙ ap (λ (k : ℕ). replicate k 0) z
+
 module _ (r : Reader) (c : Call) where
   abbrev result : CallResult
   result = call protocol2 (heldIn r) c
@@ -55,9 +59,8 @@ module _ (r : Reader) (c : Call) where
           let e : later ≡ replicate (1030 - r .count - result .taken) 0 =
           sym (drop-drop (result .taken) (r .count) (r .bytes)) ∙ ap (λ (s : List ℕ). drop (result .taken) s) clean
           ∙ drop-zeros (result .taken) (1030 - r .count) in
-          append-assoc h (replicate a 0) later
-          ∙ ap (λ (s : List ℕ). h ++ s)
-          (ap (λ (s : List ℕ). replicate a 0 ++ s) e ∙ replicate-append-replicate a (1030 - r .count - result .taken) 0 ∙ ap (λ (k : ℕ). replicate k 0) z)
+          let tail = joined-zeros a (1030 - r .count - result .taken) (1030 - length h) z later e in
+          append-assoc h (replicate a 0) later ∙ ap (λ (s : List ℕ). h ++ s) tail
 
       pub left-clean : drop (readerLeft r c .count) (readerLeft r c .bytes) ≡ replicate (1030 - readerLeft r c .count) 0
       unfolding readerLeft

@@ -1,6 +1,5 @@
 // The functions that C calls. Each passes its arguments on to a crate beneath and makes that crate's promise in numbers and byte
 // slices; include/mednukals.h declares and documents them. A `&[u8]` is a pointer and a length in C.
-use board::BoardStep;
 use instructions::RegisteredWrite;
 use numbers::CarriedNumbers;
 use numbers::DeviceNumbers;
@@ -42,15 +41,10 @@ ghost use Rattle.exchange.specs.Exchange.{packetAnswer, packetReply, packetRegi
 ghost use Rattle.device_calls.specs.Calls.{stateOf, afterCall};
 ghost use Rattle.device_calls.specs.Calls.{fresh as Call·fresh, measurement as Call·measurement, device as Call·device, exchange as Call·exchange};
 ghost use Rattle.device_calls.specs.Calls.{carry as Call·carry, carryPacket as Call·carryPacket};
-ghost use Rattle.device_calls.specs.Calls.{onBoard as Call·onBoard};
 ghost use Rattle.instructions.specs.declared.RegisteredWrite.{RegisteredWrite as Ghost·RegisteredWrite};
 ghost use Rattle.device_calls.specs.Stays.{StaysAccepted};
 ghost use Rattle.device_calls.specs.GoalWithinLimits.{GoalWithinLimits};
 ghost use Rattle.exchange.specs.Promises.{ExchangePromises};
-ghost use Rattle.board.specs.Board.{boardOf, outcome};
-ghost use Rattle.board.specs.Numbers.{boardStep, bufferLeft};
-ghost use Rattle.in_step.specs.InStep.{InStep};
-ghost use Rattle.in_step.specs.Measured.{InStepMeasured};
 ghost use Rattle.plan.specs.Planner.{planAnswer, planOut};
 ghost use Rattle.plan_laws.specs.Planned.{Planned};
 ghost use Rattle.plan_heard.specs.PlanCarriedOut.{PlanCarriedOut};
@@ -382,49 +376,6 @@ pub extern "C" fn dxl_status(reply: Reply, out: &mut [u8]) -> i64
     ensures { λ _. ⌜ Split × ReplyWritten ⌝ }
 {
     numbers::written(status::send(reply, out))
-}
-
-// A feeding call on a board in its parts: bytes of the line are taken up to the next event, and it is carried out. That no board is
-// behind, also where the firmware measures between the calls, and what an accepted plan does to it, is promised too.
-// [B1-B12 G5]
-#[no_mangle]
-pub extern "C" fn dxl_board_feed_parts(
-    held: &mut [u8; 1030],
-    count: &mut usize,
-    chunk: &[u8],
-    packet: &mut [u8; 1031],
-    table: &mut [u8; 136],
-    registered: RegisteredWrite,
-) -> BoardStep
-    ensures { λ r. ⌜ r ≡ boardStep (boardOf (lent (now (held .entry)) (now (count .entry))) (now (table .entry)) registered) (Call·feed (now (chunk .entry))) ⌝ }
-    ensures { λ _. ⌜ (lent (now (held .exit)) (now (count .exit)) ≡ outcome (boardOf (lent (now (held .entry)) (now (count .entry))) (now (table .entry)) registered) (Call·feed (now (chunk .entry))) .board .reader)
-        × (now (table .exit) ≡ outcome (boardOf (lent (now (held .entry)) (now (count .entry))) (now (table .entry)) registered) (Call·feed (now (chunk .entry))) .board .table)
-        × (now (packet .exit) ≡ bufferLeft (boardOf (lent (now (held .entry)) (now (count .entry))) (now (table .entry)) registered) (Call·feed (now (chunk .entry))) (now (packet .entry))) ⌝ }
-    ensures { λ _. ⌜ InStep × InStepMeasured × PlanCarriedOut × StaysAccepted × GoalWithinLimits ⌝ }
-    ensures { λ r. ⌜ stateOf (now (table .exit)) (r .registered)
-        ≡ afterCall (stateOf (now (table .entry)) registered) (Call·onBoard (lent (now (held .entry)) (now (count .entry))) (Call·feed (now (chunk .entry)))) ⌝ }
-{
-    board::feed(held, count, chunk, packet, table, registered)
-}
-
-// A gap call on a board in its parts, likewise. [B1-B12 G5]
-#[no_mangle]
-pub extern "C" fn dxl_board_gap_parts(
-    held: &mut [u8; 1030],
-    count: &mut usize,
-    packet: &mut [u8; 1031],
-    table: &mut [u8; 136],
-    registered: RegisteredWrite,
-) -> BoardStep
-    ensures { λ r. ⌜ r ≡ boardStep (boardOf (lent (now (held .entry)) (now (count .entry))) (now (table .entry)) registered) Call·gap ⌝ }
-    ensures { λ _. ⌜ (lent (now (held .exit)) (now (count .exit)) ≡ outcome (boardOf (lent (now (held .entry)) (now (count .entry))) (now (table .entry)) registered) Call·gap .board .reader)
-        × (now (table .exit) ≡ outcome (boardOf (lent (now (held .entry)) (now (count .entry))) (now (table .entry)) registered) Call·gap .board .table)
-        × (now (packet .exit) ≡ bufferLeft (boardOf (lent (now (held .entry)) (now (count .entry))) (now (table .entry)) registered) Call·gap (now (packet .entry))) ⌝ }
-    ensures { λ _. ⌜ InStep × InStepMeasured × PlanCarriedOut × StaysAccepted × GoalWithinLimits ⌝ }
-    ensures { λ r. ⌜ stateOf (now (table .exit)) (r .registered)
-        ≡ afterCall (stateOf (now (table .entry)) registered) (Call·onBoard (lent (now (held .entry)) (now (count .entry))) Call·gap) ⌝ }
-{
-    board::gap(held, count, packet, table, registered)
 }
 
 // The planner: the plan's byte count, or minus a refusal number. That its plans are accepted, that no accepted plan has fewer

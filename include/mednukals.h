@@ -37,44 +37,7 @@
 extern "C" {
 #endif
 
-/*
- * Returns the checksum of n bytes, going on from an earlier one: polynomial x^16 + x^15 + x^2 + 1 (0x8005), highest bit first, no
- * final inversion.
- *
- * start   0 for the first bytes of a packet; otherwise the checksum of the bytes before
- *
- * Bytes may come in any number of parts, which may lie apart: dxl_crc16(dxl_crc16(s, a, n), b, m) is the checksum from s of a
- * followed by b, for every s, even if either is empty. With n == 0 the result is start. examples/parts.c sends a packet so.
- *
- * Checksums add: for byte strings of equal length, the checksum of their exclusive or, from the exclusive or of the starts, is
- * the exclusive or of their checksums.
- *
- * A packet's checksum starts from 0 and covers everything before it in the stuffed form, the header FF FF FD 00 included. It goes
- * on the line low byte first.
- *
- * Never refused; writes no memory.
- */
-uint16_t dxl_crc16(uint16_t start, const uint8_t *bytes, size_t n);
-
-/*
- * Returns the checksum of bytes in which chosen bits were flipped, without a new pass over them.
- *
- * crc        their checksum before, from any start
- * flips, n   a 1 for each flipped bit, in n bytes that lie over n of those bytes
- * after      how many bytes follow these n up to the end of what the checksum covers; any number
- *
- * If crc is the checksum from some start of a, b and c joined, where b has n bytes and c has `after`, the result is the checksum
- * from that start of a, b with its bits flipped, and c joined.
- *
- * The time grows with n and with the number of binary digits of `after`, not with the bytes before and behind the flips.
- *
- *     // bit 4 of the ID, byte 4 of a packet of which the checksum covers `covered` bytes
- *     const uint8_t flips[] = {0x10};
- *     crc = dxl_crc16_flipped(crc, flips, 1, covered - 5);
- *
- * Never refused; writes no memory.
- */
-uint16_t dxl_crc16_flipped(uint16_t crc, const uint8_t *flips, size_t n, size_t after);
+/* ---- numbers ---- */
 
 /* Refusals: a call returns minus the number; for 25, see struct dxl_step. */
 enum {
@@ -194,64 +157,6 @@ enum {
     DXL_ERROR_ALERT = 0x80
 };
 
-/*
- * Writes one packet into out, from offset at on: FF FF FD 00, the ID, the length (low byte first), the body and the checksum (low
- * byte first). The body is the instruction byte followed by params, stuffed: one FD is added after each FF FF FD in it, also one
- * that begins with the instruction. Length and checksum are those of the stuffed form.
- *
- * id            0 to 252, or 254 for all devices
- * instruction   any byte; 0x55 for a status packet, whose first parameter is the error byte
- * params        the parameters, not stuffed; any number of them
- * out, n_out    the output buffer
- * at            where in out the packet begins; any number, also past the end of out
- *
- * Returns the packet's byte count, 10 to 1,031, or
- *   -11  id is 253 or 255
- *   -12  the length would pass 1,024: the stuffed body has more than 1,022 bytes
- *   -13  out has fewer bytes from at on than the packet, or at lies past its end
- *
- * The bytes of out before at and after the packet stay as they were; if the call is refused, all of out does.
- */
-int64_t dxl_encode(uint8_t id, uint8_t instruction, const uint8_t *params, size_t n_params, uint8_t *out, size_t n_out,
-                   size_t at);
-
-/*
- * The old boards: packets of Protocol 1.0 and Mercury. FF FF, the ID, the length, the body and the checksum; the body is the
- * instruction, or the error byte of a status, followed by params, and is not stuffed. The length counts body and checksum. The
- * checksum is the low byte of the sum of all bytes from the ID up to it, with every bit inverted.
- *
- * id            dxl_p1_encode: 0 to 253, or 254 for all devices; dxl_mercury_encode: 0 to 252, or 254
- * instruction   any byte; of a status packet the error byte
- * params        the parameters; any number of them
- * out, n_out    the output buffer
- * at            where in out the packet begins; any number, also past the end of out
- *
- * Returns the packet's byte count, 6 to 259, or
- *   -11  id is 255, or in Mercury 253
- *   -12  the length would pass 255: there are more than 253 parameters
- *   -13  out has fewer bytes from at on than the packet, or at lies past its end
- *
- * The bytes of out before at and after the packet stay as they were; if the call is refused, all of out does.
- */
-int64_t dxl_p1_encode(uint8_t id, uint8_t instruction, const uint8_t *params, size_t n_params, uint8_t *out, size_t n_out,
-                      size_t at);
-int64_t dxl_mercury_encode(uint8_t id, uint8_t instruction, const uint8_t *params, size_t n_params, uint8_t *out, size_t n_out,
-                           size_t at);
-
-/*
- * Removes the stuffing of a body: writes it to the start of out without the FD after each FF FF FD.
- *
- * body, n_body   a packet's bytes from byte 7 (the instruction) up to its checksum; any bytes, any number of them
- * out, n_out     the output buffer; n_body bytes are always enough
- *
- * Returns the unstuffed byte count, or
- *   -14  body is not well stuffed: some FF FF FD in it is not followed by FD within the body
- *   -13  the unstuffed body has more than n_out bytes
- *
- * The bytes of out after the unstuffed body stay as they were; if the call is refused, all of out does.
- */
-int64_t dxl_unstuff(const uint8_t *body, size_t n_body, uint8_t *out, size_t n_out);
-
 /* Kinds of events, from a reader's call, from dxl_next_event, and for dxl_device and dxl_carry_out. A reader's call can also give
  * DXL_BAD_READER. */
 enum {
@@ -259,6 +164,130 @@ enum {
     DXL_PACKET = 1,      /* a well-formed packet */
     DXL_BAD_CHECKSUM = 2 /* right header, ID and length, all bytes there, and a wrong checksum */
 };
+
+/* ---- a device on a line ---- */
+
+/* A write that waits for Action. Begin with all 0, and pass each call of the device what the last one returned.
+ * min and max are new since the first header: firmware that was compiled with that one must be compiled again. */
+struct dxl_registered {
+    uint16_t address;
+    uint8_t count; /* how many of bytes are to be written, at most 8; 0 if no write waits */
+    uint8_t bytes[8];
+    int32_t min; /* min and max position as they stood in the table when the write was registered; any numbers are accepted */
+    int32_t max;
+};
+
+/* A reply. The first calls return silence as all 0; to dxl_status any record may be passed. */
+struct dxl_reply {
+    uint8_t speaks;   /* 0: silence; any other mark: a status */
+    uint8_t id;       /* the device's ID, from before the instruction */
+    uint8_t error;    /* the error byte, its alert as the hardware error was after the instruction */
+    uint8_t count;    /* how many of bytes are sent, at most 8 */
+    uint8_t bytes[8]; /* the data; 0 past the count. dxl_status ignores what is past it */
+    size_t slot;      /* when to send it, as in struct dxl_answer */
+};
+
+/*
+ * A board: all that a device keeps, in one record. dxl_board_start makes it ready. The calls below take bytes of the line and carry
+ * out at once what they find, so that the table is never behind what was heard. Between the calls the table is there to be read,
+ * and dxl_measure writes to it.
+ */
+struct dxl_board {
+    uint8_t held[DXL_MAX_HELD];
+    uint8_t packet[DXL_MAX_PACKET];
+    uint8_t table[DXL_TABLE_BYTES];
+    size_t count;
+    struct dxl_registered registered;
+};
+
+/* What a call on a board found and did. If kind is a refusal, registered is as given and every other field is 0. */
+struct dxl_board_step {
+    size_t taken;                     /* bytes of the chunk that it took; of a gap call, 0 */
+    size_t count;                     /* the packet's bytes; 0 beside any other kind */
+    uint8_t kind;                     /* DXL_NO_EVENT, DXL_PACKET, DXL_BAD_CHECKSUM; or a refusal: 25, 22, 23, in this order */
+    uint8_t id;                       /* of the packet or the bad checksum */
+    uint8_t instruction;              /* of a packet for this device or for all; otherwise 0 */
+    uint8_t error;                    /* the instruction's error, also where no status is sent; 3 for a bad checksum with the own
+                                         ID; otherwise 0 */
+    struct dxl_reply reply;           /* for dxl_status, in its slot */
+    struct dxl_registered registered; /* the registered write from now on; dxl_board_feed and dxl_board_gap store it */
+};
+
+/*
+ * Fills a control table as it comes from the factory: every register has its fresh value, undefined bytes are 0.
+ *
+ * The registered write is the caller's. Where the table has been in use, make that all 0 too: Action would carry it out on the
+ * fresh table. A board with a model number or a firmware version of its own stores it after this call, in bytes 0 and 1 or in
+ * byte 6: no other call changes these bytes, and Ping and Read answer them.
+ *
+ * Returns 0, or -21 if n is not 136; then the table stays as it was.
+ */
+int64_t dxl_fresh(uint8_t *table, size_t n);
+
+/*
+ * Stores what was measured: the present position (132 to 135, any signed value, lowest byte first) and the hardware error (70).
+ * No other byte of the table changes, and whatever it holds is accepted.
+ *
+ * Returns 0, or -21 if n is not 136; then the table stays as it was.
+ */
+int64_t dxl_measure(uint8_t *table, size_t n, int32_t position, uint8_t hardware_error);
+
+/*
+ * Feeds a board: takes bytes of the chunk up to the next event, or all of it, and carries the event out. Feed what is left of the
+ * chunk again until a call gives DXL_NO_EVENT, even if nothing is left.
+ *
+ * After a packet, the buffer begins with its step.count bytes, with its body, from packet[7] on, free of stuffing.
+ *
+ * Refusals, as step.kind: 25, 22, 23. A refused call takes no byte and changes nothing. No bytes on the line lead to one: it means
+ * that the record was overwritten.
+ *
+ * dxl_board_feed and dxl_board_gap below pass the parts of a record and store the registered write.
+ */
+struct dxl_board_step dxl_board_feed_parts(uint8_t held[DXL_MAX_HELD], size_t *count, const uint8_t *chunk, size_t n,
+                                           uint8_t packet[DXL_MAX_PACKET], uint8_t table[DXL_TABLE_BYTES],
+                                           struct dxl_registered registered);
+
+/* The same when the line was silent for longer than 1.5 ms. Call it until it gives DXL_NO_EVENT: then nothing is held. */
+struct dxl_board_step dxl_board_gap_parts(uint8_t held[DXL_MAX_HELD], size_t *count, uint8_t packet[DXL_MAX_PACKET],
+                                          uint8_t table[DXL_TABLE_BYTES], struct dxl_registered registered);
+
+/* Makes a board ready: no bytes held, nothing registered, a fresh table. */
+static inline void dxl_board_start(struct dxl_board *board)
+{
+    uint8_t *bytes = (uint8_t *)board;
+    for (size_t i = 0; i < sizeof *board; i++)
+        bytes[i] = 0;
+    (void)dxl_fresh(board->table, sizeof board->table); /* it refuses only another size */
+}
+
+static inline struct dxl_board_step dxl_board_feed(struct dxl_board *board, const uint8_t *chunk, size_t n)
+{
+    struct dxl_board_step step =
+        dxl_board_feed_parts(board->held, &board->count, chunk, n, board->packet, board->table, board->registered);
+    board->registered = step.registered;
+    return step;
+}
+
+static inline struct dxl_board_step dxl_board_gap(struct dxl_board *board)
+{
+    struct dxl_board_step step = dxl_board_gap_parts(board->held, &board->count, board->packet, board->table, board->registered);
+    board->registered = step.registered;
+    return step;
+}
+
+/*
+ * Writes the status packet of a reply to the start of out; for silence nothing.
+ *
+ * Returns its byte count, 11 to 21 for the reply of a first call and at most 22 for any other, 0 for silence, or, even for silence,
+ *   -11  the reply's ID is above 252
+ *   -12  its count is above 8
+ *   -24  n_out is below 32
+ *
+ * The bytes after the status stay as they were; for silence and for a refusal all of out does.
+ */
+int64_t dxl_status(struct dxl_reply reply, uint8_t *out, size_t n_out);
+
+/* ---- a device in single calls ---- */
 
 /* What a reader's call returns. */
 struct dxl_step {
@@ -389,22 +418,172 @@ struct dxl_step dxl_reader_gap(struct dxl_reader *reader, uint8_t packet[1031]);
 struct dxl_step dxl_feed(uint8_t held[1030], size_t *count, const uint8_t *chunk, size_t n, uint8_t packet[1031]);
 struct dxl_step dxl_gap(uint8_t held[1030], size_t *count, uint8_t packet[1031]);
 
+/* What a call of the device returns. */
+struct dxl_answer {
+    int64_t count; /* the status packet's bytes, 0 for silence, or minus the number of a refusal */
+    size_t slot;   /* when to send it: 0 at once; for a Ping to all devices the own ID; for a Sync Read or Bulk Read the
+                      index of its entry in the list, from 0. 0 for silence and for a refusal */
+    struct dxl_registered registered; /* the registered write from now on; if the call is refused, as it was passed */
+};
+
 /*
- * The readers of the old boards, on held bytes and their count, as dxl_feed and dxl_gap and with all that is said above: packets of
- * Protocol 1.0 or Mercury, as dxl_p1_encode and dxl_mercury_encode write them, with 259 in the place of 1,031 and 258 in that of
- * 1,030. A packet has 6 to 259 bytes; its body stands from byte 4 up to the checksum, which is the packet's last byte, and is not
- * stuffed. What is said of changed bytes is not promised here: a sum does not show every change of two neighbours.
+ * Carries out what was heard on the line, and writes the status packet that replies to it.
  *
- * FF is no ID, so that of several FF only the last two may begin a packet. A line keeps to one protocol; a program that does not
- * know which may read it with two readers.
+ * table, n_table   the control table, filled by dxl_fresh; any other contents are accepted, except those that 22 refuses
+ * registered       the registered write
+ * kind             DXL_PACKET: a packet; DXL_BAD_CHECKSUM: a packet with a wrong checksum; any other kind: nothing was heard, and
+ *                  the device is silent
+ * id               the packet's ID; what is sent neither to the table's ID nor to 254 leaves everything as it was, in silence
+ * body, n_body     DXL_PACKET: the unstuffed body, instruction and parameters, of any number of bytes; otherwise it is ignored
+ * reply, n_reply   the buffer for the status packet
  *
- * Refused with kind DXL_BAD_READER if *count is above 258, also where dxl_feed would accept it. examples/old_boards.c has the loops
- * around these calls.
+ * Returns the status packet's byte count, 11 to 21, with its slot, 0 for silence, or
+ *   -21  n_table is not 136
+ *   -22  the table's ID (byte 7) is above 252
+ *   -23  the registered write's count is above 8
+ *   -24  n_reply is below 32, even if the device would be silent
+ *
+ * The instruction changes the table. One that is refused with an error in the status leaves it as it was, except that Action
+ * drops the registered write that it found and sets byte 69 to 0. The status packet starts at byte 0 of reply, and the bytes
+ * after it stay as they were; for silence all of reply stays.
+ *
+ * Action carries a registered write out only if the min and max position in the table are those at which it was registered. Else
+ * it is dropped with DXL_ERROR_DATA_LIMIT, whatever it would write: a master that moves the limits registers anew.
+ *
+ * On a table that dxl_fresh has filled and only calls of this library have changed, the goal position is never below the min
+ * position nor above the max position, whatever was heard. A write of the limits that would leave it outside is refused with
+ * DXL_ERROR_DATA_LIMIT: after dxl_fresh, Reboot and Factory Reset the goal position is the min position, so that the min position
+ * can be raised only once the goal position has moved.
  */
-struct dxl_step dxl_p1_feed(uint8_t held[258], size_t *count, const uint8_t *chunk, size_t n, uint8_t packet[259]);
-struct dxl_step dxl_p1_gap(uint8_t held[258], size_t *count, uint8_t packet[259]);
-struct dxl_step dxl_mercury_feed(uint8_t held[258], size_t *count, const uint8_t *chunk, size_t n, uint8_t packet[259]);
-struct dxl_step dxl_mercury_gap(uint8_t held[258], size_t *count, uint8_t packet[259]);
+struct dxl_answer dxl_device(uint8_t *table, size_t n_table, struct dxl_registered registered, uint8_t kind, uint8_t id,
+                             const uint8_t *body, size_t n_body, uint8_t *reply, size_t n_reply);
+
+/*
+ * dxl_unstuff and dxl_device in one call: the device hears a packet as it was received.
+ *
+ * table, n_table, registered, reply, n_reply   as for dxl_device
+ * packet, n_packet   the packet's bytes from its header to its checksum, as the reader's calls write them; n_packet is their
+ *                    count. Bytes that are not exactly one well-formed packet change no table and get no reply. A bad checksum
+ *                    has no bytes to pass on: dxl_device takes it by its kind
+ * body, n_body       a buffer for the unstuffed body; DXL_MAX_BODY bytes are enough for every packet of the reader
+ *
+ * Returns what dxl_device returns for DXL_PACKET, the packet's ID and the unstuffed body, or
+ *   -14  the body, everything from byte 7 up to the last two bytes, is not well stuffed; never for a packet of the reader
+ *   -13  the unstuffed body has more than n_body bytes
+ *   -21 to -24, as dxl_device
+ *
+ * The unstuffed body is written from byte 0 of body on, even if the packet is for another device or gets no reply, and the bytes
+ * after it stay as they were; if the call is refused, all of body does. table, reply and the registered write become what
+ * dxl_device makes of them.
+ */
+struct dxl_answer dxl_exchange(uint8_t *table, size_t n_table, struct dxl_registered registered, const uint8_t *packet,
+                               size_t n_packet, uint8_t *body, size_t n_body, uint8_t *reply, size_t n_reply);
+
+/*
+ * The device call in two, for a status that has to wait for its slot: dxl_carry_out or dxl_carry_out_packet carries out what was
+ * heard and returns a small record of the reply, and dxl_status makes the packet of it when the slot has come. One straight after
+ * the other does what dxl_device or dxl_exchange does, for every input where that does not give 24. Where it does, the instruction
+ * has been carried out when dxl_status refuses the buffer: lend it one of DXL_MIN_REPLY bytes.
+ */
+
+/* What a first call returns. */
+struct dxl_carried {
+    int64_t refusal;                  /* 0, or minus the number of a refusal */
+    struct dxl_reply reply;           /* if the call is refused: silence */
+    struct dxl_registered registered; /* the registered write from now on; if the call is refused, as it was passed */
+};
+
+/*
+ * Carries out what was heard on the line. table, n_table, registered, kind, id, body and n_body are as for dxl_device, and so are
+ * -21, -22 and -23; a refused call leaves the table as it was.
+ */
+struct dxl_carried dxl_carry_out(uint8_t *table, size_t n_table, struct dxl_registered registered, uint8_t kind, uint8_t id,
+                                 const uint8_t *body, size_t n_body);
+
+/*
+ * Carries out a packet as it was received. The arguments are as for dxl_exchange, and so are -14, -13 and then -21 to -23; a
+ * refused call leaves the table and body as they were.
+ */
+struct dxl_carried dxl_carry_out_packet(uint8_t *table, size_t n_table, struct dxl_registered registered, const uint8_t *packet,
+                                        size_t n_packet, uint8_t *body, size_t n_body);
+
+/* ---- packets and checksums ---- */
+
+/*
+ * Returns the checksum of n bytes, going on from an earlier one: polynomial x^16 + x^15 + x^2 + 1 (0x8005), highest bit first, no
+ * final inversion.
+ *
+ * start   0 for the first bytes of a packet; otherwise the checksum of the bytes before
+ *
+ * Bytes may come in any number of parts, which may lie apart: dxl_crc16(dxl_crc16(s, a, n), b, m) is the checksum from s of a
+ * followed by b, for every s, even if either is empty. With n == 0 the result is start. examples/parts.c sends a packet so.
+ *
+ * Checksums add: for byte strings of equal length, the checksum of their exclusive or, from the exclusive or of the starts, is
+ * the exclusive or of their checksums.
+ *
+ * A packet's checksum starts from 0 and covers everything before it in the stuffed form, the header FF FF FD 00 included. It goes
+ * on the line low byte first.
+ *
+ * Never refused; writes no memory.
+ */
+uint16_t dxl_crc16(uint16_t start, const uint8_t *bytes, size_t n);
+
+/*
+ * Returns the checksum of bytes in which chosen bits were flipped, without a new pass over them.
+ *
+ * crc        their checksum before, from any start
+ * flips, n   a 1 for each flipped bit, in n bytes that lie over n of those bytes
+ * after      how many bytes follow these n up to the end of what the checksum covers; any number
+ *
+ * If crc is the checksum from some start of a, b and c joined, where b has n bytes and c has `after`, the result is the checksum
+ * from that start of a, b with its bits flipped, and c joined.
+ *
+ * The time grows with n and with the number of binary digits of `after`, not with the bytes before and behind the flips.
+ *
+ *     // bit 4 of the ID, byte 4 of a packet of which the checksum covers `covered` bytes
+ *     const uint8_t flips[] = {0x10};
+ *     crc = dxl_crc16_flipped(crc, flips, 1, covered - 5);
+ *
+ * Never refused; writes no memory.
+ */
+uint16_t dxl_crc16_flipped(uint16_t crc, const uint8_t *flips, size_t n, size_t after);
+
+/*
+ * Writes one packet into out, from offset at on: FF FF FD 00, the ID, the length (low byte first), the body and the checksum (low
+ * byte first). The body is the instruction byte followed by params, stuffed: one FD is added after each FF FF FD in it, also one
+ * that begins with the instruction. Length and checksum are those of the stuffed form.
+ *
+ * id            0 to 252, or 254 for all devices
+ * instruction   any byte; 0x55 for a status packet, whose first parameter is the error byte
+ * params        the parameters, not stuffed; any number of them
+ * out, n_out    the output buffer
+ * at            where in out the packet begins; any number, also past the end of out
+ *
+ * Returns the packet's byte count, 10 to 1,031, or
+ *   -11  id is 253 or 255
+ *   -12  the length would pass 1,024: the stuffed body has more than 1,022 bytes
+ *   -13  out has fewer bytes from at on than the packet, or at lies past its end
+ *
+ * The bytes of out before at and after the packet stay as they were; if the call is refused, all of out does.
+ */
+int64_t dxl_encode(uint8_t id, uint8_t instruction, const uint8_t *params, size_t n_params, uint8_t *out, size_t n_out,
+                   size_t at);
+
+/*
+ * Removes the stuffing of a body: writes it to the start of out without the FD after each FF FF FD.
+ *
+ * body, n_body   a packet's bytes from byte 7 (the instruction) up to its checksum; any bytes, any number of them
+ * out, n_out     the output buffer; n_body bytes are always enough
+ *
+ * Returns the unstuffed byte count, or
+ *   -14  body is not well stuffed: some FF FF FD in it is not followed by FD within the body
+ *   -13  the unstuffed body has more than n_out bytes
+ *
+ * The bytes of out after the unstuffed body stay as they were; if the call is refused, all of out does.
+ */
+int64_t dxl_unstuff(const uint8_t *body, size_t n_body, uint8_t *out, size_t n_out);
+
+/* ---- captures and logs ---- */
 
 /* The answer of dxl_next_event. Where there is no event, all of it is 0. */
 struct dxl_event {
@@ -546,214 +725,7 @@ enum {
  */
 struct dxl_salvaged dxl_log_salvage(const uint8_t *log, size_t n, uint8_t *out, size_t n_out, uint32_t *report, size_t n_report);
 
-/*
- * Fills a control table as it comes from the factory: every register has its fresh value, undefined bytes are 0.
- *
- * The registered write is the caller's. Where the table has been in use, make that all 0 too: Action would carry it out on the
- * fresh table. A board with a model number or a firmware version of its own stores it after this call, in bytes 0 and 1 or in
- * byte 6: no other call changes these bytes, and Ping and Read answer them.
- *
- * Returns 0, or -21 if n is not 136; then the table stays as it was.
- */
-int64_t dxl_fresh(uint8_t *table, size_t n);
-
-/*
- * Stores what was measured: the present position (132 to 135, any signed value, lowest byte first) and the hardware error (70).
- * No other byte of the table changes, and whatever it holds is accepted.
- *
- * Returns 0, or -21 if n is not 136; then the table stays as it was.
- */
-int64_t dxl_measure(uint8_t *table, size_t n, int32_t position, uint8_t hardware_error);
-
-/* A write that waits for Action. Begin with all 0, and pass each call of the device what the last one returned.
- * min and max are new since the first header: firmware that was compiled with that one must be compiled again. */
-struct dxl_registered {
-    uint16_t address;
-    uint8_t count; /* how many of bytes are to be written, at most 8; 0 if no write waits */
-    uint8_t bytes[8];
-    int32_t min; /* min and max position as they stood in the table when the write was registered; any numbers are accepted */
-    int32_t max;
-};
-
-/* What a call of the device returns. */
-struct dxl_answer {
-    int64_t count; /* the status packet's bytes, 0 for silence, or minus the number of a refusal */
-    size_t slot;   /* when to send it: 0 at once; for a Ping to all devices the own ID; for a Sync Read or Bulk Read the
-                      index of its entry in the list, from 0. 0 for silence and for a refusal */
-    struct dxl_registered registered; /* the registered write from now on; if the call is refused, as it was passed */
-};
-
-/*
- * Carries out what was heard on the line, and writes the status packet that replies to it.
- *
- * table, n_table   the control table, filled by dxl_fresh; any other contents are accepted, except those that 22 refuses
- * registered       the registered write
- * kind             DXL_PACKET: a packet; DXL_BAD_CHECKSUM: a packet with a wrong checksum; any other kind: nothing was heard, and
- *                  the device is silent
- * id               the packet's ID; what is sent neither to the table's ID nor to 254 leaves everything as it was, in silence
- * body, n_body     DXL_PACKET: the unstuffed body, instruction and parameters, of any number of bytes; otherwise it is ignored
- * reply, n_reply   the buffer for the status packet
- *
- * Returns the status packet's byte count, 11 to 21, with its slot, 0 for silence, or
- *   -21  n_table is not 136
- *   -22  the table's ID (byte 7) is above 252
- *   -23  the registered write's count is above 8
- *   -24  n_reply is below 32, even if the device would be silent
- *
- * The instruction changes the table. One that is refused with an error in the status leaves it as it was, except that Action
- * drops the registered write that it found and sets byte 69 to 0. The status packet starts at byte 0 of reply, and the bytes
- * after it stay as they were; for silence all of reply stays.
- *
- * Action carries a registered write out only if the min and max position in the table are those at which it was registered. Else
- * it is dropped with DXL_ERROR_DATA_LIMIT, whatever it would write: a master that moves the limits registers anew.
- *
- * On a table that dxl_fresh has filled and only calls of this library have changed, the goal position is never below the min
- * position nor above the max position, whatever was heard. A write of the limits that would leave it outside is refused with
- * DXL_ERROR_DATA_LIMIT: after dxl_fresh, Reboot and Factory Reset the goal position is the min position, so that the min position
- * can be raised only once the goal position has moved.
- */
-struct dxl_answer dxl_device(uint8_t *table, size_t n_table, struct dxl_registered registered, uint8_t kind, uint8_t id,
-                             const uint8_t *body, size_t n_body, uint8_t *reply, size_t n_reply);
-
-/*
- * dxl_unstuff and dxl_device in one call: the device hears a packet as it was received.
- *
- * table, n_table, registered, reply, n_reply   as for dxl_device
- * packet, n_packet   the packet's bytes from its header to its checksum, as the reader's calls write them; n_packet is their
- *                    count. Bytes that are not exactly one well-formed packet change no table and get no reply. A bad checksum
- *                    has no bytes to pass on: dxl_device takes it by its kind
- * body, n_body       a buffer for the unstuffed body; DXL_MAX_BODY bytes are enough for every packet of the reader
- *
- * Returns what dxl_device returns for DXL_PACKET, the packet's ID and the unstuffed body, or
- *   -14  the body, everything from byte 7 up to the last two bytes, is not well stuffed; never for a packet of the reader
- *   -13  the unstuffed body has more than n_body bytes
- *   -21 to -24, as dxl_device
- *
- * The unstuffed body is written from byte 0 of body on, even if the packet is for another device or gets no reply, and the bytes
- * after it stay as they were; if the call is refused, all of body does. table, reply and the registered write become what
- * dxl_device makes of them.
- */
-struct dxl_answer dxl_exchange(uint8_t *table, size_t n_table, struct dxl_registered registered, const uint8_t *packet,
-                               size_t n_packet, uint8_t *body, size_t n_body, uint8_t *reply, size_t n_reply);
-
-/*
- * The device call in two, for a status that has to wait for its slot: dxl_carry_out or dxl_carry_out_packet carries out what was
- * heard and returns a small record of the reply, and dxl_status makes the packet of it when the slot has come. One straight after
- * the other does what dxl_device or dxl_exchange does, for every input where that does not give 24. Where it does, the instruction
- * has been carried out when dxl_status refuses the buffer: lend it one of DXL_MIN_REPLY bytes.
- */
-
-/* A reply. The first calls return silence as all 0; to dxl_status any record may be passed. */
-struct dxl_reply {
-    uint8_t speaks;   /* 0: silence; any other mark: a status */
-    uint8_t id;       /* the device's ID, from before the instruction */
-    uint8_t error;    /* the error byte, its alert as the hardware error was after the instruction */
-    uint8_t count;    /* how many of bytes are sent, at most 8 */
-    uint8_t bytes[8]; /* the data; 0 past the count. dxl_status ignores what is past it */
-    size_t slot;      /* when to send it, as in struct dxl_answer */
-};
-
-/* What a first call returns. */
-struct dxl_carried {
-    int64_t refusal;                  /* 0, or minus the number of a refusal */
-    struct dxl_reply reply;           /* if the call is refused: silence */
-    struct dxl_registered registered; /* the registered write from now on; if the call is refused, as it was passed */
-};
-
-/*
- * Carries out what was heard on the line. table, n_table, registered, kind, id, body and n_body are as for dxl_device, and so are
- * -21, -22 and -23; a refused call leaves the table as it was.
- */
-struct dxl_carried dxl_carry_out(uint8_t *table, size_t n_table, struct dxl_registered registered, uint8_t kind, uint8_t id,
-                                 const uint8_t *body, size_t n_body);
-
-/*
- * Carries out a packet as it was received. The arguments are as for dxl_exchange, and so are -14, -13 and then -21 to -23; a
- * refused call leaves the table and body as they were.
- */
-struct dxl_carried dxl_carry_out_packet(uint8_t *table, size_t n_table, struct dxl_registered registered, const uint8_t *packet,
-                                        size_t n_packet, uint8_t *body, size_t n_body);
-
-/*
- * Writes the status packet of a reply to the start of out; for silence nothing.
- *
- * Returns its byte count, 11 to 21 for the reply of a first call and at most 22 for any other, 0 for silence, or, even for silence,
- *   -11  the reply's ID is above 252
- *   -12  its count is above 8
- *   -24  n_out is below 32
- *
- * The bytes after the status stay as they were; for silence and for a refusal all of out does.
- */
-int64_t dxl_status(struct dxl_reply reply, uint8_t *out, size_t n_out);
-
-/*
- * A board: all that a device keeps, in one record. dxl_board_start makes it ready. The calls below take bytes of the line and carry
- * out at once what they find, so that the table is never behind what was heard. Between the calls the table is there to be read,
- * and dxl_measure writes to it.
- */
-struct dxl_board {
-    uint8_t held[DXL_MAX_HELD];
-    uint8_t packet[DXL_MAX_PACKET];
-    uint8_t table[DXL_TABLE_BYTES];
-    size_t count;
-    struct dxl_registered registered;
-};
-
-/* What a call on a board found and did. If kind is a refusal, registered is as given and every other field is 0. */
-struct dxl_board_step {
-    size_t taken;                     /* bytes of the chunk that it took; of a gap call, 0 */
-    size_t count;                     /* the packet's bytes; 0 beside any other kind */
-    uint8_t kind;                     /* DXL_NO_EVENT, DXL_PACKET, DXL_BAD_CHECKSUM; or a refusal: 25, 22, 23, in this order */
-    uint8_t id;                       /* of the packet or the bad checksum */
-    uint8_t instruction;              /* of a packet for this device or for all; otherwise 0 */
-    uint8_t error;                    /* the instruction's error, also where no status is sent; 3 for a bad checksum with the own
-                                         ID; otherwise 0 */
-    struct dxl_reply reply;           /* for dxl_status, in its slot */
-    struct dxl_registered registered; /* the registered write from now on; dxl_board_feed and dxl_board_gap store it */
-};
-
-/*
- * Feeds a board: takes bytes of the chunk up to the next event, or all of it, and carries the event out. Feed what is left of the
- * chunk again until a call gives DXL_NO_EVENT, even if nothing is left.
- *
- * After a packet, the buffer begins with its step.count bytes, with its body, from packet[7] on, free of stuffing.
- *
- * Refusals, as step.kind: 25, 22, 23. A refused call takes no byte and changes nothing. No bytes on the line lead to one: it means
- * that the record was overwritten.
- *
- * dxl_board_feed and dxl_board_gap below pass the parts of a record and store the registered write.
- */
-struct dxl_board_step dxl_board_feed_parts(uint8_t held[DXL_MAX_HELD], size_t *count, const uint8_t *chunk, size_t n,
-                                           uint8_t packet[DXL_MAX_PACKET], uint8_t table[DXL_TABLE_BYTES],
-                                           struct dxl_registered registered);
-
-/* The same when the line was silent for longer than 1.5 ms. Call it until it gives DXL_NO_EVENT: then nothing is held. */
-struct dxl_board_step dxl_board_gap_parts(uint8_t held[DXL_MAX_HELD], size_t *count, uint8_t packet[DXL_MAX_PACKET],
-                                          uint8_t table[DXL_TABLE_BYTES], struct dxl_registered registered);
-
-/* Makes a board ready: no bytes held, nothing registered, a fresh table. */
-static inline void dxl_board_start(struct dxl_board *board)
-{
-    uint8_t *bytes = (uint8_t *)board;
-    for (size_t i = 0; i < sizeof *board; i++)
-        bytes[i] = 0;
-    (void)dxl_fresh(board->table, sizeof board->table); /* it refuses only another size */
-}
-
-static inline struct dxl_board_step dxl_board_feed(struct dxl_board *board, const uint8_t *chunk, size_t n)
-{
-    struct dxl_board_step step =
-        dxl_board_feed_parts(board->held, &board->count, chunk, n, board->packet, board->table, board->registered);
-    board->registered = step.registered;
-    return step;
-}
-
-static inline struct dxl_board_step dxl_board_gap(struct dxl_board *board)
-{
-    struct dxl_board_step step = dxl_board_gap_parts(board->held, &board->count, board->packet, board->table, board->registered);
-    board->registered = step.registered;
-    return step;
-}
+/* ---- plans of goals ---- */
 
 /*
  * Writes the wanted goal positions of many devices as Sync Writes, one behind the other, to the start of out: IDs rising, 203
@@ -790,6 +762,48 @@ int64_t dxl_plan(const int32_t *goals, size_t n_goals, uint8_t *out, size_t n_ou
  * It writes no memory.
  */
 int64_t dxl_plan_check(const int32_t *goals, size_t n_goals, const uint8_t *plan, size_t n_plan);
+
+/* ---- old boards ---- */
+
+/*
+ * The old boards: packets of Protocol 1.0 and Mercury. FF FF, the ID, the length, the body and the checksum; the body is the
+ * instruction, or the error byte of a status, followed by params, and is not stuffed. The length counts body and checksum. The
+ * checksum is the low byte of the sum of all bytes from the ID up to it, with every bit inverted.
+ *
+ * id            dxl_p1_encode: 0 to 253, or 254 for all devices; dxl_mercury_encode: 0 to 252, or 254
+ * instruction   any byte; of a status packet the error byte
+ * params        the parameters; any number of them
+ * out, n_out    the output buffer
+ * at            where in out the packet begins; any number, also past the end of out
+ *
+ * Returns the packet's byte count, 6 to 259, or
+ *   -11  id is 255, or in Mercury 253
+ *   -12  the length would pass 255: there are more than 253 parameters
+ *   -13  out has fewer bytes from at on than the packet, or at lies past its end
+ *
+ * The bytes of out before at and after the packet stay as they were; if the call is refused, all of out does.
+ */
+int64_t dxl_p1_encode(uint8_t id, uint8_t instruction, const uint8_t *params, size_t n_params, uint8_t *out, size_t n_out,
+                      size_t at);
+int64_t dxl_mercury_encode(uint8_t id, uint8_t instruction, const uint8_t *params, size_t n_params, uint8_t *out, size_t n_out,
+                           size_t at);
+
+/*
+ * The readers of the old boards, on held bytes and their count, as dxl_feed and dxl_gap and with all that is said above: packets of
+ * Protocol 1.0 or Mercury, as dxl_p1_encode and dxl_mercury_encode write them, with 259 in the place of 1,031 and 258 in that of
+ * 1,030. A packet has 6 to 259 bytes; its body stands from byte 4 up to the checksum, which is the packet's last byte, and is not
+ * stuffed. What is said of changed bytes is not promised here: a sum does not show every change of two neighbours.
+ *
+ * FF is no ID, so that of several FF only the last two may begin a packet. A line keeps to one protocol; a program that does not
+ * know which may read it with two readers.
+ *
+ * Refused with kind DXL_BAD_READER if *count is above 258, also where dxl_feed would accept it. examples/old_boards.c has the loops
+ * around these calls.
+ */
+struct dxl_step dxl_p1_feed(uint8_t held[258], size_t *count, const uint8_t *chunk, size_t n, uint8_t packet[259]);
+struct dxl_step dxl_p1_gap(uint8_t held[258], size_t *count, uint8_t packet[259]);
+struct dxl_step dxl_mercury_feed(uint8_t held[258], size_t *count, const uint8_t *chunk, size_t n, uint8_t packet[259]);
+struct dxl_step dxl_mercury_gap(uint8_t held[258], size_t *count, uint8_t packet[259]);
 
 #ifdef __cplusplus
 }

@@ -1,7 +1,8 @@
 """Holds the documents to the tree: usage docs_test.py CC ARCHIVE, in the repository's root
 
 Links lead to files, and commands of make to targets. The code that docs/INTEGRATING.md shows stands so in a file that the gate
-runs, and its sizes are those of the archive. The program in README.md is compiled and run, and prints what its comments say.
+runs, and its sizes are those of the archive. The loops that the header shows stand in tests/c/exchange.c. The program in README.md
+is compiled and run, and prints what its comments say.
 """
 import re
 import subprocess
@@ -55,6 +56,17 @@ class Documents(unittest.TestCase):
         for code in shown:
             parts = [code, textwrap.indent(textwrap.dedent(code), "    ")]
             self.assertTrue(any(part in source for part in parts for source in sources), code)
+
+    def test_loops_of_the_header(self):
+        """Paragraph by paragraph, comments left out."""
+        comments = re.findall(r"^/\*\n.*?^ \*/$", text(Path("include/mednukals.h")), flags=re.M | re.S)
+        shown = ["\n".join(re.findall(r"^ \* {5}(.*)$|^ \*$", comment, flags=re.M)) for comment in comments]
+        loops = [code for code in shown if "struct dxl_step" in code or "struct dxl_board_step" in code]
+        self.assertEqual(len(loops), 2)
+        source = text(Path("tests/c/exchange.c"))
+        for part in "\n\n".join(loops).split("\n\n"):
+            code = re.sub(r" *//.*$", "", part, flags=re.M).strip()
+            self.assertIn(f"\n{code}\n" if code else "", source)
 
     def linked(self):
         """How many bytes of the archive are in the example board, linked without what it does not call."""

@@ -245,7 +245,7 @@ enum {
  *             ;
  *     }
  *
- * The rules of this loop. Nothing says so where one is broken:
+ * The rules of this loop. Each goes wrong in silence if it is left out:
  * - Start the board. One that is all 0 is not refused: its ID is 0, and it answers nothing but Ping.
  * - Until a call gives DXL_NO_EVENT, feed again what it has not taken, even if nothing is left. Bytes that are not fed again are
  *   lost, and an event that is left in the held bytes comes out only with the next call.

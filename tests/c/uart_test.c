@@ -321,6 +321,7 @@ static void test_in_order(void)
     run(20000, 100);
     want_status(1, DXL_ERROR_CHECKSUM, NOTHING, 0);
     expect_ping_answer(1);
+    expect(sent_at - busy_until < 1500 * NANOS, "the event that is left in the held bytes waits for the gap");
 
     power_up("more than one chunk for a turn of the loop");
     instruct(1, DXL_INST_PING, NOTHING, 0);

@@ -334,7 +334,8 @@ int64_t dxl_measure(uint8_t *table, size_t n, int32_t position, uint8_t hardware
  * of its limits holds here.
  *
  * After DXL_PACKET, packet begins with header, ID and length as received, and from packet[7] on it has the body without stuffing.
- * The bytes behind that mean nothing. With any other kind packet stays as it was.
+ * The bytes behind that mean nothing. With any other kind packet stays as it was, or is all 0 where more than 1,030 bytes were
+ * held and taken.
  *
  * Refused with kind
  *   25  *count is above 1,030

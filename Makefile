@@ -235,7 +235,7 @@ build/c/board build/c/uart_pty: examples/pty_line.h examples/host.h include/medn
 
 # The boards again, with a library that refuses what the test asks it to. dxl_fresh is not among these calls: dxl_board_start always
 # passes it a table of the right size.
-REFUSING := encode reader_feed reader_gap board_feed_parts board_gap_parts measure carry_out status
+REFUSING := encode reader_feed reader_gap board_feed_parts board_gap_parts measure status
 build/c/refusing_board: tests/c/refusing.c build/c/board
 	@$(CC) $(WARNINGS) -O2 -Iinclude -o $@ $(REFUSING:%=-Wl$(comma)--wrap=dxl_%) $(BOARD_SOURCES) $< build/lib/libmednukals.a \
 	    || $(call failed,compiling the refusing board)

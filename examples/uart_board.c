@@ -38,6 +38,12 @@ static size_t accepted(int64_t answer)
     return (size_t)answer;
 }
 
+static struct dxl_board_step accepted_step(struct dxl_board_step step)
+{
+    accepted(step.kind > DXL_BAD_CHECKSUM ? -(int64_t)step.kind : 0);
+    return step;
+}
+
 /* ---- speed and slots ---- */
 
 /* What a baud code stands for is the firmware's choice. */
@@ -88,11 +94,11 @@ static void save_rom(void)
 /* A Write that nobody sent: the library judges the value as it judges a master's. Returns whether the table has it now. */
 static int stored(uint8_t address, const uint8_t *value, size_t n)
 {
-    static const struct dxl_registered none;
-    uint8_t write[3 + 4] = {DXL_INST_WRITE, address, 0}, id = board.table[DXL_REG_ID];
-    memcpy(write + 3, value, n);
-    accepted(dxl_carry_out(board.table, sizeof board.table, none, DXL_PACKET, id, write, 3 + n).refusal);
-    return memcmp(board.table + address, value, n) == 0;
+    uint8_t params[2 + 4] = {address, 0}, write[32];
+    memcpy(params + 2, value, n);
+    size_t size = accepted(dxl_encode(board.table[DXL_REG_ID], DXL_INST_WRITE, params, 2 + n, write, sizeof write, 0));
+    struct dxl_board_step step = accepted_step(dxl_board_feed(&board, write, size));
+    return step.kind == DXL_PACKET && step.error == 0;
 }
 
 /* Brings the items back into a fresh table. Returns 0 if the store is not as save_rom left it; some may be back by then. */
@@ -191,8 +197,7 @@ static void answer(struct dxl_board_step step)
 /* The library has carried out what it heard; the rest is done here. Returns whether there was an event, and may be another. */
 static int heard(struct dxl_board_step step)
 {
-    accepted(step.kind > DXL_BAD_CHECKSUM ? -(int64_t)step.kind : 0);
-    if (step.kind == DXL_NO_EVENT)
+    if (accepted_step(step).kind == DXL_NO_EVENT)
         return 0;
     answer(step);
     act_on_changes();

@@ -78,10 +78,11 @@ class Documents(unittest.TestCase):
 
     def test_sizes_of_integrating(self):
         page = text(Path("docs/INTEGRATING.md"))
-        row = re.search(r"^\| code \| about (\S+), and (\S+) more with .* about (\S+) stay \|$", page, flags=re.M)
+        row = re.search(r"^\| code \| about (\S+) with .*, (\S+) with .*, (\S+) with .* about (\S+) stay \|$", page, flags=re.M)
         size = subprocess.run(["size", ARCHIVE], capture_output=True, check=True, timeout=PATIENCE, text=True).stdout
-        sizes = [int(line.split()[0]) for line in size.splitlines()[1:]] + [self.linked()]
-        self.assertEqual(len(sizes), 3)
+        objects = {line.split()[5]: int(line.split()[0]) for line in size.splitlines()[1:]}
+        sizes = [objects[name] for name in ("capi_board.o", "capi.o", "capi_v1.o")] + [self.linked()]
+        self.assertEqual(len(objects), 3)
         for said, bytes_ in zip(row.groups(), sizes):
             self.assertAlmostEqual(int(said.replace(",", "")), bytes_, delta=0.005 * bytes_, msg="make memory prints the sizes")
 

@@ -50,15 +50,6 @@ static int64_t refusal(const char *call)
         return step.kind != 0 ? step : __real_##name arguments; \
     }
 
-/* A first call, with all of its reply 0. */
-#define CARRIED(name, parameters, arguments)                                 \
-    DECLARE(struct dxl_carried, name, parameters)                            \
-    {                                                                        \
-        static const struct dxl_reply silence;                               \
-        struct dxl_carried refused = {-refusal(#name), silence, registered}; \
-        return refused.refusal != 0 ? refused : __real_##name arguments;     \
-    }
-
 COUNT(dxl_encode,
       (uint8_t id, uint8_t instruction, const uint8_t *params, size_t n_params, uint8_t *out, size_t n_out, size_t at),
       (id, instruction, params, n_params, out, n_out, at))
@@ -74,7 +65,3 @@ BOARD_STEP(dxl_board_gap_parts,
            (uint8_t held[DXL_MAX_HELD], size_t *count, uint8_t packet[DXL_MAX_PACKET], uint8_t table[DXL_TABLE_BYTES],
             struct dxl_registered registered),
            (held, count, packet, table, registered))
-CARRIED(dxl_carry_out,
-        (uint8_t *table, size_t n_table, struct dxl_registered registered, uint8_t kind, uint8_t id, const uint8_t *body,
-         size_t n_body),
-        (table, n_table, registered, kind, id, body, n_body))

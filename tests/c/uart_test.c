@@ -717,8 +717,7 @@ static void test_faults(void)
     static const char *const refusals[][2] = {
         {"dxl_board_feed_parts", "25"}, {"dxl_board_feed_parts", "22"}, {"dxl_board_feed_parts", "23"},
         {"dxl_board_gap_parts", "25"},  {"dxl_board_gap_parts", "22"},  {"dxl_board_gap_parts", "23"},
-        {"dxl_carry_out", "21"},        {"dxl_carry_out", "22"},        {"dxl_measure", "21"},
-        {"dxl_status", "24"}};
+        {"dxl_encode", "11"},           {"dxl_measure", "21"},          {"dxl_status", "24"}};
     for (size_t i = 0; i < sizeof refusals / sizeof refusals[0]; i++)
         test_fault(refusals[i][0], refusals[i][1]);
 }

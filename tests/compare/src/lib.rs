@@ -1,5 +1,6 @@
 //! What the tests in tests/ and the search in ../fuzz share.
 
+mod board_pair;
 mod calls;
 pub mod device_inputs;
 mod device_pair;
@@ -13,6 +14,7 @@ mod reader_pair;
 mod single_calls;
 mod v1_reader_pair;
 
+pub use board_pair::BoardPair;
 pub use calls::{Calls, PROVED};
 pub use device_pair::{DevicePair, Told, BAD_CHECKSUM, PACKET};
 pub use difference::{hex, must_agree, Comparison, Difference};

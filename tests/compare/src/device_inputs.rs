@@ -1,6 +1,7 @@
 //! Random inputs of a device: tables, registered writes and instructions that lead to the corners of the rules.
 
-use reference::{fresh, Registered, Rng, Table, TABLE_BYTES};
+use crate::{front, noise, segment};
+use reference::{framed, fresh, packet_of, stuff, Registered, Rng, Table, TABLE_BYTES};
 
 /// Address and bytes of each item.
 const ITEMS: [(usize, usize); 15] = [
@@ -25,6 +26,9 @@ const WRITABLE: [(usize, usize); 10] = [(7, 1), (8, 1), (20, 4), (48, 4), (52, 4
 const SIDE_BY_SIDE: [(usize, usize); 3] = [(7, 2), (48, 8), (64, 2)];
 
 pub const INSTRUCTIONS: [u8; 11] = [0x01, 0x02, 0x03, 0x04, 0x05, 0x06, 0x08, 0x82, 0x83, 0x92, 0x93];
+
+/// The longest body of a packet.
+const LONGEST_BODY: usize = 1_022;
 
 /// The ends of the ranges, and numbers beside them.
 const ENDS: [i32; 29] = [
@@ -344,5 +348,62 @@ pub fn instruction_of_a_life(rng: &mut Rng) -> u8 {
         92..=93 => 0x92,
         94..=97 => 0x93,
         _ => rng.byte(),
+    }
+}
+
+/// The ID and the body of an instruction for a device with this table, mostly: some are for others, empty, or of any length.
+pub fn instruction(rng: &mut Rng, table: &[u8]) -> (u8, Vec<u8>) {
+    let instruction = instruction_of_a_life(rng);
+    let body = match rng.between(0, 299) {
+        0..=4 => vec![],
+        5 => {
+            let length = crate::length(rng);
+            [&[instruction], &crate::body(rng, length)[..]].concat()
+        }
+        _ => body(rng, table, instruction),
+    };
+    let id = if has_list(instruction) && !rng.one_in(5) { 254 } else { id(rng, table[7]) };
+    (id, body)
+}
+
+/// A packet with an instruction, as long as it fits into one.
+pub fn packet(rng: &mut Rng, table: &[u8]) -> Vec<u8> {
+    let (id, body) = instruction(rng, table);
+    let fits = stuff(&body).len() <= LONGEST_BODY;
+    packet_of(id, if fits { &body } else { &body[..500] })
+}
+
+/// What stands on the line of a device: mostly a packet with an instruction; or a damaged one, one cut short, one inside a damaged
+/// one, one behind a front that promises far more, another device's status, noise.
+pub fn part(rng: &mut Rng, table: &[u8]) -> Vec<u8> {
+    let mut packet = packet(rng, table);
+    let id = packet[4];
+    match rng.between(0, 24) {
+        0 => {
+            let length = rng.between(1, 30);
+            noise(rng, length)
+        }
+        1 => segment(rng, 1, 60),
+        2 | 3 => {
+            let place = rng.between(0, packet.len() - 1);
+            packet[place] ^= 1 << rng.between(0, 7);
+            packet
+        }
+        4 | 5 => {
+            let mut outer = framed(id, &[&[rng.byte()], &packet[..], &[rng.byte()]].concat());
+            *outer.last_mut().expect("no packet is empty") ^= rng.pick(&[0, 1, 0x80]);
+            outer
+        }
+        6 => {
+            let count = rng.between(0, 8);
+            packet_of(id, &[&[0x55, 0], &rng.bytes(count)[..]].concat())
+        }
+        7 => {
+            packet.truncate(rng.between(0, packet.len() - 1));
+            packet
+        }
+        8 => [&vec![0xFF; rng.between(1, 6)][..], &packet].concat(),
+        9 => [front(rng), packet].concat(),
+        _ => packet,
     }
 }

@@ -56,21 +56,24 @@ impl Board {
             return BoardStep { kind, registered: self.registered, ..BoardStep::default() };
         }
         let Given { taken, event, held } = read(&self.held[..self.count]);
-        let looked_at = self.count + taken;
-        self.hold(&held, looked_at);
+        self.forget(self.count + taken);
+        self.held[..held.len()].copy_from_slice(&held);
+        self.count = held.len();
         let step = match event {
             None => BoardStep::default(),
             Some(Event::BadChecksum { id }) => self.hear_bad_checksum(id),
-            Some(Event::Packet { id, bytes }) => self.hear_packet(id, &bytes, looked_at),
+            Some(Event::Packet { id, bytes }) => self.hear_packet(id, &bytes),
         };
         BoardStep { taken, registered: self.registered, ..step }
     }
 
-    /// Bytes that the call has not looked at stay.
-    fn hold(&mut self, held: &[u8], looked_at: usize) {
+    /// What the call has looked at is 0 before anything is held; what lies further on stays. Nothing stays in the packet buffer
+    /// where that was more than a record holds, whether or not a packet comes into it.
+    fn forget(&mut self, looked_at: usize) {
         self.held[..looked_at.min(MOST_HELD)].fill(0);
-        self.held[..held.len()].copy_from_slice(held);
-        self.count = held.len();
+        if looked_at > MOST_HELD {
+            self.packet.fill(0);
+        }
     }
 
     fn hear_bad_checksum(&mut self, id: u8) -> BoardStep {
@@ -78,23 +81,15 @@ impl Board {
         BoardStep { kind: 2, id, error, reply, ..BoardStep::default() }
     }
 
-    fn hear_packet(&mut self, id: u8, bytes: &[u8], looked_at: usize) -> BoardStep {
+    fn hear_packet(&mut self, id: u8, bytes: &[u8]) -> BoardStep {
         let body = unstuff(&bytes[7..bytes.len() - 2]);
-        self.keep(bytes, &body, looked_at);
+        self.packet[..bytes.len()].copy_from_slice(bytes);
+        self.packet[7..7 + body.len()].copy_from_slice(&body);
         // by the ID from before the instruction, which may change it
         let for_us = id == own_id(&self.table) || id == 254;
         let instruction = if for_us { body[0] } else { 0 };
         let (reply, error) = carry_out(&mut self.table, &mut self.registered, Heard::Packet { id, body: &body });
         BoardStep { kind: 1, id, count: bytes.len(), instruction, error, reply, ..BoardStep::default() }
-    }
-
-    /// What is behind the packet stays, unless more bytes were looked at than a record holds.
-    fn keep(&mut self, packet: &[u8], body: &[u8], looked_at: usize) {
-        if looked_at > MOST_HELD {
-            self.packet.fill(0);
-        }
-        self.packet[..packet.len()].copy_from_slice(packet);
-        self.packet[7..7 + body.len()].copy_from_slice(body);
     }
 }
 
@@ -202,12 +197,13 @@ mod tests {
             let mut board = scribbled();
             let step = board.feed(&[&vec![0x11; before][..], &ping].concat());
             assert_eq!((step.taken, step.kind), (before + 10, 1));
-            assert_eq!((board.held, board.packet[10]), ([0; MOST_HELD], behind));
+            assert_eq!((board.held, &board.packet[..10]), ([0; MOST_HELD], &ping[..]));
+            assert_eq!(board.packet[10..], [behind; 1_021]);
+            // without a packet
+            let mut board = scribbled();
+            board.feed(&vec![0x11; before + 10]);
+            assert_eq!((board.held, board.packet), ([0; MOST_HELD], [behind; LONGEST_PACKET]));
         }
-        // no packet: it stays in any case
-        let mut board = scribbled();
-        board.feed(&[0x11; 2_000]);
-        assert_eq!((board.held, board.packet), ([0; MOST_HELD], [8; LONGEST_PACKET]));
     }
 
     #[test]

@@ -70,23 +70,20 @@ impl BoardPair {
     }
 
     pub fn feed(&mut self, chunk: &[u8]) -> BoardStep {
-        must_agree(self.try_feed(chunk))
+        self.call(Some(chunk))
     }
 
     pub fn gap(&mut self) -> BoardStep {
-        must_agree(self.try_gap())
+        self.call(None)
+    }
+
+    /// A feeding call with a chunk, or a gap call.
+    pub fn call(&mut self, chunk: Option<&[u8]>) -> BoardStep {
+        must_agree(self.try_call(chunk))
     }
 
     pub fn measure(&mut self, position: i32, hardware_error: u8) {
         must_agree(self.try_measure(position, hardware_error));
-    }
-
-    pub fn try_feed(&mut self, chunk: &[u8]) -> Result<BoardStep, Difference> {
-        self.call(Some(chunk))
-    }
-
-    pub fn try_gap(&mut self) -> Result<BoardStep, Difference> {
-        self.call(None)
     }
 
     /// The measurement call on the board's table.
@@ -101,7 +98,7 @@ impl BoardPair {
         Ok(answer)
     }
 
-    fn call(&mut self, chunk: Option<&[u8]>) -> Result<BoardStep, Difference> {
+    pub fn try_call(&mut self, chunk: Option<&[u8]>) -> Result<BoardStep, Difference> {
         let (around, before) = (self.ours.clone(), self.expected.clone());
         let mut lent = chunk.map(<[u8]>::to_vec);
         let registered = exported(before.registered);

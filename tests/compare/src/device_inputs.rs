@@ -1,7 +1,7 @@
 //! Random inputs of a device: tables, registered writes and instructions that lead to the corners of the rules.
 
-use crate::{front, noise, segment};
-use reference::{framed, fresh, packet_of, stuff, Registered, Rng, Table, TABLE_BYTES};
+use crate::{around_the_longest, front, noise, record, segment, worst_noise};
+use reference::{framed, fresh, packet_of, stuff, Board, Registered, Rng, Table, LONGEST_PACKET, TABLE_BYTES};
 
 /// Address and bytes of each item.
 const ITEMS: [(usize, usize); 15] = [
@@ -406,4 +406,40 @@ pub fn part(rng: &mut Rng, table: &[u8]) -> Vec<u8> {
         9 => [front(rng), packet].concat(),
         _ => packet,
     }
+}
+
+/// What stands on the line of a device between two gaps, now and then many bytes at once.
+pub fn line(rng: &mut Rng, table: &[u8]) -> Vec<u8> {
+    match rng.between(0, 79) {
+        0 => worst_noise(rng.between(140, 250)),
+        1 | 2 => around_the_longest(rng),
+        3 => {
+            let length = rng.between(1_000, 1_100);
+            [rng.bytes(length), packet(rng, table)].concat()
+        }
+        _ => (0..rng.between(1, 6)).flat_map(|_| part(rng, table)).collect(),
+    }
+}
+
+/// A board that is not refused: all 0 beside its table, in which anything may stand, and a registered write or none.
+pub fn board(rng: &mut Rng) -> Board {
+    let table = table(rng);
+    let mut registered = registered(rng, &table);
+    registered.count %= 9;
+    Board { table, registered, ..Board::start() }
+}
+
+/// Anything in every part of a board; count, ID and registered write may be such that it is refused.
+pub fn any_board(rng: &mut Rng) -> Board {
+    let (held, count) = record(rng);
+    let Board { mut table, mut registered, .. } = board(rng);
+    if rng.one_in(12) {
+        table[7] = rng.pick(&[253, 254, 255]);
+    }
+    if rng.one_in(12) {
+        registered.count = rng.pick(&[9, 10, 128, 255]);
+    }
+    let mut packet = [0; LONGEST_PACKET];
+    packet.fill_with(|| rng.byte());
+    Board { held, count, packet, table, registered }
 }

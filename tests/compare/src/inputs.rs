@@ -206,6 +206,17 @@ pub fn segment(rng: &mut Rng, parts: usize, longest: usize) -> Vec<u8> {
     (0..parts).flat_map(|_| part(rng, longest)).collect()
 }
 
+/// A packet about as long as one can be, good or damaged, and what may stand beside it.
+pub fn around_the_longest(rng: &mut Rng) -> Vec<u8> {
+    let (before, stuffed) = (rng.between(0, 9), rng.between(1_018, 1_024));
+    let mut packet = packet_of(rng.pick(&[0, 1, 252, 254]), &body_of_stuffed_length(rng, stuffed));
+    if rng.one_in(3) {
+        let place = rng.between(0, packet.len() - 1);
+        packet[place] ^= 1 << rng.between(0, 7);
+    }
+    [noise(rng, before), packet, segment(rng, 1, 12)].concat()
+}
+
 /// The line in chunks of any size, empty ones too, cut anywhere.
 pub fn chunks<'a>(rng: &mut Rng, line: &'a [u8]) -> Vec<&'a [u8]> {
     let largest = rng.pick(&[1, 3, 9, 40, 300, 3_000]);

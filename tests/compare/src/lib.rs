@@ -20,7 +20,7 @@ pub use calls::{Calls, PROVED};
 pub use device_pair::{DevicePair, Told, BAD_CHECKSUM, PACKET};
 pub use difference::{hex, must_agree, Comparison, Difference};
 pub use inputs::{body, body_of_stuffed_length, chunks, front, id, length, noise, packet, place, record, rooms, segment};
-pub use inputs::{cut_log, damaged_log, packet_ids, some_room, stuffed_well_or_not, worst_noise};
+pub use inputs::{around_the_longest, cut_log, damaged_log, packet_ids, some_room, stuffed_well_or_not, worst_noise};
 pub use inputs::{v1_length, v1_packet, v1_record, v1_segment};
 pub use lent::{number, Guarded, Lent};
 pub use log_calls::{compare_log_check, compare_log_last, compare_log_salvage, compare_log_write};

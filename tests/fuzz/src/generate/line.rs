@@ -2,8 +2,8 @@
 
 use super::board::Board;
 use crate::Operation;
-use compare::{body_of_stuffed_length, chunks, device_inputs, noise, record, segment, v1_record, v1_segment, worst_noise};
-use reference::{packet_of, v1, Rng};
+use compare::{around_the_longest, chunks, device_inputs, record, segment, v1_record, v1_segment, worst_noise};
+use reference::{v1, Rng};
 
 /// A reader's calls as a careless user makes them.
 pub fn reader(rng: &mut Rng) -> Vec<Operation> {
@@ -60,17 +60,6 @@ pub fn line(rng: &mut Rng) -> Vec<u8> {
     let parts = rng.between(1, 5);
     let longest = if rng.one_in(15) { 1_030 } else { 40 };
     segment(rng, parts, longest)
-}
-
-/// A packet about as long as one can be, good or damaged, and what may stand beside it.
-fn around_the_longest(rng: &mut Rng) -> Vec<u8> {
-    let (before, stuffed) = (rng.between(0, 9), rng.between(1_018, 1_024));
-    let mut packet = packet_of(rng.pick(&[0, 1, 252, 254]), &body_of_stuffed_length(rng, stuffed));
-    if rng.one_in(3) {
-        let place = rng.between(0, packet.len() - 1);
-        packet[place] ^= 1 << rng.between(0, 7);
-    }
-    [noise(rng, before), packet, segment(rng, 1, 12)].concat()
 }
 
 /// Gaps in odd places and not finished, fed on after such a gap, rests dropped or fed twice, empty chunks, bytes past the count.

@@ -433,10 +433,10 @@ pub fn board(rng: &mut Rng) -> Board {
 pub fn any_board(rng: &mut Rng) -> Board {
     let (held, count) = record(rng);
     let Board { mut table, mut registered, .. } = board(rng);
-    if rng.one_in(12) {
+    if rng.one_in(8) {
         table[7] = rng.pick(&[253, 254, 255]);
     }
-    if rng.one_in(12) {
+    if rng.one_in(8) {
         registered.count = rng.pick(&[9, 10, 128, 255]);
     }
     let mut packet = [0; LONGEST_PACKET];

@@ -348,8 +348,8 @@ fuzz_program: $(LIBS)
 
 RUNS ?= 1
 BASELINE := baseline baseline_reader baseline_v1 baseline_log baseline_plan baseline_device baseline_board
-BENCH_SOURCES := $(patsubst %,tests/bench/%.c,bench lines $(BASELINE))
-BENCH_HEADERS := $(addprefix tests/bench/,lines.h baseline.h row.h candidate.h test_exports.h) include/mednukals.h
+BENCH_SOURCES := $(patsubst %,tests/bench/%.c,bench lines board $(BASELINE))
+BENCH_HEADERS := $(addprefix tests/bench/,lines.h board.h baseline.h row.h candidate.h test_exports.h) include/mednukals.h
 BENCH_FLAGS := -O3 -fno-lto
 # What is measured over another checksum function has its name behind it.
 OVER := $(LEAF:%=_%)

@@ -23,6 +23,8 @@ int main(void)
     tell("body buffer, for the longest body", DXL_MAX_BODY);
     tell("reply buffer, the shortest", DXL_MIN_REPLY);
     tell("together", lent);
+    printf("in one record in the place of all of these but the reply and its buffer, in bytes\n");
+    tell("board, struct dxl_board", sizeof(struct dxl_board));
     printf("of an old board in the place of reader and packet buffer, in bytes\n");
     tell("held bytes and their count", DXL_V1_MAX_HELD + sizeof(size_t));
     tell("packet buffer", DXL_V1_MAX_PACKET);
@@ -31,5 +33,6 @@ int main(void)
     tell("of the plain reader, struct dxl_event", sizeof(struct dxl_event));
     tell("of the device, struct dxl_answer", sizeof(struct dxl_answer));
     tell("of a first call, struct dxl_carried", sizeof(struct dxl_carried));
+    tell("of a call on a board, struct dxl_board_step", sizeof(struct dxl_board_step));
     return 0;
 }

@@ -221,6 +221,55 @@ static void call_exchange(void)
     }
 }
 
+/* A board by its parts, as call_feed and call_gap. */
+static void call_board_feed(void)
+{
+    struct dxl_registered registered = {0, 0, {0}, 0, 0};
+    MARK_TOP();
+    for (size_t n = 1; n <= sizeof line; n *= 8) {
+        struct dxl_board_step step;
+        count = 0;
+        for (size_t at = 0; at < n_line; at += step.taken) {
+            step = dxl_board_feed_parts(held, &count, line + at, n < n_line - at ? n : n_line - at, packet, table, registered);
+            answered = step.kind;
+        }
+    }
+}
+
+static void call_board_gap(void)
+{
+    struct dxl_registered registered = {0, 0, {0}, 0, 0};
+    struct dxl_board_step step;
+    MARK_TOP();
+    do {
+        step = dxl_board_gap_parts(held, &count, packet, table, registered);
+        answered = step.kind;
+    } while (step.kind != DXL_NO_EVENT);
+}
+
+/* An instruction as a packet, as call_exchange; by feeding, or held at a gap. */
+static void call_board_fed(void)
+{
+    struct dxl_registered registered[2] = {{0, 0, {0}, 0, 0}, {116, 4, {0}, 0, 4095}};
+    MARK_TOP();
+    for (int i = 0; i < 4; i++) {
+        count = 0;
+        answered = dxl_board_feed_parts(held, &count, received[i & 1], n_received, packet, table, registered[i >> 1]).kind;
+    }
+}
+
+static void call_board_held(void)
+{
+    struct dxl_registered registered[2] = {{0, 0, {0}, 0, 0}, {116, 4, {0}, 0, 4095}};
+    MARK_TOP();
+    for (int i = 0; i < 4; i++) {
+        count = n_received <= sizeof held ? n_received : 0;
+        for (size_t k = 0; k < count; k++)
+            held[k] = received[i & 1][k];
+        answered = dxl_board_gap_parts(held, &count, packet, table, registered[i >> 1]).kind;
+    }
+}
+
 static size_t depth(void (*call)(void), uint8_t pattern)
 {
     memset(stack, pattern, sizeof stack);
@@ -391,6 +440,15 @@ static void tell(const char *name, size_t bytes)
     printf("  %-20s %6zu\n", name, bytes);
 }
 
+static void tell_boards(void)
+{
+    size_t read = deepest(all_kinds, call_board_feed), heard = deepest_device(call_board_fed);
+    tell("dxl_board_feed_parts", read > heard ? read : heard);
+    read = deepest(full_record, call_board_gap);
+    heard = deepest_device(call_board_held);
+    tell("dxl_board_gap_parts", read > heard ? read : heard);
+}
+
 static void tell_old_boards(void)
 {
     encode = dxl_p1_encode;
@@ -431,6 +489,8 @@ int main(void)
     tell("dxl_carry_out", deepest_device(call_carry_out));
     tell("dxl_carry_out_packet", deepest_device(call_carry_out_packet));
     tell("dxl_status", deepest(nothing, call_status));
+    dxl_fresh(table, sizeof table);
+    tell_boards();
     tell("dxl_plan", deepest(nothing, call_plan));
     tell("dxl_plan_check", deepest(nothing, call_plan_check));
     tell_old_boards();

@@ -353,9 +353,9 @@ fuzz_program: $(LIBS)
 	    sh -c 'cd tests && exec cargo build --release --offline --quiet --bin fuzz'
 
 RUNS ?= 1
-BASELINE := baseline baseline_reader baseline_v1 baseline_log baseline_plan baseline_device
-BENCH_SOURCES := $(patsubst %,tests/bench/%.c,bench lines $(BASELINE))
-BENCH_HEADERS := $(addprefix tests/bench/,lines.h baseline.h row.h test_exports.h) include/mednukals.h
+BASELINE := baseline baseline_reader baseline_v1 baseline_log baseline_plan baseline_device baseline_board
+BENCH_SOURCES := $(patsubst %,tests/bench/%.c,bench lines board $(BASELINE))
+BENCH_HEADERS := $(addprefix tests/bench/,lines.h board.h baseline.h row.h candidate.h test_exports.h) include/mednukals.h
 BENCH_FLAGS := -O3 -fno-lto
 # What is measured over another checksum function has its name behind it.
 OVER := $(LEAF:%=_%)
@@ -373,7 +373,7 @@ build/c/bench$(OVER): $(BENCH_SOURCES) $(BENCH_HEADERS) $(MADE_LIBS)
 	    || $(call failed,compiling the benchmark)
 
 # -O0, so that `counted` stays a function of its own; what is counted lies in the archives.
-COUNTS_SOURCES := tests/counts/counts.c tests/bench/lines.c
+COUNTS_SOURCES := tests/counts/counts.c tests/bench/lines.c tests/bench/board.c
 COUNTED := $(MADE_LIBS)
 COUNTS := build/c/counts$(LEAF:%=_%)
 $(COUNTS): $(COUNTS_SOURCES) tests/bench/baseline.c tests/bench/baseline_reader.c tests/bench/baseline_log.c $(BENCH_HEADERS) $(MADE_LIBS)
@@ -382,7 +382,7 @@ $(COUNTS): $(COUNTS_SOURCES) tests/bench/baseline.c tests/bench/baseline_reader.
 	@$(CC) $(WARNINGS) -O0 -Iinclude -Itests/bench -o $@ $(filter %.c,$^) $(COUNTED) || $(call failed,compiling the counts)
 
 # The same inputs by the baseline, compiled as in the benchmark; what it lacks is called in the archive.
-PLAIN_CALLS := $(foreach name,crc16 encode p1_encode mercury_encode feed gap reader_feed reader_gap p1_feed p1_gap mercury_feed mercury_gap fresh measure device exchange carry_out carry_out_packet status,-Ddxl_$(name)=baseline_$(name)) \
+PLAIN_CALLS := $(foreach name,crc16 encode p1_encode mercury_encode feed gap reader_feed reader_gap p1_feed p1_gap mercury_feed mercury_gap fresh measure device exchange carry_out carry_out_packet status board_feed_parts board_gap_parts,-Ddxl_$(name)=baseline_$(name)) \
     -Ddxl_test_crc16_small=baseline_crc16_small -Ddxl_next_event=baseline_next_event \
     -Ddxl_log_write=baseline_log_write -Ddxl_plan=baseline_plan -Ddxl_plan_check=baseline_plan_check
 PLAIN_OBJECTS := $(BASELINE:%=build/c/%.o)

@@ -373,8 +373,8 @@ pub fn packet(rng: &mut Rng, table: &[u8]) -> Vec<u8> {
     packet_of(id, if fits { &body } else { &body[..500] })
 }
 
-/// What stands on the line of a device: mostly a packet with an instruction; or a damaged one, one cut short, one inside a damaged
-/// one, one behind a front that promises far more, another device's status, noise.
+/// What stands on the line of a device: mostly a packet with an instruction; or a damaged one, one cut short, one inside a
+/// damaged one, one behind a front that promises far more, another device's status, noise.
 pub fn part(rng: &mut Rng, table: &[u8]) -> Vec<u8> {
     let mut packet = packet(rng, table);
     let id = packet[4];

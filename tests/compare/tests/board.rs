@@ -171,8 +171,8 @@ fn lives() {
     assert!(seen.long.iter().all(|&n| n > 40) && seen.nothing_taken > 1_000, "{seen:?}");
 }
 
-/// Any record, whoever left it so: any held bytes and any count, any table, any registered write, and any bytes past the count and
-/// in the packet buffer. [B2-B7 N6 N7 N9 N12]
+/// Any record, whoever left it so: any held bytes and any count, any table, any registered write, and any bytes past the count
+/// and in the packet buffer. [B2-B7 N6 N7 N9 N12]
 #[test]
 fn any_records() {
     let mut rng = Rng::new(101);
@@ -321,8 +321,8 @@ fn bad_checksums() {
     }
 }
 
-/// So many bytes held, so many that come, and the kind of the event in them. What lies behind held bytes and bytes taken stays, and
-/// the packet buffer beside a packet, as long as these are no more than a record holds. [B6 B7]
+/// So many bytes held, so many that come, and the kind of the event in them. What lies behind held bytes and bytes taken stays,
+/// and the packet buffer beside a packet, as long as these are no more than a record holds. [B6 B7]
 #[test]
 fn what_stays() {
     let mut rng = Rng::new(106);

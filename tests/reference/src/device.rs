@@ -147,8 +147,8 @@ pub fn carry_out_call(table: &mut [u8], registered: Registered, heard: Heard) ->
     Ok((waiting, registered))
 }
 
-/// Carries out on a table and a registered write that are accepted: what is to be said later, and the error number, which is there
-/// also where nothing is said.
+/// Carries out on a table and a registered write that are accepted: what is to be said later, and the error number, which is
+/// there also where nothing is said.
 pub(crate) fn carry_out(table: &mut Table, registered: &mut Registered, heard: Heard) -> (Waiting, u8) {
     let (id, level) = (table::own_id(table), table::return_level(table));
     let reaction = hear(table, registered, heard);

@@ -41,8 +41,8 @@ static void remove_stuffing(uint8_t *body, size_t n)
 }
 
 /*
- * A candidate's bytes side by side. One that begins in the held bytes and ends in the chunk is completed behind the held ones, which
- * become so many more; the packet buffer takes one for which they have no room.
+ * A candidate's bytes side by side. One that begins in the held bytes and ends in the chunk is completed behind the held ones, of
+ * which there are so many more then; the packet buffer takes one for which they have no room.
  */
 static const uint8_t *side_by_side(struct row *row, size_t at, size_t size, uint8_t *held, uint8_t *packet)
 {

@@ -326,7 +326,7 @@ leaf_test: $(LIBS) $(LEAF_LIBS) build/bin/line
 	@$(foreach leaf,$(LEAVES),$(call leaf_steps,$(leaf)) &&) true
 
 # The comparisons of the calls that make a checksum; the others, whose inputs are long, run over the first archive.
-SUMMED := cases checksum verdict encoder status exchange plain
+SUMMED := cases checksum board verdict encoder status exchange plain
 leaf_steps = $(call step,$(1)-header,header beside the archive over crc16_$(1)) \
     python3 tests/check_header.py include/mednukals.h build/lib/libmednukals_$(1).a && \
     $(call step,$(1)-rust,archive over crc16_$(1) beside the second implementation) \

@@ -8,8 +8,8 @@ APPLIED = re.compile(r"crates/(?:\w+/specs/Applied|\w+_applications/specs/\w+)\.
 BY_NAME = {"WellFormed", "Sound", "Plan", "Laws"}
 BEGINS = re.compile(r"(?:(?:abbrev|unfoldable|pub) )*(?P<sort>record |data )?(?P<name>[^\s(]+)")
 USES = re.compile(r"^(?:ghost )?use Rattle·(\w+)(?:·specs)?\.specs\.(\w+)\.\{(.*)\};?$", flags=re.M)
-# the parameters of a theorem that is not about one call's arguments: packet rules, a reader, a number
-GENERAL = re.compile(r"[^:]* (?:\((?:R : Rules|M : AnyReader)\) )*: (?:(?:Rules|AnyReader|ℕ) → )*Type [01](?: where)?$")
+# the parameters of a theorem that is not about one call's arguments: packet rules, a reader, the IDs of a protocol, a number
+GENERAL = re.compile(r"[^:]* (?:\((?:R : Rules|M : AnyReader|good : ℕ → Bool)\) )*: (?:(?:Rules|AnyReader|ℕ) → )*Type [01](?: where)?$")
 
 
 def read(path):

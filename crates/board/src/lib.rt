@@ -1,11 +1,12 @@
 // From the line to the table: a call takes bytes up to the next event and carries it out at once.
 use codes::ERROR_CHECKSUM;
 use device::CarriedOut;
-use device::Replied;
 use framer::Step;
 use framer::StepEvent;
+use instructions::MAX_REGISTERED;
 use instructions::RegisteredWrite;
 use packet_front::BROADCAST_ID;
+use packet_front::MAX_ID;
 use reactions::Heard;
 use registers::REG_ID;
 use status::Reply;
@@ -43,10 +44,15 @@ pub struct BoardStep {
     pub registered: RegisteredWrite,
 }
 
-// The most bytes that a reader holds, and the number for more.
+// The most bytes that a reader holds.
 const MAX_HELD: usize = 1030;
 
+// The numbers of the refusals.
 const BAD_READER: u8 = 25;
+
+const BAD_ID: u8 = 22;
+
+const BAD_REGISTERED: u8 = 23;
 
 pub const KIND_NONE: u8 = 0;
 
@@ -56,20 +62,19 @@ pub const KIND_BAD_CHECKSUM: u8 = 2;
 
 // The number of the caller's fault, 0 for none.
 fn refusal(held: usize, table: &[u8], registered: RegisteredWrite) -> u8
+    requires { ⌜ length (now table) ≡ tableSize ⌝ }
     ensures { λ r. ⌜ r ≡ numberOf (lentRefusal held (now (table .entry)) registered) ⌝ }
 {
     if MAX_HELD < held {
         return BAD_READER;
     }
-    match device::state_refusal(table, registered) {
-        Replied::Sent(_, _) => 0,
-        Replied::NotTable => 21,
-        Replied::BadId => 22,
-        Replied::BadRegistered => 23,
-        Replied::NoRoom => 24,
-        Replied::BadReplyId => 11,
-        Replied::LongReply => 12,
+    if MAX_ID < table[REG_ID] {
+        return BAD_ID;
     }
+    if MAX_REGISTERED < registered.count {
+        return BAD_REGISTERED;
+    }
+    0
 }
 
 // The instruction of a packet with this ID, or 0 if it is for another device.

@@ -18,8 +18,9 @@
  * A count above INT64_MAX, which no memory holds, is returned as INT64_MAX.
  *
  * The rest is tested on the archive or read off the code, and not proved, as is anything said of time. No function keeps state,
- * allocates, locks or blocks: each may be called from several threads and from interrupt handlers, also during another call. No
- * function calls itself, so stack use is bounded. The archive is for x86-64. The three inline functions are C, and tested.
+ * allocates, locks or blocks: calls on different memory may run at the same time, in several threads and in interrupt handlers;
+ * two calls on one board, reader or table may not. No function calls itself, so stack use is bounded. The archive is for x86-64.
+ * The three inline functions are C, and tested.
  */
 
 /*
@@ -207,7 +208,7 @@ enum {
  *         uint8_t status[DXL_MIN_REPLY];
  *         int64_t n = dxl_status(waiting, status, sizeof status);
  *         if (n > 0)
- *             send(status, (size_t)n);
+ *             send(status, (size_t)n);          // has to copy the bytes, or to return when they have left
  *         waiting.speaks = 0;
  *     }
  *
@@ -216,7 +217,7 @@ enum {
  *         if (step.kind == DXL_NO_EVENT)
  *             return 0;
  *         if (step.kind > DXL_BAD_CHECKSUM) {
- *             refused(step.kind);               // memory was overwritten: let go of the motor and start anew
+ *             refused(step.kind);               // memory was overwritten: let go of the motor, then all of power-up again
  *             return 0;
  *         }
  *         if (step.kind == DXL_PACKET && board.packet[7] != DXL_INST_STATUS)
@@ -224,7 +225,7 @@ enum {
  *         if (step.reply.speaks) {
  *             waiting = step.reply;             // in the place of one that still waits
  *             if (waiting.slot == 0)
- *                 slot_came();                  // at once; for any other slot the timer calls it
+ *                 slot_came();                  // at once; for any other slot the main loop calls it, at its time
  *         }
  *         return 1;
  *     }
@@ -246,12 +247,16 @@ enum {
  *     }
  *
  * The rules of this loop. Each goes wrong in silence if it is left out:
- * - Start the board. One that is all 0 is not refused: its ID is 0, and it answers nothing but Ping.
- * - Until a call gives DXL_NO_EVENT, feed again what it has not taken, even if nothing is left. Bytes that are not fed again are
- *   lost, and an event that is left in the held bytes comes out only with the next call.
- * - Report each gap, until a call gives DXL_NO_EVENT. Without that a packet behind noise may come out only when 1,030 bytes have
- *   followed the noise.
- * - Look at each step. Its reply is in no later one, and a call that was refused is refused again.
+ * - Start the board. One that is all 0 is not refused: its ID and its limits are 0, and until a Reboot it answers nothing but
+ *   Ping. Then bring back what you have stored of ROM: a started board has ID 1 and the widest limits.
+ * - Until a call gives DXL_NO_EVENT or is refused, feed again what it has not taken, even if nothing is left. Bytes that are not
+ *   fed again are lost, and an event that is left in the held bytes comes out only with the next call.
+ * - Report each gap, until a call gives DXL_NO_EVENT or is refused. Without that a packet behind noise may be carried out only when
+ *   1,030 bytes have followed the noise, long after the master has given it up.
+ * - Look at each step. No later one has its reply. A call that was refused is refused again: a loop that waits only for
+ *   DXL_NO_EVENT does not end.
+ * - Make all calls on a board from one place, dxl_measure on its table too. Where an interrupt handler makes one while the loop is
+ *   in another, nothing is promised: packets may be lost without a bad checksum.
  *
  * Between the calls the table may be read: what an instruction has changed shows there. A Reboot that was carried out is
  * step.instruction == DXL_INST_REBOOT && step.error == 0. Whatever comes over the line, none of these calls is refused.
@@ -270,9 +275,9 @@ struct dxl_registered {
 
 /* A reply. Silence is all 0 where a call returns it; to dxl_status any record may be passed. */
 struct dxl_reply {
-    uint8_t speaks;   /* 0: silence; any other mark: a status */
+    uint8_t speaks;   /* 0: silence; any other number: a status */
     uint8_t id;       /* the device's ID, from before the instruction */
-    uint8_t error;    /* the error byte, its alert as the hardware error was after the instruction */
+    uint8_t error;    /* the error byte; its alert is set if the hardware error was not 0 after the instruction */
     uint8_t count;    /* how many of bytes are sent, at most 8 */
     uint8_t bytes[8]; /* the data; 0 past the count. dxl_status ignores what is past it */
     size_t slot;      /* when to send it: 0 at once; for a Ping to all devices the own ID; for a Sync Read or Bulk Read the index
@@ -288,7 +293,7 @@ struct dxl_board {
     struct dxl_registered registered; /* the write that waits for Action */
 };
 
-/* What a call on a board has found and done. Of a refusal registered is as it was, and all else but kind is 0. */
+/* What a call on a board has found and done. After a refusal registered is as it was, and everything else but kind is 0. */
 struct dxl_board_step {
     size_t taken;                     /* how many bytes of the chunk were taken; 0 from a gap call */
     size_t count;                     /* DXL_PACKET: the packet's byte count as received, 10 to 1,031; otherwise 0 */
@@ -314,7 +319,8 @@ int64_t dxl_fresh(uint8_t *table, size_t n);
 
 /*
  * Stores what was measured: the present position (132 to 135, any signed value, lowest byte first) and the hardware error (70).
- * No other byte of the table changes, and whatever it holds is accepted.
+ * No other byte of the table changes, and whatever it holds is accepted. On a board's table call it between the board's calls, not
+ * during one.
  *
  * Returns 0, or -21 if n is not 136; then the table stays as it was.
  */
@@ -330,12 +336,13 @@ int64_t dxl_measure(uint8_t *table, size_t n, int32_t position, uint8_t hardware
  * registered     the registered write: all 0, and then what the last step has
  *
  * taken is the fewest bytes of the chunk after which the event is decided, which may be 0. Without an event all n bytes are taken.
- * Bytes are read as by dxl_reader_feed, and events carried out as by dxl_carry_out: what is said there of events, of the table and
- * of its limits holds here.
+ * Bytes are read as by dxl_reader_feed, and events carried out as by dxl_device, but for its status: what is said there of events,
+ * of the table and of its limits holds here.
  *
- * After DXL_PACKET, packet begins with header, ID and length as received, and from packet[7] on it has the body without stuffing.
- * The bytes behind that mean nothing. With any other kind packet stays as it was, or is all 0 where more than 1,030 bytes were
- * held and taken.
+ * After DXL_PACKET, packet begins with header, ID and length as received, and from packet[7] on it has the body without stuffing,
+ * also of a packet for another device. The body has count - 9 bytes, less one for each FF FF FD in it; the bytes behind it mean
+ * nothing. With any other kind packet stays as it was, or becomes all 0 where the bytes held before the call and those taken by it
+ * are more than 1,030 together.
  *
  * Refused with kind
  *   25  *count is above 1,030
@@ -347,12 +354,13 @@ struct dxl_board_step dxl_board_feed_parts(uint8_t held[DXL_MAX_HELD], size_t *c
                                            uint8_t packet[DXL_MAX_PACKET], uint8_t table[DXL_TABLE_BYTES],
                                            struct dxl_registered registered);
 
-/* The same where the line was silent for more than 1.5 ms: the next event in the held bytes, as no more bytes follow. With
+/* The same where the line was silent for more than 1.5 ms: the next event in the held bytes, which no more bytes will follow. With
  * DXL_NO_EVENT nothing is held any more. */
 struct dxl_board_step dxl_board_gap_parts(uint8_t held[DXL_MAX_HELD], size_t *count, uint8_t packet[DXL_MAX_PACKET],
                                           uint8_t table[DXL_TABLE_BYTES], struct dxl_registered registered);
 
-/* Makes a board ready, at power-up or anew: no bytes held, nothing registered, a fresh table. */
+/* Makes a board ready, at power-up or anew: no bytes held, nothing registered, a fresh table, with ID 1 and the widest limits. The
+ * library stores nothing over a power cut; docs/INTEGRATING.md, 'Power-up', brings ROM back. */
 static inline void dxl_board_start(struct dxl_board *board)
 {
     uint8_t *bytes = (uint8_t *)board;

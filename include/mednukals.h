@@ -207,6 +207,8 @@ enum {
  *     {
  *         uint8_t status[DXL_MIN_REPLY];
  *         int64_t n = dxl_status(waiting, status, sizeof status);
+ *         if (n < 0)
+ *             refused((int)-n);
  *         if (n > 0)
  *             send(status, (size_t)n);          // has to copy the bytes, or to return when they have left
  *         waiting.speaks = 0;
@@ -307,7 +309,7 @@ struct dxl_board_step {
 };
 
 /*
- * Fills a control table as it comes from the factory: every register has its fresh value, undefined bytes are 0. Of a board use
+ * Fills a control table as it comes from the factory: every register has its fresh value, undefined bytes are 0. For a board use
  * dxl_board_start, which clears the registered write too: where it stays, Action carries it out on the fresh table.
  *
  * A board with a model number or a firmware version of its own stores it after this call, in bytes 0 and 1 or in byte 6: no other

@@ -51,6 +51,8 @@ void slot_came(void)
 {
     uint8_t status[DXL_MIN_REPLY];
     int64_t n = dxl_status(waiting, status, sizeof status);
+    if (n < 0)
+        refused((int)-n);
     if (n > 0)
         send(status, (size_t)n);
     waiting.speaks = 0;

@@ -7,7 +7,7 @@ use mathlib.Core.Logic.{_⊎_, ⊎-elim, inl, inr}
 use mathlib.Core.Option.{none}
 use Prim.Native.Nat.{ℕ, _+_, _-_, _≤_, _<_}
 use native.Mathlib.Omega.{arith}
-use lib.IntN.{pos}
+use lib.IntN.{pos, negsuc}
 use lib.ListN.{length, take, drop, replicate}
 use borrow.Author.Tests.{leb-true, ltb-true}
 use Rattle.lists.specs.Numbers.{numberAt, bytesOf}
@@ -27,7 +27,7 @@ use Rattle.packet.specs.Verdict.{protocol2}
 use Rattle.packet.proofs.Laws.{laws}
 use Rattle.packet_rules.specs.Shape.{verdict as shapeVerdict}
 use Rattle.reader.specs.Records.{lent, leftIn, stepIn}
-use Rattle.registers.specs.Registers.{goalPosition, registers, permitsBy, everyByte}
+use Rattle.registers.specs.Registers.{deviceId, goalPosition, registers, permitsBy, everyByte}
 use Rattle.items.specs.Items.{valueAt, put}
 use Rattle.control_table.specs.Fresh.{freshened, freshTable, measured}
 use Rattle.table_rules.specs.Rules.{everyTouched, goalInside, limitsKept, writeRule}
@@ -42,7 +42,7 @@ use Rattle.in_step.specs.InStep.{Shown, hearing, boards, repliesOf, shownAfter,
 use Rattle.in_step.specs.Measured.{hears, measures, eventsIn, doing, jobsOf, InStepMeasured}
 use Rattle.in_step.proofs.Proved.{parts}
 use Rattle.reader_applications.specs.Demand3.{earlier, badPing, pingTo1, longFront, followed}
-use Rattle.board_applications.specs.Lives.{writeGoal, badPingTo2, rest, longest, fresh, begun, chunks, answers, found, Noisy, ForAnother, ByFeed, AsReader, Lives, InStepApplied, steps, Measuring, InStepMeasuredApplied}
+use Rattle.board_applications.specs.Lives.{writeGoal, badPingTo2, rest, longest, fresh, begun, chunks, answers, found, Noisy, ForAnother, pingTo2, writeId, pingTo9, filled, pieces, cleanPieces, Renamed, holding, ByFeed, AsReader, Lives, InStepApplied, steps, Measuring, InStepMeasuredApplied}
 
 -- ---- what is asked
 
@@ -204,6 +204,106 @@ for-another t =
           fresh-board (writeGoal ∷ pingTo1 ∷ []) 1 clean-taken clean-finished;
     }
 
+-- ---- another ID
+
+renamed-are : EachPacket protocol2 (writeId ∷ pingTo9 ∷ [])
+unfolding reduceIf shift shifts crcByte crcFrom wellAfter lengthOf bodyOf checksumRight frontAgrees lengthAgrees shapeVerdict
+renamed-are = (refl, (refl, tt))
+
+renamed-good : AllWellFormed protocol2 (writeId ∷ pingTo9 ∷ [])
+renamed-good = all-well protocol2 laws (writeId ∷ pingTo9 ∷ []) renamed-are
+
+filled-board : boards .Fresh filled
+unfolding lentRefusal stateRefusal registers freshened put bytesOf
+filled-board = (refl, refl)
+
+pieces-taken : took (model protocol2) [] (since pieces 6) ≡ (longFront ++ pingTo2) ++ (joined (writeId ∷ pingTo9 ∷ []) ++ pingTo1)
+unfolding after took first fed call reduceIf shift shifts crcByte crcFrom wellAfter lengthOf bodyOf checksumRight frontAgrees lengthAgrees shapeVerdict
+pieces-taken = refl
+
+pieces-finished : Finished (model protocol2) [] pieces 6
+unfolding after first fed call reduceIf shift shifts crcByte crcFrom wellAfter lengthOf bodyOf checksumRight frontAgrees lengthAgrees shapeVerdict
+pieces-finished = (4, omega arith, refl)
+
+pieces-apart : reachesAcross protocol2 (longFront ++ pingTo2) (joined (writeId ∷ pingTo9 ∷ []) ++ pingTo1) ≡ false
+unfolding reachesAcross reduceIf shift shifts crcByte crcFrom wellAfter lengthOf bodyOf checksumRight frontAgrees lengthAgrees shapeVerdict
+pieces-apart = refl
+
+pieces-read : reading protocol2 ((longFront ++ pingTo2) ++ (joined (writeId ∷ pingTo9 ∷ []) ++ pingTo1))
+    ≡ (7, packet pingTo2) ∷ (17, packet writeId) ∷ (30, packet pingTo9) ∷ (40, packet pingTo1) ∷ []
+unfolding readFuel readFrom reading reduceIf shift shifts crcByte crcFrom wellAfter lengthOf bodyOf checksumRight frontAgrees lengthAgrees shapeVerdict
+pieces-read = refl
+
+clean-pieces-taken : took (model protocol2) [] (since cleanPieces 2) ≡ joined (writeId ∷ pingTo9 ∷ [])
+unfolding after took first fed call reduceIf shift shifts crcByte crcFrom wellAfter lengthOf bodyOf checksumRight frontAgrees lengthAgrees shapeVerdict
+clean-pieces-taken = refl
+
+clean-pieces-finished : Finished (model protocol2) [] cleanPieces 2
+unfolding after first fed call reduceIf shift shifts crcByte crcFrom wellAfter lengthOf bodyOf checksumRight frontAgrees lengthAgrees shapeVerdict
+clean-pieces-finished = (1, omega arith, refl)
+
+renamed-heard : hearing freshTable longest (packet writeId ∷ packet pingTo9 ∷ [])
+    ≡ record { table = put freshTable deviceId 9; registered = longest; replies = status 1 0x00 [] 0 ∷ status 9 0x00 (0x06 ∷ 0x04 ∷ 0x26 ∷ []) 0 ∷ [] }
+unfolding hearing unstuffAfter registers permitsBy numberAt valueAt bytesOf put freshened everyByte everyTouched goalInside limitsKept writeRule write heardInstruction executed reduceIf shift shifts crcByte crcFrom wellAfter lengthOf bodyOf checksumRight frontAgrees lengthAgrees shapeVerdict
+renamed-heard = refl
+
+ids : (ownId freshTable ≡ 1) × (ownId (put freshTable deviceId 9) ≡ 9) × (idOf pingTo2 ≡ 2) × (idOf pingTo1 ≡ 1)
+unfolding registers freshened put bytesOf
+ids = (refl, refl, refl, refl)
+
+module _ (events : List Found) (are : events ≡ (7, packet pingTo2) ∷ (17, packet writeId) ∷ (30, packet pingTo9) ∷ (40, packet pingTo1) ∷ [])
+    (out : AllOut events 17 (writeId ∷ pingTo9 ∷ [])) where
+  which-piece : (p : ℕ) (e : Event) → List·Memᴰ (p, e) events
+      → ((p ≡ 7) × (e ≡ packet pingTo2)) ⊎ ((p ≡ 17) ⊎ ((p ≡ 30) ⊎ ((p ≡ 40) × (e ≡ packet pingTo1))))
+  which-piece p e m =
+      ⊎-elim (λ i. inl (ap (λ (f : Found). f .0) i, ap (λ (f : Found). f .1) i))
+      (λ n. ⊎-elim (λ i. inr (inl (ap (λ (f : Found). f .0) i)))
+      (λ k. ⊎-elim (λ i. inr (inr (inl (ap (λ (f : Found). f .0) i))))
+      (λ l. ⊎-elim (λ i. inr (inr (inr (ap (λ (f : Found). f .0) i, ap (λ (f : Found). f .1) i)))) (λ none-left. absurd (List·Memᴰ·not-nil none-left))
+      (List·Memᴰ·cases-cons l)) (List·Memᴰ·cases-cons k)) (List·Memᴰ·cases-cons n))
+      (List·Memᴰ·cases-cons (subst (λ (l : List Found). List·Memᴰ {A = Found} (p, e) l) are m))
+
+  sooner-to-2 : (p : ℕ) (e : Event) → List·Memᴰ (p, e) (out .sooner) → idOfEvent e ≡ 2
+  sooner-to-2 p e m =
+      let h = out .begin-sooner p e m in
+      ⊎-elim (λ i. ap idOfEvent (i .1) ∙ ids .2)
+      (λ i. ⊎-elim (λ j. absurd (omega (arith, j))) (λ k. ⊎-elim (λ j. absurd (omega (arith, j))) (λ j. absurd (omega (arith, j .0))) k) i)
+      (which-piece p e (subst (λ (l : List Found). List·Memᴰ {A = Found} (p, e) l) (sym (out .are)) (Memᴰ·append-left _ m)))
+
+  later-to-1 : (p : ℕ) (e : Event) → List·Memᴰ (p, e) (out .later) → idOfEvent e ≡ 1
+  later-to-1 p e m =
+      let h = out .begin-later p e m in
+      ⊎-elim (λ i. absurd (omega (arith, i .0)))
+      (λ i. ⊎-elim (λ j. absurd (omega (arith, j))) (λ k. ⊎-elim (λ j. absurd (omega (arith, j))) (λ j. ap idOfEvent (j .1) ∙ ids .3) k) i)
+      (which-piece p e (subst (λ (l : List Found). List·Memᴰ {A = Found} (p, e) l) (sym (out .are))
+      (Memᴰ·append-right (out .sooner) (Memᴰ·append-right ((17, packet writeId) ∷ (30, packet pingTo9) ∷ []) m))))
+
+new-id : ownId (hearing freshTable longest (packet writeId ∷ packet pingTo9 ∷ []) .table) ≡ 9
+new-id = ap (λ (x : Shown). ownId (x .table)) renamed-heard ∙ ids .1
+
+renamed : InStep → Renamed
+unfolding after
+renamed t =
+    let across = across-decided protocol2 laws (longFront ++ pingTo2) (joined (writeId ∷ pingTo9 ∷ []) ++ pingTo1) .0 pieces-apart in
+    let up = t .in-step filled filled-board [] (inl refl) pieces 6 (longFront ++ pingTo2) (writeId ∷ pingTo9 ∷ []) pingTo1 pieces-taken renamed-good across
+    .by-gap pieces-finished in
+    let events = reading protocol2 ((longFront ++ pingTo2) ++ (joined (writeId ∷ pingTo9 ∷ []) ++ pingTo1)) in
+    let sooner : NoneFor (ownId freshTable) (up .out .sooner) = λ p e m.
+    let i = sooner-to-2 events pieces-read (up .out) p e m in
+    (λ z. absurd (omega (arith, i, z, ids .0)), λ z. absurd (omega (arith, i, z))) in
+    let later : NoneFor (ownId (hearing freshTable longest (packet writeId ∷ packet pingTo9 ∷ []) .table)) (up .out .later) = λ p e m.
+    let i = later-to-1 events pieces-read (up .out) p e m in
+    (λ z. absurd (omega (arith, i, z, new-id)), λ z. absurd (omega (arith, i, z))) in
+    let only = up .only-packets sooner later in
+    record {
+      only-packets = only;
+      table = ap (λ (x : Shown). x .table) (only ∙ renamed-heard);
+      same-table = up .same-state (λ p w m. sooner p (packet w) m) (λ p w m. later p (packet w) m) .table;
+      replies = ap (λ (x : Shown). x .replies) (only ∙ renamed-heard);
+      alike = t .alike filled fresh refl refl (since pieces 6) events (longFront ++ pingTo2) (writeId ∷ pingTo9 ∷ []) renamed-good up sooner later fresh-board cleanPieces 2
+          clean-pieces-taken clean-pieces-finished;
+    }
+
 -- ---- without a gap
 
 longer : took (model protocol2) [] (since (followed longFront pingTo1 1030) 0) ≡ longFront ++ (joined (pingTo1 ∷ []) ++ replicate 1020 0)
@@ -279,27 +379,41 @@ nothing-given : given boards fresh (feed (take 7 pingTo1) ∷ gap ∷ []) ≡ []
 unfolding given after outcome lentRefusal stateRefusal readerLeft first fed call registers freshened put bytesOf reduceIf shift shifts crcByte crcFrom wellAfter lengthOf bodyOf checksumRight frontAgrees lengthAgrees shapeVerdict
 nothing-given = refl
 
+holding-board : (filler : ℕ) → boardRefusal (holding filler) ≡ none
+unfolding lentRefusal stateRefusal registers freshened put bytesOf
+holding-board filler = refl
+
+held-given : given boards (holding 0xAA) (feed (drop 7 pingTo1) ∷ gap ∷ feed writeGoal ∷ []) ≡ packet pingTo1 ∷ packet writeGoal ∷ []
+unfolding given after outcome lentRefusal stateRefusal readerLeft first fed call hearing unstuffAfter registers permitsBy numberAt valueAt bytesOf put freshened everyByte everyTouched goalInside limitsKept writeRule write heardInstruction executed reduceIf shift shifts crcByte crcFrom wellAfter lengthOf bodyOf checksumRight frontAgrees lengthAgrees shapeVerdict
+held-given = refl
+
 pub in-step-applied : InStepApplied
 in-step-applied t =
     record {
       noisy = noisy t;
       for-another = for-another t;
+      renamed = renamed t;
       by-feed = by-feed t;
       as-reader = as-reader t;
       each-once = t .each-once fresh (fresh-board .1) (feed (take 7 pingTo1) ∷ gap ∷ []) ∙ ap (λ (l : List Event). hearing freshTable longest l) nothing-given;
+      each-once-held = t .each-once (holding 0xAA) (holding-board 0xAA) (feed (drop 7 pingTo1) ∷ gap ∷ feed writeGoal ∷ [])
+          ∙ ap (λ (l : List Event). hearing freshTable longest l) held-given;
+      never-refused-mixed = t .never-refused filled filled-board (gap ∷ feed writeId ∷ gap ∷ feed pingTo9 ∷ []);
       never-refused = t .never-refused fresh fresh-board (since (chunks badPing) 1);
       stays-clean = t .stays-clean fresh refl earlier;
+      stays-clean-held = t .stays-clean (holding 0) refl (feed (drop 7 pingTo1) ∷ feed rest ∷ []);
+      as-a-reader-held = t .as-a-reader (holding 0) refl (holding-board 0) gap;
       as-a-reader = t .as-a-reader fresh refl (fresh-board .1) (feed (pingTo1 ++ pingTo1));
     }
 
--- ---- a measurement between two events
+-- ---- measurements within a packet and between two
 
-jobs-are : jobsOf fresh steps ≡ hears (packet writeGoal) ∷ measures (pos 166) 4 ∷ hears (packet pingTo1) ∷ []
+jobs-are : jobsOf fresh steps ≡ measures (negsuc 4095) 1 ∷ hears (packet writeGoal) ∷ measures (pos 166) 4 ∷ hears (packet pingTo1) ∷ []
 unfolding jobsOf after outcome lentRefusal stateRefusal readerLeft first fed call registers freshened put bytesOf hearing unstuffAfter permitsBy numberAt valueAt everyByte everyTouched goalInside limitsKept writeRule write heardInstruction executed reduceIf shift shifts crcByte crcFrom wellAfter lengthOf bodyOf checksumRight frontAgrees lengthAgrees shapeVerdict
 jobs-are = refl
 
-done : doing freshTable longest (hears (packet writeGoal) ∷ measures (pos 166) 4 ∷ hears (packet pingTo1) ∷ [])
-    ≡ record { table = measured (put freshTable goalPosition 512) (pos 166) 4; registered = longest; replies = status 1 0x00 [] 0 ∷ status 1 0x80 (0x06 ∷ 0x04 ∷ 0x26 ∷ []) 0 ∷ [] }
+done : doing freshTable longest (measures (negsuc 4095) 1 ∷ hears (packet writeGoal) ∷ measures (pos 166) 4 ∷ hears (packet pingTo1) ∷ [])
+    ≡ record { table = measured (put (measured freshTable (negsuc 4095) 1) goalPosition 512) (pos 166) 4; registered = longest; replies = status 1 0x80 [] 0 ∷ status 1 0x80 (0x06 ∷ 0x04 ∷ 0x26 ∷ []) 0 ∷ [] }
 unfolding doing hearing unstuffAfter registers permitsBy numberAt valueAt bytesOf put freshened everyByte everyTouched goalInside limitsKept writeRule write heardInstruction executed reduceIf shift shifts crcByte crcFrom wellAfter lengthOf bodyOf checksumRight frontAgrees lengthAgrees shapeVerdict
 done = refl
 

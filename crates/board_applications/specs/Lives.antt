@@ -4,7 +4,7 @@ use mathlib.Core.Path.{_≡_}
 use mathlib.Core.List.{List, [], _∷_, _++_, List·Memᴰ}
 use mathlib.Core.Option.{none}
 use Prim.Native.Nat.{ℕ, _+_, _-_, _≤_, _<_}
-use lib.IntN.{pos}
+use lib.IntN.{pos, negsuc}
 use lib.ListN.{length, take, drop, replicate}
 use Rattle.reading.specs.Reading.{Event, packet, badChecksum, Found, reading}
 use Rattle.reading.specs.Calls.{Call, feed, gap}
@@ -12,7 +12,7 @@ use Rattle.reading.specs.Lists.{model, after, took, given}
 use Rattle.reading.specs.Promise.{since, givenAt}
 use Rattle.packet.specs.Verdict.{protocol2}
 use Rattle.reader.specs.Records.{lent, leftBy}
-use Rattle.registers.specs.Registers.{goalPosition}
+use Rattle.registers.specs.Registers.{deviceId, goalPosition}
 use Rattle.items.specs.Items.{put}
 use Rattle.control_table.specs.Fresh.{freshTable, measured}
 use Rattle.instructions.specs.declared.RegisteredWrite.{RegisteredWrite}
@@ -83,6 +83,41 @@ ByFeed =
     (sooner : List Event) × (later : List Event)
     × (shownAfter begun (since (followed longFront pingTo1 1030) 0) ≡ hearing freshTable longest (sooner ++ (packet pingTo1 ∷ later)))
 
+-- ---- another ID, behind noise that holds a packet to another device; only the gap calls give events
+
+abbrev pub pingTo2 : List ℕ
+pingTo2 = 0xFF ∷ 0xFF ∷ 0xFD ∷ 0x00 ∷ 0x02 ∷ 0x03 ∷ 0x00 ∷ 0x01 ∷ 0x19 ∷ 0x72 ∷ []
+
+-- Write of 9 at 7, to 1
+abbrev pub writeId : List ℕ
+writeId = 0xFF ∷ 0xFF ∷ 0xFD ∷ 0x00 ∷ 0x01 ∷ 0x06 ∷ 0x00 ∷ 0x03 ∷ 0x07 ∷ 0x00 ∷ 0x09 ∷ 0x84 ∷ 0xE3 ∷ []
+
+abbrev pub pingTo9 : List ℕ
+pingTo9 = 0xFF ∷ 0xFF ∷ 0xFD ∷ 0x00 ∷ 0x09 ∷ 0x03 ∷ 0x00 ∷ 0x01 ∷ 0x1A ∷ 0x6E ∷ []
+
+-- a fresh board whose bytes are not 0
+abbrev pub filled : Board
+filled = boardOf (lent (replicate 1030 0xAA) 0) freshTable longest
+
+-- a front that promises the longest packet, and a Ping to 2; then the packets; then a Ping to 1, which is another device by then
+abbrev pub pieces : List (List ℕ)
+pieces = (longFront ++ take 4 pingTo2) ∷ (drop 4 pingTo2 ++ (writeId ++ take 3 pingTo9)) ∷ (drop 3 pingTo9 ++ pingTo1) ∷ []
+
+-- the packets alone, with what is not taken fed again
+abbrev pub cleanPieces : List (List ℕ)
+cleanPieces = take 5 writeId ∷ (drop 5 writeId ++ take 2 pingTo9) ∷ take 2 pingTo9 ∷ drop 2 pingTo9 ∷ []
+
+pub record Renamed : Type 0 where
+  pub only-packets : shownAfter filled (since pieces 6) ≡ hearing freshTable longest (packet writeId ∷ packet pingTo9 ∷ [])
+  pub table : shownAfter filled (since pieces 6) .table ≡ put freshTable deviceId 9
+  pub same-table : shownAfter filled (since pieces 6) .table ≡ hearing freshTable longest (packet writeId ∷ packet pingTo9 ∷ []) .table
+  pub replies : shownAfter filled (since pieces 6) .replies ≡ status 1 0x00 [] 0 ∷ status 9 0x00 (0x06 ∷ 0x04 ∷ 0x26 ∷ []) 0 ∷ []
+  pub alike : shownAfter filled (since pieces 6) ≡ shownAfter fresh (since cleanPieces 2)
+
+-- boards that hold seven bytes of a Ping; 0 follows them in the second
+abbrev pub holding : ℕ → Board
+holding filler = boardOf (lent (take 7 pingTo1 ++ replicate 1023 filler) 7) freshTable longest
+
 -- demand 3, of the board itself
 pub record AsReader : Type 0 where
   pub counted : took boards begun (since (chunks badPing) 1) ≡ took (model protocol2) [] (since (chunks badPing) 1)
@@ -99,28 +134,37 @@ pub record AsReader : Type 0 where
 pub record Lives : Type 0 where
   pub noisy : Noisy
   pub for-another : ForAnother
+  pub renamed : Renamed
   pub by-feed : ByFeed
   pub as-reader : AsReader
   -- any calls: a gap call on the first seven bytes of a Ping hears nothing
   pub each-once : shownAfter fresh (feed (take 7 pingTo1) ∷ gap ∷ []) ≡ hearing freshTable longest []
+  -- feeding calls behind a gap, on a board that holds bytes
+  pub each-once-held : shownAfter (holding 0xAA) (feed (drop 7 pingTo1) ∷ gap ∷ feed writeGoal ∷ [])
+      ≡ hearing freshTable longest (packet pingTo1 ∷ packet writeGoal ∷ [])
+  pub never-refused-mixed : boardRefusal (after boards filled (gap ∷ feed writeId ∷ gap ∷ feed pingTo9 ∷ [])) ≡ none
   pub never-refused : boardRefusal (after boards fresh (since (chunks badPing) 1)) ≡ none
   -- where 0 followed the held bytes it does afterwards, and the reader is left as by its own calls
   pub stays-clean : drop (begun .reader .count) (begun .reader .bytes) ≡ replicate (1030 - begun .reader .count) 0
+  pub stays-clean-held : drop (after boards (holding 0) (feed (drop 7 pingTo1) ∷ feed rest ∷ []) .reader .count)
+      (after boards (holding 0) (feed (drop 7 pingTo1) ∷ feed rest ∷ []) .reader .bytes)
+      ≡ replicate (1030 - after boards (holding 0) (feed (drop 7 pingTo1) ∷ feed rest ∷ []) .reader .count) 0
+  pub as-a-reader-held : outcome (holding 0) gap .board .reader ≡ leftBy (lent (take 7 pingTo1 ++ replicate 1023 0) 7) gap
   pub as-a-reader : outcome fresh (feed (pingTo1 ++ pingTo1)) .board .reader ≡ leftBy (lent (replicate 1030 0) 0) (feed (pingTo1 ++ pingTo1))
 
 abbrev pub InStepApplied : Type 0
 InStepApplied = InStep → Lives
 
--- ---- a measurement between two events
+-- ---- measurements within a packet and between two
 
 abbrev pub steps : List LoopStep
-steps = line (feed writeGoal) ∷ LoopStep·measured (pos 166) 4 ∷ line (feed pingTo1) ∷ line gap ∷ []
+steps = line (feed (take 9 writeGoal)) ∷ LoopStep·measured (negsuc 4095) 1 ∷ line (feed (drop 9 writeGoal)) ∷ LoopStep·measured (pos 166) 4 ∷ line (feed pingTo1) ∷ line gap ∷ []
 
 pub record Measuring : Type 0 where
-  -- the position and the hardware error are stored behind the goal position, and the Ping is answered with the alert
-  pub table : boardAfter fresh steps .table ≡ measured (put freshTable goalPosition 512) (pos 166) 4
-  pub replies : repliesIn fresh steps ≡ status 1 0x00 [] 0 ∷ status 1 0x80 (0x06 ∷ 0x04 ∷ 0x26 ∷ []) 0 ∷ []
-  pub heard : packet writeGoal ∷ packet pingTo1 ∷ [] ≡ given boards fresh (feed writeGoal ∷ feed pingTo1 ∷ gap ∷ [])
+  -- what is measured last, and the goal position, are stored, and the Ping is answered with the alert
+  pub table : boardAfter fresh steps .table ≡ measured (put (measured freshTable (negsuc 4095) 1) goalPosition 512) (pos 166) 4
+  pub replies : repliesIn fresh steps ≡ status 1 0x80 [] 0 ∷ status 1 0x80 (0x06 ∷ 0x04 ∷ 0x26 ∷ []) 0 ∷ []
+  pub heard : packet writeGoal ∷ packet pingTo1 ∷ [] ≡ given boards fresh (feed (take 9 writeGoal) ∷ feed (drop 9 writeGoal) ∷ feed pingTo1 ∷ gap ∷ [])
   pub never-refused : boardRefusal (boardAfter fresh steps) ≡ none
 
 abbrev pub InStepMeasuredApplied : Type 0

@@ -39,7 +39,7 @@ use Rattle.device.specs.Device.{executed}
 use Rattle.device.specs.Answers.{stateRefusal}
 use Rattle.board.specs.Board.{Board, readerLeft, lentRefusal, boardRefusal, outcome}
 use Rattle.in_step.specs.InStep.{Shown, hearing, boards, repliesOf, shownAfter, idOfEvent, NoneFor, NoPacketFor, CaughtUp, NotBehind, InStep}
-use Rattle.in_step.specs.Measured.{hears, measures, eventsIn, doing, jobsOf, InStepMeasured}
+use Rattle.in_step.specs.Measured.{hears, measures, eventsIn, doing, takenIn, jobsOf, InStepMeasured}
 use Rattle.in_step.proofs.Proved.{parts}
 use Rattle.reader_applications.specs.Demand3.{earlier, badPing, pingTo1, longFront, followed}
 use Rattle.board_applications.specs.Lives.{writeGoal, badPingTo2, rest, longest, fresh, begun, chunks, answers, found, Noisy, ForAnother, pingTo2, writeId, pingTo9, filled, pieces, cleanPieces, Renamed, holding, ByFeed, AsReader, Lives, InStepApplied, steps, Measuring, InStepMeasuredApplied}
@@ -200,8 +200,8 @@ for-another t =
     record {
       only-packets = up .only-packets n m
           ∙ ap₂ (λ (t : List ℕ) (w : RegisteredWrite). hearing t w (packet writeGoal ∷ packet pingTo1 ∷ [])) (same-start .0) (same-start .1);
-      alike = t .alike begun fresh (same-start .0) (same-start .1) (since (chunks badPingTo2) 1) events badPingTo2 (writeGoal ∷ pingTo1 ∷ []) good up n m
-          fresh-board (writeGoal ∷ pingTo1 ∷ []) 1 clean-taken clean-finished;
+      alike = t .alike begun fresh (since (chunks badPingTo2) 1) events badPingTo2 (writeGoal ∷ pingTo1 ∷ []) good up n m
+          fresh-board earlier at-start (writeGoal ∷ pingTo1 ∷ []) 1 clean-taken clean-finished refl refl;
     }
 
 -- ---- another ID
@@ -300,8 +300,8 @@ renamed t =
       table = ap (λ (x : Shown). x .table) (only ∙ renamed-heard);
       same-table = up .same-state (λ p w m. sooner p (packet w) m) (λ p w m. later p (packet w) m) .table;
       replies = ap (λ (x : Shown). x .replies) (only ∙ renamed-heard);
-      alike = t .alike filled fresh refl refl (since pieces 6) events (longFront ++ pingTo2) (writeId ∷ pingTo9 ∷ []) renamed-good up sooner later fresh-board cleanPieces 2
-          clean-pieces-taken clean-pieces-finished;
+      alike = t .alike filled fresh (since pieces 6) events (longFront ++ pingTo2) (writeId ∷ pingTo9 ∷ []) renamed-good up sooner later fresh-board [] (inl refl) cleanPieces 2
+          clean-pieces-taken clean-pieces-finished refl refl;
     }
 
 -- ---- without a gap
@@ -412,6 +412,10 @@ jobs-are : jobsOf fresh steps ≡ measures (negsuc 4095) 1 ∷ hears (packet wri
 unfolding jobsOf after outcome lentRefusal stateRefusal readerLeft first fed call registers freshened put bytesOf hearing unstuffAfter permitsBy numberAt valueAt everyByte everyTouched goalInside limitsKept writeRule write heardInstruction executed reduceIf shift shifts crcByte crcFrom wellAfter lengthOf bodyOf checksumRight frontAgrees lengthAgrees shapeVerdict
 jobs-are = refl
 
+taken-are : takenIn fresh steps ≡ writeGoal ++ (pingTo1 ++ [])
+unfolding takenIn after outcome lentRefusal stateRefusal readerLeft first fed call registers freshened put bytesOf hearing unstuffAfter permitsBy numberAt valueAt everyByte everyTouched goalInside limitsKept writeRule write heardInstruction executed reduceIf shift shifts crcByte crcFrom wellAfter lengthOf bodyOf checksumRight frontAgrees lengthAgrees shapeVerdict
+taken-are = refl
+
 done : doing freshTable longest (measures (negsuc 4095) 1 ∷ hears (packet writeGoal) ∷ measures (pos 166) 4 ∷ hears (packet pingTo1) ∷ [])
     ≡ record { table = measured (put (measured freshTable (negsuc 4095) 1) goalPosition 512) (pos 166) 4; registered = longest; replies = status 1 0x80 [] 0 ∷ status 1 0x80 (0x06 ∷ 0x04 ∷ 0x26 ∷ []) 0 ∷ [] }
 unfolding doing hearing unstuffAfter registers permitsBy numberAt valueAt bytesOf put freshened everyByte everyTouched goalInside limitsKept writeRule write heardInstruction executed reduceIf shift shifts crcByte crcFrom wellAfter lengthOf bodyOf checksumRight frontAgrees lengthAgrees shapeVerdict
@@ -424,5 +428,7 @@ in-step-measured-applied t =
       table = ap (λ (x : Shown). x .table) e;
       replies = ap (λ (x : Shown). x .replies) e;
       heard = ap eventsIn (sym jobs-are) ∙ t .same-heard fresh (fresh-board .1) steps;
+      taken = sym taken-are ∙ t .same-taken fresh (fresh-board .1) steps;
+      reader = t .same-reader fresh (fresh-board .1) steps;
       never-refused = t .never-refused fresh (fresh-board .1) steps;
     }

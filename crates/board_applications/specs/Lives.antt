@@ -75,7 +75,7 @@ pub record Noisy : Type 0 where
 -- with one to another: only the packets are answered, and a board on a clean line ends alike
 pub record ForAnother : Type 0 where
   pub only-packets : shownAfter begun (since (chunks badPingTo2) 1) ≡ hearing freshTable longest (packet writeGoal ∷ packet pingTo1 ∷ [])
-  pub alike : shownAfter begun (since (chunks badPingTo2) 1) ≡ shownAfter fresh (since (writeGoal ∷ pingTo1 ∷ []) 1)
+  pub alike : shownAfter begun (since (chunks badPingTo2) 1) ≡ shownAfter begun (since (writeGoal ∷ pingTo1 ∷ []) 1)
 
 -- without a gap, once 1,030 bytes have followed a front that promises the longest packet
 abbrev pub ByFeed : Type 0
@@ -165,6 +165,9 @@ pub record Measuring : Type 0 where
   pub table : boardAfter fresh steps .table ≡ measured (put (measured freshTable (negsuc 4095) 1) goalPosition 512) (pos 166) 4
   pub replies : repliesIn fresh steps ≡ status 1 0x80 [] 0 ∷ status 1 0x80 (0x06 ∷ 0x04 ∷ 0x26 ∷ []) 0 ∷ []
   pub heard : packet writeGoal ∷ packet pingTo1 ∷ [] ≡ given boards fresh (feed (take 9 writeGoal) ∷ feed (drop 9 writeGoal) ∷ feed pingTo1 ∷ gap ∷ [])
+  -- the bytes taken and the reader are those of the calls alone
+  pub taken : writeGoal ++ (pingTo1 ++ []) ≡ took boards fresh (feed (take 9 writeGoal) ∷ feed (drop 9 writeGoal) ∷ feed pingTo1 ∷ gap ∷ [])
+  pub reader : boardAfter fresh steps .reader ≡ after boards fresh (feed (take 9 writeGoal) ∷ feed (drop 9 writeGoal) ∷ feed pingTo1 ∷ gap ∷ []) .reader
   pub never-refused : boardRefusal (boardAfter fresh steps) ≡ none
 
 abbrev pub InStepMeasuredApplied : Type 0

@@ -99,14 +99,15 @@ in-step =
           promised (after boards b earlier) (n .0) (n .1 ∙ fresh protocol2 laws earlier start) chunks g noise packets rest is good across;
       each-once = λ b legal cs. each-once cs b legal;
       demand-3 = call-promises protocol2 laws boards (λ b. boardRefusal b ≡ none) (λ b. heldIn (b .reader)) follows .demand-3;
-      alike = λ b clean same-table same-registered cs events noise packets good up n m is-fresh chunks g is f.
+      alike = λ b clean cs events noise packets good up n m is-fresh earlier start chunks g is f same-table same-registered.
           let s = follows .fresh clean is-fresh in
+          let k = follows-after protocol2 boards (λ b. boardRefusal b ≡ none) (λ b. heldIn (b .reader)) follows clean [] earlier (s .0) (s .1) in
           let line = call-promises protocol2 laws boards (λ b. boardRefusal b ≡ none) (λ b. heldIn (b .reader)) follows .clean-line
-          clean is-fresh [] (inl refl) chunks g packets good is f in
+          clean is-fresh earlier start chunks g packets good is f in
           up .only-packets n m
           ∙ ap₂ (λ (t : List ℕ) (w : RegisteredWrite). hearing t w (map packet packets)) same-table same-registered
-          ∙ ap (λ (l : List Event). hearing (clean .table) (clean .registered) l) (sym (line .1))
-          ∙ sym (each-once (since chunks g) clean (s .0));
+          ∙ ap (λ (l : List Event). hearing (after boards clean earlier .table) (after boards clean earlier .registered) l) (sym (line .1))
+          ∙ sym (each-once (since chunks g) (after boards clean earlier) (k .0));
       never-refused = λ b is-fresh cs.
           let s = follows .fresh b is-fresh in
           follows-after protocol2 boards (λ b. boardRefusal b ≡ none) (λ b. heldIn (b .reader)) follows b [] cs (s .0) (s .1) .0;

@@ -113,9 +113,9 @@ pub record NotBehind (b : Board) (chunks : List (List ℕ)) (g : ℕ) (noise : L
 abbrev pub Clean : Board → Type 0
 Clean b = drop (b .reader .count) (b .reader .bytes) ≡ replicate (1030 - b .reader .count) 0
 
--- For every board that is not refused, and every list of feeding and gap calls on it from a fresh start or a finished gap, whatever was
--- fed and however it was cut: let the bytes that they take, by the packet rules, be any noise, then well-formed packets, then any bytes,
--- and let nothing well-formed reach from the noise beyond it. [B9-B11]
+-- For every board that is not refused, from a fresh start or a finished gap, and every list of feeding calls and then gap calls on it,
+-- whatever was fed and however it was cut: let the bytes that they take, by the packet rules, be any noise, then well-formed packets,
+-- then any bytes, and let nothing well-formed reach from the noise beyond it. [B9-B11]
 pub record InStep : Type 0 where
   pub in-step : (b : Board) → boards .Fresh b → (earlier : List Call) → AtStart (model protocol2) [] earlier
       → (chunks : List (List ℕ)) (g : ℕ) (noise : List ℕ) (packets : List (List ℕ)) (rest : List ℕ)
@@ -127,12 +127,12 @@ pub record InStep : Type 0 where
   pub demand-3 : Demand3 protocol2 boards
   -- Two boards that were alike are alike again: one has caught up behind a noisy line, with nothing else for it in the noise and after
   -- the packets; the other took the packets from a clean line, however cut, and finished the gap. [B11]
-  pub alike : (b clean : Board) → b .table ≡ clean .table → b .registered ≡ clean .registered
+  pub alike : (b clean : Board)
       → (cs : List Call) (events : List Found) (noise : List ℕ) (packets : List (List ℕ)) → AllWellFormed protocol2 packets
       → (up : CaughtUp b cs events noise packets) → NoneFor (ownId (b .table)) (up .out .sooner)
       → NoneFor (ownId (hearing (b .table) (b .registered) (map packet packets) .table)) (up .out .later)
-      → boards .Fresh clean → (chunks : List (List ℕ)) (g : ℕ) → took (model protocol2) [] (since chunks g) ≡ joined packets
-      → Finished (model protocol2) [] chunks g → shownAfter b cs ≡ shownAfter clean (since chunks g)
+      → boards .Fresh clean → (earlier : List Call) → AtStart (model protocol2) [] earlier → (chunks : List (List ℕ)) (g : ℕ) → took (model protocol2) [] (since chunks g) ≡ joined packets
+      → Finished (model protocol2) [] chunks g → b .table ≡ after boards clean earlier .table → b .registered ≡ after boards clean earlier .registered → shownAfter b cs ≡ shownAfter (after boards clean earlier) (since chunks g)
   -- no call is refused, whatever came before
   pub never-refused : (b : Board) → boards .Fresh b → (cs : List Call) → boardRefusal (after boards b cs) ≡ none
   -- 0 follows the held bytes after any calls if it did before; each call then leaves the reader as the reader's own calls do [B8]

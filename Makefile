@@ -66,8 +66,8 @@ prove and test it
   make constants_test      the names for numbers in the header beside the definitions and the code
   make vectors_test        the input of the program vectors beside the published packets
   make make_test           these commands themselves
-  make c_test              the archive from C: published packets, the loop that the header shows, a board with a UART, a log's pages
-  make header_test         the header beside the archive, and as C99 and C++11
+  make c_test              the archive from C: published packets, the header's loop, the calls on a board, one with a UART, logs
+  make header_test         the header beside the archive, and as C99 and C++11, also without a C library
   make install_test        make install, and the version
   make docs_test           links, commands and code in the documents
   make programs_test       the programs line and checksum where something is wrong
@@ -190,10 +190,11 @@ kit:
 format:
 	@$(call step,format,layout of the Rattle files (make fmt puts it right)) rt fmt --check
 
-c_test: build/c/published build/c/exchange build/c/plan build/c/parts build/c/segment build/c/old_boards build/c/uart_test build/c/log_pages
+c_test: build/c/published build/c/exchange build/c/board_calls build/c/plan build/c/parts build/c/segment build/c/old_boards build/c/uart_test build/c/log_pages
 	@$(call need,python3)
 	@$(call step,published,published packets through the archive) build/c/published tests/vectors/packets.txt tests/vectors/packets_v1.txt
 	@$(call step,exchange,the loop that the header shows) build/c/exchange
+	@$(call step,board_calls,the calls on a board from C) build/c/board_calls
 	@$(call step,plan,the planner and the test of plans from C) build/c/plan
 	@$(call step,parts,example that sends a packet in parts) build/c/parts
 	@$(call step,segment_test,example that prints the events of a capture) python3 tests/segment_test.py build/c/segment
@@ -201,7 +202,7 @@ c_test: build/c/published build/c/exchange build/c/plan build/c/parts build/c/se
 	@$(call step,uart_test,example board on a simulated UART) build/c/uart_test
 	@$(call step,log_pages,questions to a log whose other segments are unreadable) build/c/log_pages
 
-build/c/published build/c/exchange build/c/plan: build/c/%: tests/c/%.c include/mednukals.h build/lib/libmednukals.a
+build/c/published build/c/exchange build/c/board_calls build/c/plan: build/c/%: tests/c/%.c include/mednukals.h build/lib/libmednukals.a
 	@$(call need,$(CC))
 	@mkdir -p $(@D)
 	@$(CC) $(WARNINGS) -O2 -Iinclude -o $@ $< build/lib/libmednukals.a || $(call failed,compiling the C test)
@@ -232,8 +233,9 @@ build/c/board build/c/uart_pty: examples/pty_line.h examples/host.h include/medn
 	@mkdir -p $(@D)
 	@$(CC) $(WARNINGS) -O2 -Iinclude -o $@ $(filter %.c,$^) build/lib/libmednukals.a || $(call failed,compiling an example board)
 
-# The board again, with a library that refuses what the test asks it to.
-REFUSING := encode unstuff reader_feed reader_gap fresh measure carry_out carry_out_packet status
+# The boards again, with a library that refuses what the test asks it to. dxl_fresh is not among these calls: dxl_board_start always
+# passes it a table of the right size.
+REFUSING := encode reader_feed reader_gap board_feed_parts board_gap_parts measure status
 build/c/refusing_board: tests/c/refusing.c build/c/board
 	@$(CC) $(WARNINGS) -O2 -Iinclude -o $@ $(REFUSING:%=-Wl$(comma)--wrap=dxl_%) $(BOARD_SOURCES) $< build/lib/libmednukals.a \
 	    || $(call failed,compiling the refusing board)
@@ -264,7 +266,11 @@ cli_test: build/c/dxl
 header_test: $(LIBS) build/c/header_c99 build/c/header_cxx11 build/c/empty
 	@$(call need,python3)
 	@$(call step,header,header as C99 and as C++11) sh -c 'build/c/header_c99 && build/c/header_cxx11 && build/c/empty'
+	@$(call step,header_alone,header without a C library) sh -c '$(call alone,$(CC) $(WARNINGS),c) && $(call alone,$(CXX) $(CXX_WARNINGS),c++)'
 	@$(call step,check_header,header beside the archive) python3 tests/check_header.py include/mednukals.h build/lib/libmednukals.a
+
+# $(call alone,COMPILER,LANGUAGE): the header alone, with the compiler's own headers and no others.
+alone = $(1) -ffreestanding -nostdinc -isystem "$$($(CC) -print-file-name=include)" -fsyntax-only -x $(2) include/mednukals.h
 
 build/c/header_c99: tests/c/header.c include/mednukals.h build/lib/libmednukals.a
 	@$(call need,$(CC))
@@ -320,7 +326,7 @@ leaf_test: $(LIBS) $(LEAF_LIBS) build/bin/line
 	@$(foreach leaf,$(LEAVES),$(call leaf_steps,$(leaf)) &&) true
 
 # The comparisons of the calls that make a checksum; the others, whose inputs are long, run over the first archive.
-SUMMED := cases checksum verdict encoder status exchange plain
+SUMMED := cases checksum board verdict encoder status exchange plain
 leaf_steps = $(call step,$(1)-header,header beside the archive over crc16_$(1)) \
     python3 tests/check_header.py include/mednukals.h build/lib/libmednukals_$(1).a && \
     $(call step,$(1)-rust,archive over crc16_$(1) beside the second implementation) \
@@ -347,9 +353,9 @@ fuzz_program: $(LIBS)
 	    sh -c 'cd tests && exec cargo build --release --offline --quiet --bin fuzz'
 
 RUNS ?= 1
-BASELINE := baseline baseline_reader baseline_v1 baseline_log baseline_plan baseline_device
-BENCH_SOURCES := $(patsubst %,tests/bench/%.c,bench lines $(BASELINE))
-BENCH_HEADERS := $(addprefix tests/bench/,lines.h baseline.h row.h test_exports.h) include/mednukals.h
+BASELINE := baseline baseline_reader baseline_v1 baseline_log baseline_plan baseline_device baseline_board
+BENCH_SOURCES := $(patsubst %,tests/bench/%.c,bench lines board $(BASELINE))
+BENCH_HEADERS := $(addprefix tests/bench/,lines.h board.h baseline.h row.h candidate.h test_exports.h) include/mednukals.h
 BENCH_FLAGS := -O3 -fno-lto
 # What is measured over another checksum function has its name behind it.
 OVER := $(LEAF:%=_%)
@@ -367,7 +373,7 @@ build/c/bench$(OVER): $(BENCH_SOURCES) $(BENCH_HEADERS) $(MADE_LIBS)
 	    || $(call failed,compiling the benchmark)
 
 # -O0, so that `counted` stays a function of its own; what is counted lies in the archives.
-COUNTS_SOURCES := tests/counts/counts.c tests/bench/lines.c
+COUNTS_SOURCES := tests/counts/counts.c tests/bench/lines.c tests/bench/board.c
 COUNTED := $(MADE_LIBS)
 COUNTS := build/c/counts$(LEAF:%=_%)
 $(COUNTS): $(COUNTS_SOURCES) tests/bench/baseline.c tests/bench/baseline_reader.c tests/bench/baseline_log.c $(BENCH_HEADERS) $(MADE_LIBS)
@@ -376,7 +382,7 @@ $(COUNTS): $(COUNTS_SOURCES) tests/bench/baseline.c tests/bench/baseline_reader.
 	@$(CC) $(WARNINGS) -O0 -Iinclude -Itests/bench -o $@ $(filter %.c,$^) $(COUNTED) || $(call failed,compiling the counts)
 
 # The same inputs by the baseline, compiled as in the benchmark; what it lacks is called in the archive.
-PLAIN_CALLS := $(foreach name,crc16 encode p1_encode mercury_encode feed gap reader_feed reader_gap p1_feed p1_gap mercury_feed mercury_gap fresh measure device exchange carry_out carry_out_packet status,-Ddxl_$(name)=baseline_$(name)) \
+PLAIN_CALLS := $(foreach name,crc16 encode p1_encode mercury_encode feed gap reader_feed reader_gap p1_feed p1_gap mercury_feed mercury_gap fresh measure device exchange carry_out carry_out_packet status board_feed_parts board_gap_parts,-Ddxl_$(name)=baseline_$(name)) \
     -Ddxl_test_crc16_small=baseline_crc16_small -Ddxl_next_event=baseline_next_event \
     -Ddxl_log_write=baseline_log_write -Ddxl_plan=baseline_plan -Ddxl_plan_check=baseline_plan_check
 PLAIN_OBJECTS := $(BASELINE:%=build/c/%.o)

@@ -3,8 +3,8 @@
  * examples/talk.py is a master that talks to it. Firmware has its own line and clock in place of pty_line.c, and its own arm in
  * place of host.c.
  *
- * The library finds the packets, keeps the control table and writes the status packets. The rest is here: to notice when the line
- * was silent, to wait for a reply slot, to measure, and to act on a refusal.
+ * The library finds the packets, carries them out on the control table and writes the status packets. The rest is here: to notice
+ * when the line was silent, to wait for a reply slot, to measure, and to act on a refusal.
  */
 #include <errno.h>
 #include <inttypes.h>
@@ -25,11 +25,7 @@ static int64_t seconds; /* 0: no end */
 static int64_t own_id = 1;
 static int tracing, self_test_only, help;
 
-/* What the library's calls use; the header says how. */
-static struct dxl_reader reader; /* all 0: a fresh one */
-static uint8_t packet[DXL_MAX_PACKET], body[DXL_MAX_BODY];
-static uint8_t table[DXL_TABLE_BYTES];
-static struct dxl_registered registered;
+static struct dxl_board board; /* all that the library's calls keep */
 
 static struct line line;
 static int64_t last_byte; /* when bytes came last */
@@ -53,7 +49,6 @@ static const char *meaning(int64_t refusal)
     case DXL_BAD_ID: return "an ID that no packet or no status has";
     case DXL_TOO_LONG: return "the packet would be too long";
     case DXL_NO_ROOM: return "the output buffer has too little room";
-    case DXL_BAD_STUFFING: return "the body is not well stuffed";
     case DXL_NOT_A_TABLE: return "the control table is not 136 bytes long";
     case DXL_BAD_TABLE_ID: return "the control table's ID is above 252";
     case DXL_BAD_REGISTERED: return "the registered write's count is above 8";
@@ -92,12 +87,32 @@ static void trace(const char *what, const uint8_t *bytes, size_t n)
         print_bytes(stderr, what, bytes, n);
 }
 
-static void trace_event(struct dxl_step step)
+/*
+ * The trace shows packets as they were received, with their stuffing. The board's buffer has them without, so a reader beside it
+ * hears the same bytes: it comes to the same event.
+ */
+static struct dxl_reader traced; /* all 0: a fresh one */
+static uint8_t traced_packet[DXL_MAX_PACKET];
+
+static void trace_event(const char *call, struct dxl_step step)
 {
+    accepted(call, step.kind == DXL_BAD_READER ? -(int64_t)DXL_BAD_READER : 0);
     if (step.kind == DXL_PACKET)
-        trace("packet", packet, step.count);
-    else
+        trace("packet", traced_packet, step.count);
+    if (step.kind == DXL_BAD_CHECKSUM)
         trace("bad checksum, ID", &step.id, 1);
+}
+
+static void trace_feed(const uint8_t *chunk, size_t n)
+{
+    if (tracing)
+        trace_event("dxl_reader_feed", dxl_reader_feed(&traced, chunk, n, traced_packet));
+}
+
+static void trace_gap(void)
+{
+    if (tracing)
+        trace_event("dxl_reader_gap", dxl_reader_gap(&traced, traced_packet));
 }
 
 /* ---- what goes out ---- */
@@ -136,63 +151,51 @@ static void give_up_waiting(void)
 
 /* ---- what comes in ---- */
 
-static int is_event(const char *call, struct dxl_step step)
+/* What is above the kinds of events is a refusal. */
+static int is_event(const char *call, struct dxl_board_step step)
 {
-    if (step.kind == DXL_BAD_READER)
-        accepted(call, -(int64_t)DXL_BAD_READER);
+    accepted(call, step.kind > DXL_BAD_CHECKSUM ? -(int64_t)step.kind : 0);
     return step.kind != DXL_NO_EVENT;
 }
 
-/* Carries out what was heard, and answers the reply. */
-static struct dxl_reply carry_out(struct dxl_step step)
-{
-    size_t n = 0;
-    if (step.kind == DXL_PACKET)
-        n = accepted("dxl_unstuff", dxl_unstuff(packet + 7, step.count - 9, body, sizeof body));
-    struct dxl_carried carried = dxl_carry_out(table, sizeof table, registered, step.kind, step.id, body, n);
-    accepted("dxl_carry_out", carried.refusal);
-    registered = carried.registered;
-    return carried.reply;
-}
-
 /* The master's packets are all but the statuses of other boards. */
-static int is_instruction(struct dxl_step step)
+static int is_instruction(struct dxl_board_step step)
 {
-    return step.kind == DXL_PACKET && packet[7] != DXL_INST_STATUS;
+    return step.kind == DXL_PACKET && board.packet[7] != DXL_INST_STATUS;
 }
 
 /* What waits gives way to a newer instruction, whichever device that is for, and to a newer reply: the master waits no more. */
-static void hear(struct dxl_step step)
+static void answer(struct dxl_board_step step)
 {
-    trace_event(step);
-    struct dxl_reply reply = carry_out(step);
-    if (reply.speaks || is_instruction(step))
+    if (step.reply.speaks || is_instruction(step))
         give_up_waiting();
-    if (reply.speaks)
-        send_in_slot(reply);
+    if (step.reply.speaks)
+        send_in_slot(step.reply);
 }
 
 /* Feeds until a call gives no event, even if no byte is left: more events may lie in the held bytes. */
 static void bytes_came(const uint8_t *chunk, size_t n)
 {
     for (;;) {
-        struct dxl_step step = dxl_reader_feed(&reader, chunk, n, packet);
-        if (!is_event("dxl_reader_feed", step))
+        trace_feed(chunk, n);
+        struct dxl_board_step step = dxl_board_feed(&board, chunk, n);
+        if (!is_event("dxl_board_feed", step))
             return;
         chunk += step.taken;
         n -= step.taken;
-        hear(step);
+        answer(step);
     }
 }
 
 static void line_was_silent(void)
 {
-    trace("gap, held", reader.bytes, reader.count);
+    trace("gap, held", board.held, board.count);
     for (;;) {
-        struct dxl_step step = dxl_reader_gap(&reader, packet);
-        if (!is_event("dxl_reader_gap", step))
+        trace_gap();
+        struct dxl_board_step step = dxl_board_gap(&board);
+        if (!is_event("dxl_board_gap", step))
             return;
-        hear(step);
+        answer(step);
     }
 }
 
@@ -212,7 +215,7 @@ static void read_line(void)
 /* Four bytes of the table, lowest first, as a signed number. */
 static int32_t signed_at(size_t address)
 {
-    const uint8_t *b = table + address;
+    const uint8_t *b = board.table + address;
     uint32_t u = (uint32_t)b[0] | (uint32_t)b[1] << 8 | (uint32_t)b[2] << 16 | (uint32_t)b[3] << 24;
     return u <= INT32_MAX ? (int32_t)u : -(int32_t)(UINT32_MAX - u) - 1;
 }
@@ -220,9 +223,9 @@ static int32_t signed_at(size_t address)
 /* Stands in for motor and sensor: moves towards the goal while torque is on, and stores the position in the table. */
 static void move_arm(void)
 {
-    if (table[DXL_REG_TORQUE_ENABLE] != 0)
+    if (board.table[DXL_REG_TORQUE_ENABLE] != 0)
         position = arm_towards(signed_at(DXL_REG_GOAL_POSITION), position);
-    accepted("dxl_measure", dxl_measure(table, sizeof table, position, 0));
+    accepted("dxl_measure", dxl_measure(board.table, sizeof board.table, position, 0));
 }
 
 /* ---- the loop ---- */
@@ -230,7 +233,7 @@ static void move_arm(void)
 /* When the segment ends, unless bytes come earlier. With no bytes held, a gap changes nothing. */
 static int64_t gap_end(void)
 {
-    return reader.count > 0 ? last_byte + gap : LINE_NEVER;
+    return board.count > 0 ? last_byte + gap : LINE_NEVER;
 }
 
 static int64_t earlier(int64_t a, int64_t b)
@@ -281,13 +284,14 @@ static void expect_checksum(const uint8_t *bytes, size_t n)
 /* Before the line is opened: a Ping to the own ID is encoded, read and answered, and both checksums are computed again. */
 static void self_test(void)
 {
+    const uint8_t none[1] = {0};
     uint8_t ping[16], status[DXL_MIN_REPLY];
-    size_t n = accepted("dxl_encode", dxl_encode(table[DXL_REG_ID], DXL_INST_PING, body, 0, ping, sizeof ping, 0));
+    size_t n = accepted("dxl_encode", dxl_encode(board.table[DXL_REG_ID], DXL_INST_PING, none, 0, ping, sizeof ping, 0));
     expect_checksum(ping, n);
-    struct dxl_step step = dxl_reader_feed(&reader, ping, n, packet);
-    if (!is_event("dxl_reader_feed", step) || step.count != n || memcmp(packet, ping, n) != 0)
+    struct dxl_board_step step = dxl_board_feed(&board, ping, n);
+    if (!is_event("dxl_board_feed", step) || step.count != n || memcmp(board.packet, ping, n) != 0)
         test_failed("the Ping is not read as it was encoded");
-    size_t n_status = accepted("dxl_status", dxl_status(carry_out(step), status, sizeof status));
+    size_t n_status = accepted("dxl_status", dxl_status(step.reply, status, sizeof status));
     if (n_status == 0)
         test_failed("the Ping is not answered");
     expect_checksum(status, n_status);
@@ -410,8 +414,8 @@ int main(int argc, char **argv)
     setvbuf(stderr, NULL, _IOLBF, BUFSIZ); /* a line of the trace goes out in one write */
     if (argc > 0)
         take_options(argv + 1);
-    accepted("dxl_fresh", dxl_fresh(table, sizeof table));
-    table[DXL_REG_ID] = (uint8_t)own_id; /* as firmware brings back what it keeps of ROM */
+    dxl_board_start(&board);
+    board.table[DXL_REG_ID] = (uint8_t)own_id; /* as firmware brings back what it keeps of ROM */
     self_test();
     if (self_test_only)
         return ENDED;

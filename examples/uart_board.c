@@ -10,12 +10,8 @@
 
 enum { GAP_MICROS = 1500, CHUNK = 64, OUT_BYTES = 4 * DXL_MIN_REPLY };
 
-/* What the library's calls use; the header says how. */
-static struct dxl_reader reader;
-static uint8_t packet[DXL_MAX_PACKET], body[DXL_MAX_BODY];
-static uint8_t table[DXL_TABLE_BYTES];
-static struct dxl_registered registered;
-static const struct dxl_registered NONE_REGISTERED;
+static struct dxl_board board;            /* all that the library's calls keep */
+static uint8_t acted_on[DXL_TABLE_BYTES]; /* the table as motor and store have it */
 
 static uint32_t taken; /* how many of the received bytes are taken from the ring, or passed over */
 static uint32_t speed; /* of the UART, in baud */
@@ -42,13 +38,19 @@ static size_t accepted(int64_t answer)
     return (size_t)answer;
 }
 
+static struct dxl_board_step accepted_step(struct dxl_board_step step)
+{
+    accepted(step.kind > DXL_BAD_CHECKSUM ? -(int64_t)step.kind : 0);
+    return step;
+}
+
 /* ---- speed and slots ---- */
 
 /* What a baud code stands for is the firmware's choice. */
 static uint32_t baud(void)
 {
     static const uint32_t bauds[] = {9600, 57600, 115200, 1000000, 2000000, 3000000, 4000000, 4500000};
-    return bauds[table[DXL_REG_BAUD_CODE] & 7];
+    return bauds[board.table[DXL_REG_BAUD_CODE] & 7];
 }
 
 /* A slot holds the longest status, 21 bytes with 10 bits each, a gap, and as much again for late turns of the loop. */
@@ -80,7 +82,7 @@ static void save_rom(void)
     uint8_t bytes[STORE_BYTES];
     size_t at = 0;
     for (size_t i = 0; i < N_ROM_ITEMS; i++) {
-        memcpy(bytes + at, table + ROM_ITEMS[i].address, ROM_ITEMS[i].size);
+        memcpy(bytes + at, board.table + ROM_ITEMS[i].address, ROM_ITEMS[i].size);
         at += ROM_ITEMS[i].size;
     }
     uint16_t sum = store_checksum(bytes);
@@ -92,10 +94,11 @@ static void save_rom(void)
 /* A Write that nobody sent: the library judges the value as it judges a master's. Returns whether the table has it now. */
 static int stored(uint8_t address, const uint8_t *value, size_t n)
 {
-    uint8_t write[3 + 4] = {DXL_INST_WRITE, address, 0};
-    memcpy(write + 3, value, n);
-    accepted(dxl_carry_out(table, sizeof table, NONE_REGISTERED, DXL_PACKET, table[DXL_REG_ID], write, 3 + n).refusal);
-    return memcmp(table + address, value, n) == 0;
+    uint8_t params[2 + 4] = {address, 0}, write[32];
+    memcpy(params + 2, value, n);
+    size_t size = accepted(dxl_encode(board.table[DXL_REG_ID], DXL_INST_WRITE, params, 2 + n, write, sizeof write, 0));
+    struct dxl_board_step step = accepted_step(dxl_board_feed(&board, write, size));
+    return step.kind == DXL_PACKET && step.error == 0;
 }
 
 /* Brings the items back into a fresh table. Returns 0 if the store is not as save_rom left it; some may be back by then. */
@@ -120,36 +123,42 @@ static int restore_rom(void)
 /* Four bytes of the table, lowest first, as a signed number. */
 static int32_t signed_at(size_t address)
 {
-    const uint8_t *b = table + address;
+    const uint8_t *b = board.table + address;
     uint32_t u = (uint32_t)b[0] | (uint32_t)b[1] << 8 | (uint32_t)b[2] << 16 | (uint32_t)b[3] << 24;
     return u <= INT32_MAX ? (int32_t)u : -(int32_t)(UINT32_MAX - u) - 1;
 }
 
-static int changed(const uint8_t *before, size_t address, size_t size)
+static int changed(size_t address, size_t size)
 {
-    return memcmp(before + address, table + address, size) != 0;
+    return memcmp(acted_on + address, board.table + address, size) != 0;
+}
+
+static int rom_changed(void)
+{
+    for (size_t i = 0; i < N_ROM_ITEMS; i++) {
+        if (changed(ROM_ITEMS[i].address, ROM_ITEMS[i].size))
+            return 1;
+    }
+    return 0;
 }
 
 /*
- * The table before and after a call. Torque off comes first and torque on last: a Reboot also moves the goal to the min position,
+ * Motor and store follow the table. Torque off comes first and torque on last: a Reboot also moves the goal to the min position,
  * and the motor must not start towards it.
  */
-static void act_on_changes(const uint8_t *before)
+static void act_on_changes(void)
 {
-    int torque = table[DXL_REG_TORQUE_ENABLE] != 0;
-    int switched = changed(before, DXL_REG_TORQUE_ENABLE, DXL_SIZE_TORQUE_ENABLE);
+    int torque = board.table[DXL_REG_TORQUE_ENABLE] != 0;
+    int switched = changed(DXL_REG_TORQUE_ENABLE, DXL_SIZE_TORQUE_ENABLE);
     if (switched && !torque)
         motor_set_torque(0);
-    if (changed(before, DXL_REG_GOAL_POSITION, DXL_SIZE_GOAL_POSITION))
+    if (changed(DXL_REG_GOAL_POSITION, DXL_SIZE_GOAL_POSITION))
         motor_set_goal(signed_at(DXL_REG_GOAL_POSITION));
     if (switched && torque)
         motor_set_torque(1);
-    for (size_t i = 0; i < N_ROM_ITEMS; i++) {
-        if (changed(before, ROM_ITEMS[i].address, ROM_ITEMS[i].size)) {
-            save_rom();
-            return;
-        }
-    }
+    if (rom_changed())
+        save_rom();
+    memcpy(acted_on, board.table, sizeof acted_on);
 }
 
 /* ---- replies ---- */
@@ -163,14 +172,15 @@ static void put_out(struct dxl_reply reply)
 }
 
 /* The master's packets are all but the statuses of other boards. */
-static int is_instruction(struct dxl_step step)
+static int is_instruction(struct dxl_board_step step)
 {
-    return step.kind == DXL_PACKET && packet[7] != DXL_INST_STATUS;
+    return step.kind == DXL_PACKET && board.packet[7] != DXL_INST_STATUS;
 }
 
 /* What waits gives way to a newer instruction, whichever device that is for, and to a newer reply: the master waits no more. */
-static void answer(struct dxl_step step, struct dxl_reply reply)
+static void answer(struct dxl_board_step step)
 {
+    struct dxl_reply reply = step.reply;
     if (reply.speaks || is_instruction(step))
         waiting.speaks = 0;
     if (reply.speaks && reply.slot == 0)
@@ -184,44 +194,31 @@ static void answer(struct dxl_step step, struct dxl_reply reply)
 
 /* ---- what comes in ---- */
 
-static void hear(struct dxl_step step)
+/* The library has carried out what it heard; the rest is done here. Returns whether there was an event, and may be another. */
+static int heard(struct dxl_board_step step)
 {
-    uint8_t before[DXL_TABLE_BYTES];
-    memcpy(before, table, sizeof before);
-    struct dxl_carried carried;
-    if (step.kind == DXL_PACKET)
-        carried = dxl_carry_out_packet(table, sizeof table, registered, packet, step.count, body, sizeof body);
-    else
-        carried = dxl_carry_out(table, sizeof table, registered, step.kind, step.id, body, 0);
-    accepted(carried.refusal);
-    registered = carried.registered;
-    answer(step, carried.reply);
-    act_on_changes(before);
+    if (accepted_step(step).kind == DXL_NO_EVENT)
+        return 0;
+    answer(step);
+    act_on_changes();
+    return 1;
 }
 
 /* Feeds until a call gives no event, even if no byte is left: more events may lie in the held bytes. */
 static void bytes_came(const uint8_t *chunk, size_t n)
 {
-    for (;;) {
-        struct dxl_step step = dxl_reader_feed(&reader, chunk, n, packet);
-        accepted(step.kind == DXL_BAD_READER ? -DXL_BAD_READER : 0);
-        if (step.kind == DXL_NO_EVENT)
-            return;
+    struct dxl_board_step step;
+    do {
+        step = dxl_board_feed(&board, chunk, n);
         chunk += step.taken;
         n -= step.taken;
-        hear(step);
-    }
+    } while (heard(step));
 }
 
 static void line_was_silent(void)
 {
-    for (;;) {
-        struct dxl_step step = dxl_reader_gap(&reader, packet);
-        accepted(step.kind == DXL_BAD_READER ? -DXL_BAD_READER : 0);
-        if (step.kind == DXL_NO_EVENT)
-            return;
-        hear(step);
-    }
+    while (heard(dxl_board_gap(&board)))
+        ;
 }
 
 /*
@@ -309,7 +306,7 @@ void board_sent(void)
 void board_poll(void)
 {
     uint8_t chunk[CHUNK];
-    accepted(dxl_measure(table, sizeof table, motor_position(), motor_errors()));
+    accepted(dxl_measure(board.table, sizeof board.table, motor_position(), motor_errors()));
     if (sending)
         return;
     pass_echo();
@@ -317,7 +314,7 @@ void board_poll(void)
     size_t n = take_chunk(chunk);
     if (n > 0)
         bytes_came(chunk, n);
-    else if (reader.count > 0 && gap_is_over())
+    else if (board.count > 0 && gap_is_over())
         line_was_silent();
     if (line_is_idle())
         send_due();
@@ -326,11 +323,10 @@ void board_poll(void)
 void board_start(void)
 {
     motor_set_torque(0);
-    accepted(dxl_fresh(table, sizeof table));
+    dxl_board_start(&board);
     if (!restore_rom())
-        accepted(dxl_fresh(table, sizeof table)); /* all of it, whatever was back already */
-    registered = NONE_REGISTERED;
-    reader.count = 0;
+        dxl_board_start(&board); /* all of it, whatever was back already */
+    memcpy(acted_on, board.table, sizeof acted_on);
     n_out = 0;
     waiting.speaks = 0;
     sending = 0;

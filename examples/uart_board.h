@@ -36,7 +36,8 @@ enum { STORE_BYTES = 16 };
 void store_read(uint8_t bytes[STORE_BYTES]);
 void store_write(const uint8_t bytes[STORE_BYTES]);
 
-/* The library refused a call, with this number: lets go of the motor and starts the board anew. It does not return. */
+/* The library refused a call, with this number: lets go of the motor and goes through power-up again, as board_start does. It does
+ * not return. */
 void board_fault(int refusal);
 
 /* ---- what uart_board.c offers ---- */

@@ -5,21 +5,52 @@
  * libmednukals_fold.a, which has none.
  * docs/INTEGRATING.md is about the firmware around these calls.
  *
- * What each function returns, writes and refuses is proved for every input, as long as the caller keeps to the following, which
- * C cannot check:
+ * What each function of the archive returns, writes and refuses is proved for every input, as long as the caller keeps to the
+ * following, which C cannot check:
  *
  * - Every pointer is valid and not null, even if the length after it is 0 (then nothing is read or written through it). The
  *   length is true, and memory that the call writes is writable.
  * - Nobody else writes that memory during the call, and memory that the call writes overlaps no other memory passed to it.
  *
- * A call that can be refused returns a count, 0 or more, or minus the number of the refusal; the reader's calls return that
- * number as the kind. A refused call changes no memory. Refusals are tested in the order in which they are listed.
+ * A call that can be refused returns a count, 0 or more, or minus the number of the refusal; calls that return a step have that
+ * number as its kind. A refused call changes no memory. Refusals are tested in the order in which they are listed.
  *
  * A count above INT64_MAX, which no memory holds, is returned as INT64_MAX.
  *
  * The rest is tested on the archive or read off the code, and not proved, as is anything said of time. No function keeps state,
- * allocates, locks or blocks: each may be called from several threads and from interrupt handlers, also during another call. No
- * function calls itself, so stack use is bounded. The archive is for x86-64.
+ * allocates, locks or blocks: calls on different memory may run at the same time, in several threads and in interrupt handlers;
+ * two calls on one board, reader or table may not. No function calls itself, so stack use is bounded. The archive is for x86-64.
+ * The three inline functions are C, and tested.
+ */
+
+/*
+ * What to call, by the sections below:
+ *
+ *   a device on a line
+ *     make it ready, at power-up               dxl_board_start
+ *     hear bytes of the line and act on them   dxl_board_feed; in parts of your own: dxl_board_feed_parts
+ *     hear that the line was silent            dxl_board_gap; dxl_board_gap_parts
+ *     write a status when its slot has come    dxl_status
+ *     store what was measured                  dxl_measure
+ *     make a table alone fresh                 dxl_fresh
+ *   a device in single calls
+ *     find packets, as they were received      dxl_reader_feed, dxl_reader_gap; in parts: dxl_feed, dxl_gap
+ *     carry one out, and answer at once        dxl_exchange; of a body: dxl_device
+ *     carry one out, and answer in its slot    dxl_carry_out_packet; of a body: dxl_carry_out
+ *   packets and checksums
+ *     write a packet                           dxl_encode
+ *     remove the stuffing of a body            dxl_unstuff
+ *     compute a checksum                       dxl_crc16; after flipped bits: dxl_crc16_flipped
+ *   captures and logs
+ *     find the packets of a capture            dxl_next_event
+ *     keep captures in a file with an index    dxl_log_write
+ *     test such a file, ask it, mend it        dxl_log_check, dxl_log_last, dxl_log_salvage
+ *   plans of goals
+ *     set the goals of many devices at once    dxl_plan
+ *     test such a plan                         dxl_plan_check
+ *   old boards
+ *     write a packet                           dxl_p1_encode, dxl_mercury_encode
+ *     find packets                             dxl_p1_feed, dxl_p1_gap, dxl_mercury_feed, dxl_mercury_gap
  */
 #ifndef MEDNUKALS_H
 #define MEDNUKALS_H
@@ -37,46 +68,9 @@
 extern "C" {
 #endif
 
-/*
- * Returns the checksum of n bytes, going on from an earlier one: polynomial x^16 + x^15 + x^2 + 1 (0x8005), highest bit first, no
- * final inversion.
- *
- * start   0 for the first bytes of a packet; otherwise the checksum of the bytes before
- *
- * Bytes may come in any number of parts, which may lie apart: dxl_crc16(dxl_crc16(s, a, n), b, m) is the checksum from s of a
- * followed by b, for every s, even if either is empty. With n == 0 the result is start. examples/parts.c sends a packet so.
- *
- * Checksums add: for byte strings of equal length, the checksum of their exclusive or, from the exclusive or of the starts, is
- * the exclusive or of their checksums.
- *
- * A packet's checksum starts from 0 and covers everything before it in the stuffed form, the header FF FF FD 00 included. It goes
- * on the line low byte first.
- *
- * Never refused; writes no memory.
- */
-uint16_t dxl_crc16(uint16_t start, const uint8_t *bytes, size_t n);
+/* ---- numbers ---- */
 
-/*
- * Returns the checksum of bytes in which chosen bits were flipped, without a new pass over them.
- *
- * crc        their checksum before, from any start
- * flips, n   a 1 for each flipped bit, in n bytes that lie over n of those bytes
- * after      how many bytes follow these n up to the end of what the checksum covers; any number
- *
- * If crc is the checksum from some start of a, b and c joined, where b has n bytes and c has `after`, the result is the checksum
- * from that start of a, b with its bits flipped, and c joined.
- *
- * The time grows with n and with the number of binary digits of `after`, not with the bytes before and behind the flips.
- *
- *     // bit 4 of the ID, byte 4 of a packet of which the checksum covers `covered` bytes
- *     const uint8_t flips[] = {0x10};
- *     crc = dxl_crc16_flipped(crc, flips, 1, covered - 5);
- *
- * Never refused; writes no memory.
- */
-uint16_t dxl_crc16_flipped(uint16_t crc, const uint8_t *flips, size_t n, size_t after);
-
-/* Refusals: a call returns minus the number; for 25, see struct dxl_step. */
+/* Refusals: a call returns minus the number; one that returns a step has the number as its kind. */
 enum {
     DXL_BAD_ID = 11,         /* an ID of 253 or 255; in Protocol 1.0 of 255; of a status, also 254 */
     DXL_TOO_LONG = 12,       /* the packet's length, which counts stuffed body and checksum, would pass 1,024; of an old board's
@@ -194,71 +188,243 @@ enum {
     DXL_ERROR_ALERT = 0x80
 };
 
-/*
- * Writes one packet into out, from offset at on: FF FF FD 00, the ID, the length (low byte first), the body and the checksum (low
- * byte first). The body is the instruction byte followed by params, stuffed: one FD is added after each FF FF FD in it, also one
- * that begins with the instruction. Length and checksum are those of the stuffed form.
- *
- * id            0 to 252, or 254 for all devices
- * instruction   any byte; 0x55 for a status packet, whose first parameter is the error byte
- * params        the parameters, not stuffed; any number of them
- * out, n_out    the output buffer
- * at            where in out the packet begins; any number, also past the end of out
- *
- * Returns the packet's byte count, 10 to 1,031, or
- *   -11  id is 253 or 255
- *   -12  the length would pass 1,024: the stuffed body has more than 1,022 bytes
- *   -13  out has fewer bytes from at on than the packet, or at lies past its end
- *
- * The bytes of out before at and after the packet stay as they were; if the call is refused, all of out does.
- */
-int64_t dxl_encode(uint8_t id, uint8_t instruction, const uint8_t *params, size_t n_params, uint8_t *out, size_t n_out,
-                   size_t at);
-
-/*
- * The old boards: packets of Protocol 1.0 and Mercury. FF FF, the ID, the length, the body and the checksum; the body is the
- * instruction, or the error byte of a status, followed by params, and is not stuffed. The length counts body and checksum. The
- * checksum is the low byte of the sum of all bytes from the ID up to it, with every bit inverted.
- *
- * id            dxl_p1_encode: 0 to 253, or 254 for all devices; dxl_mercury_encode: 0 to 252, or 254
- * instruction   any byte; of a status packet the error byte
- * params        the parameters; any number of them
- * out, n_out    the output buffer
- * at            where in out the packet begins; any number, also past the end of out
- *
- * Returns the packet's byte count, 6 to 259, or
- *   -11  id is 255, or in Mercury 253
- *   -12  the length would pass 255: there are more than 253 parameters
- *   -13  out has fewer bytes from at on than the packet, or at lies past its end
- *
- * The bytes of out before at and after the packet stay as they were; if the call is refused, all of out does.
- */
-int64_t dxl_p1_encode(uint8_t id, uint8_t instruction, const uint8_t *params, size_t n_params, uint8_t *out, size_t n_out,
-                      size_t at);
-int64_t dxl_mercury_encode(uint8_t id, uint8_t instruction, const uint8_t *params, size_t n_params, uint8_t *out, size_t n_out,
-                           size_t at);
-
-/*
- * Removes the stuffing of a body: writes it to the start of out without the FD after each FF FF FD.
- *
- * body, n_body   a packet's bytes from byte 7 (the instruction) up to its checksum; any bytes, any number of them
- * out, n_out     the output buffer; n_body bytes are always enough
- *
- * Returns the unstuffed byte count, or
- *   -14  body is not well stuffed: some FF FF FD in it is not followed by FD within the body
- *   -13  the unstuffed body has more than n_out bytes
- *
- * The bytes of out after the unstuffed body stay as they were; if the call is refused, all of out does.
- */
-int64_t dxl_unstuff(const uint8_t *body, size_t n_body, uint8_t *out, size_t n_out);
-
-/* Kinds of events, from a reader's call, from dxl_next_event, and for dxl_device and dxl_carry_out. A reader's call can also give
- * DXL_BAD_READER. */
+/* Kinds of events. A step has one of these, or the number of a refusal, which is above them. */
 enum {
     DXL_NO_EVENT = 0,    /* no event; from a gap call: nothing is left */
     DXL_PACKET = 1,      /* a well-formed packet */
     DXL_BAD_CHECKSUM = 2 /* right header, ID and length, all bytes there, and a wrong checksum */
 };
+
+/* ---- a device on a line ---- */
+
+/*
+ * A device with a control table. What its line brings is carried out at once, and the reply waits for its slot. The whole loop:
+ *
+ *     static struct dxl_board board;            // dxl_board_start(&board) makes it ready
+ *     static struct dxl_reply waiting;          // all 0: silence
+ *
+ *     void slot_came(void)
+ *     {
+ *         uint8_t status[DXL_MIN_REPLY];
+ *         int64_t n = dxl_status(waiting, status, sizeof status);
+ *         if (n < 0)
+ *             refused((int)-n);
+ *         if (n > 0)
+ *             send(status, (size_t)n);          // has to copy the bytes, or to return when they have left
+ *         waiting.speaks = 0;
+ *     }
+ *
+ *     static int heard(struct dxl_board_step step)
+ *     {
+ *         if (step.kind == DXL_NO_EVENT)
+ *             return 0;
+ *         if (step.kind > DXL_BAD_CHECKSUM) {
+ *             refused(step.kind);               // memory was overwritten: let go of the motor, then all of power-up again
+ *             return 0;
+ *         }
+ *         if (step.kind == DXL_PACKET && board.packet[7] != DXL_INST_STATUS)
+ *             waiting.speaks = 0;               // an instruction: the master waits for no earlier reply
+ *         if (step.reply.speaks) {
+ *             waiting = step.reply;             // in the place of one that still waits
+ *             if (waiting.slot == 0)
+ *                 slot_came();                  // at once; for any other slot the main loop calls it, at its time
+ *         }
+ *         return 1;
+ *     }
+ *
+ *     void bytes_came(const uint8_t *chunk, size_t n)
+ *     {
+ *         struct dxl_board_step step;
+ *         do {
+ *             step = dxl_board_feed(&board, chunk, n);
+ *             chunk += step.taken;
+ *             n -= step.taken;
+ *         } while (heard(step));                // even if n is 0 by now
+ *     }
+ *
+ *     void line_was_silent(void)                // for more than 1.5 ms, which the caller measures
+ *     {
+ *         while (heard(dxl_board_gap(&board)))
+ *             ;
+ *     }
+ *
+ * The rules of this loop. Each goes wrong in silence if it is left out:
+ * - Start the board. One that is all 0 is not refused: its ID and its limits are 0, and until a Reboot it answers nothing but
+ *   Ping. Then bring back what you have stored of ROM: a started board has ID 1 and the widest limits.
+ * - Until a call gives DXL_NO_EVENT or is refused, feed again what it has not taken, even if nothing is left. Bytes that are not
+ *   fed again are lost, and an event that is left in the held bytes comes out only with the next call.
+ * - Report each gap, until a call gives DXL_NO_EVENT or is refused. Without that a packet behind noise may be carried out only when
+ *   1,030 bytes have followed the noise, long after the master has given it up.
+ * - Look at each step. No later one has its reply. A call that was refused is refused again: a loop that waits only for
+ *   DXL_NO_EVENT does not end.
+ * - Make all calls on a board from one place, dxl_measure on its table too. Where an interrupt handler makes one while the loop is
+ *   in another, nothing is promised: packets may be lost without a bad checksum.
+ *
+ * Between the calls the table may be read: what an instruction has changed shows there. A Reboot that was carried out is
+ * step.instruction == DXL_INST_REBOOT && step.error == 0. Whatever comes over the line, none of these calls is refused.
+ * examples/uart_board.c and examples/board.c are such loops.
+ */
+
+/* A write that waits for Action. A board keeps it; with single calls begin with all 0, and pass each what the last one returned.
+ * min and max are new since the first header: firmware that was compiled with that one must be compiled again. */
+struct dxl_registered {
+    uint16_t address;
+    uint8_t count; /* how many of bytes are to be written, at most 8; 0 if no write waits */
+    uint8_t bytes[8];
+    int32_t min; /* min and max position as they stood in the table when the write was registered; any numbers are accepted */
+    int32_t max;
+};
+
+/* A reply. Silence is all 0 where a call returns it; to dxl_status any record may be passed. */
+struct dxl_reply {
+    uint8_t speaks;   /* 0: silence; any other number: a status */
+    uint8_t id;       /* the device's ID, from before the instruction */
+    uint8_t error;    /* the error byte; its alert is set if the hardware error was not 0 after the instruction */
+    uint8_t count;    /* how many of bytes are sent, at most 8 */
+    uint8_t bytes[8]; /* the data; 0 past the count. dxl_status ignores what is past it */
+    size_t slot;      /* when to send it: 0 at once; for a Ping to all devices the own ID; for a Sync Read or Bulk Read the index
+                         of its entry in the list, from 0 */
+};
+
+/* All that a device keeps. dxl_board_start makes it ready. Once it runs, only the calls write it, one at a time. */
+struct dxl_board {
+    uint8_t held[DXL_MAX_HELD];       /* the first count bytes wait for more, or for the next call */
+    uint8_t packet[DXL_MAX_PACKET];   /* the last packet; dxl_board_feed_parts says what of it */
+    uint8_t table[DXL_TABLE_BYTES];   /* the control table */
+    size_t count;                     /* at most 1,030 */
+    struct dxl_registered registered; /* the write that waits for Action */
+};
+
+/* What a call on a board has found and done. After a refusal registered is as it was, and everything else but kind is 0. */
+struct dxl_board_step {
+    size_t taken;                     /* how many bytes of the chunk were taken; 0 from a gap call */
+    size_t count;                     /* DXL_PACKET: the packet's byte count as received, 10 to 1,031; otherwise 0 */
+    uint8_t kind;                     /* DXL_NO_EVENT, DXL_PACKET, DXL_BAD_CHECKSUM, or the number of a refusal */
+    uint8_t id;                       /* DXL_PACKET, DXL_BAD_CHECKSUM: the packet's ID, 0 to 252 or 254; otherwise 0 */
+    uint8_t instruction;              /* DXL_PACKET to the own ID or to 254: its instruction; otherwise 0 */
+    uint8_t error;                    /* the error number of that instruction without the alert, also where no status is sent;
+                                         3 for a bad checksum with the own ID; otherwise 0 */
+    struct dxl_reply reply;           /* for dxl_status when its slot has come */
+    struct dxl_registered registered; /* the registered write from now on; dxl_board_feed and dxl_board_gap store it */
+};
+
+/*
+ * Fills a control table as it comes from the factory: every register has its fresh value, undefined bytes are 0. For a board use
+ * dxl_board_start, which clears the registered write too: where it stays, Action carries it out on the fresh table.
+ *
+ * A board with a model number or a firmware version of its own stores it after this call, in bytes 0 and 1 or in byte 6: no other
+ * call changes these bytes, and Ping and Read answer them.
+ *
+ * Returns 0, or -21 if n is not 136; then the table stays as it was.
+ */
+int64_t dxl_fresh(uint8_t *table, size_t n);
+
+/*
+ * Stores what was measured: the present position (132 to 135, any signed value, lowest byte first) and the hardware error (70).
+ * No other byte of the table changes, and whatever it holds is accepted. On a board's table call it between the board's calls, not
+ * during one.
+ *
+ * Returns 0, or -21 if n is not 136; then the table stays as it was.
+ */
+int64_t dxl_measure(uint8_t *table, size_t n, int32_t position, uint8_t hardware_error);
+
+/*
+ * Feeds a board whose parts are kept apart: takes bytes of the chunk up to the next event, and carries it out.
+ *
+ * held, *count   the held bytes; begin with a count of 0
+ * chunk, n       the bytes that have come; any bytes, any number of them
+ * packet         a buffer for the packet
+ * table          the control table, filled by dxl_fresh
+ * registered     the registered write: all 0, and then what the last step has
+ *
+ * taken is the fewest bytes of the chunk after which the event is decided, which may be 0. Without an event all n bytes are taken.
+ * Bytes are read as by dxl_reader_feed, and events carried out as by dxl_device, but for its status: what is said there of events,
+ * of the table and of its limits holds here.
+ *
+ * After DXL_PACKET, packet begins with header, ID and length as received, and from packet[7] on it has the body without stuffing,
+ * also of a packet for another device. The body has count - 9 bytes, less one for each FF FF FD in it; the bytes behind it mean
+ * nothing. With any other kind packet stays as it was, or becomes all 0 where the bytes held before the call and those taken by it
+ * are more than 1,030 together.
+ *
+ * Refused with kind
+ *   25  *count is above 1,030
+ *   22  the table's ID (byte 7) is above 252
+ *   23  the registered write's count is above 8
+ * No bytes on the line lead to that: memory was overwritten.
+ */
+struct dxl_board_step dxl_board_feed_parts(uint8_t held[DXL_MAX_HELD], size_t *count, const uint8_t *chunk, size_t n,
+                                           uint8_t packet[DXL_MAX_PACKET], uint8_t table[DXL_TABLE_BYTES],
+                                           struct dxl_registered registered);
+
+/* The same where the line was silent for more than 1.5 ms: the next event in the held bytes, which no more bytes will follow. With
+ * DXL_NO_EVENT nothing is held any more. */
+struct dxl_board_step dxl_board_gap_parts(uint8_t held[DXL_MAX_HELD], size_t *count, uint8_t packet[DXL_MAX_PACKET],
+                                          uint8_t table[DXL_TABLE_BYTES], struct dxl_registered registered);
+
+/* Makes a board ready, at power-up or anew: no bytes held, nothing registered, a fresh table, with ID 1 and the widest limits. The
+ * library stores nothing over a power cut; docs/INTEGRATING.md, 'Power-up', brings ROM back. */
+static inline void dxl_board_start(struct dxl_board *board)
+{
+    uint8_t *bytes = (uint8_t *)board;
+    for (size_t i = 0; i < sizeof *board; i++)
+        bytes[i] = 0;
+    (void)dxl_fresh(board->table, sizeof board->table); /* it refuses only another size */
+}
+
+/* dxl_board_feed_parts on a board, and the registered write is stored. */
+static inline struct dxl_board_step dxl_board_feed(struct dxl_board *board, const uint8_t *chunk, size_t n)
+{
+    struct dxl_board_step step =
+        dxl_board_feed_parts(board->held, &board->count, chunk, n, board->packet, board->table, board->registered);
+    board->registered = step.registered;
+    return step;
+}
+
+/* dxl_board_gap_parts on a board, likewise. */
+static inline struct dxl_board_step dxl_board_gap(struct dxl_board *board)
+{
+    struct dxl_board_step step = dxl_board_gap_parts(board->held, &board->count, board->packet, board->table, board->registered);
+    board->registered = step.registered;
+    return step;
+}
+
+/*
+ * Writes the status packet of a reply to the start of out; for silence nothing.
+ *
+ * Returns its byte count, 11 to 21 for a reply that a call has returned and at most 22 for any other, 0 for silence, or, even for
+ * silence,
+ *   -11  the reply's ID is above 252
+ *   -12  its count is above 8
+ *   -24  n_out is below 32
+ *
+ * The bytes after the status stay as they were; for silence and for a refusal all of out does.
+ */
+int64_t dxl_status(struct dxl_reply reply, uint8_t *out, size_t n_out);
+
+/* ---- a device in single calls ---- */
+
+/*
+ * What a board's calls do, in calls of their own: the reader's find a packet, and others carry it out. There is more to keep and to
+ * store, so use them only where you want
+ * - packets as they were received, for a trace: a board's buffer has the body without stuffing;
+ * - the status at once, by the call that carries out: dxl_exchange;
+ * - another protocol: the readers of the old boards, and code of your own for what their packets ask.
+ *
+ *     static struct dxl_reply carry_out(struct dxl_step step)
+ *     {
+ *         struct dxl_carried carried;
+ *         if (step.kind == DXL_PACKET)
+ *             carried = dxl_carry_out_packet(table, sizeof table, registered, packet, step.count, body, sizeof body);
+ *         else
+ *             carried = dxl_carry_out(table, sizeof table, registered, step.kind, step.id, body, 0);
+ *         if (carried.refusal != 0)
+ *             refused((int)-carried.refusal);
+ *         registered = carried.registered;      // where this is left out, no Action finds its write
+ *         return carried.reply;
+ *     }
+ *
+ * With a step of dxl_reader_feed or dxl_reader_gap this does what dxl_board_feed or dxl_board_gap does.
+ */
 
 /* What a reader's call returns. */
 struct dxl_step {
@@ -282,65 +448,9 @@ struct dxl_step {
  *   record with a count of 1,030 or less is accepted too: its first count bytes are held, the others are ignored.
  * - One call at a time on one record.
  *
- * Pass the bytes that have come to dxl_reader_feed, chunk by chunk. After a silence of more than 1.5 ms, which the caller
- * measures, end the segment by dxl_reader_gap. dxl_feed and dxl_gap are the same two calls for a record whose parts are kept
- * apart.
- *
- *     static struct dxl_reader reader;          // all 0: a fresh one
- *     static uint8_t packet[DXL_MAX_PACKET], body[DXL_MAX_BODY];
- *     static uint8_t table[DXL_TABLE_BYTES];    // filled once, by dxl_fresh
- *     static struct dxl_registered registered;  // all 0: none
- *     static struct dxl_reply waiting;          // all 0: silence
- *
- *     static void slot_came(void)
- *     {
- *         uint8_t status[DXL_MIN_REPLY];
- *         int64_t n = dxl_status(waiting, status, sizeof status);
- *         if (n > 0)
- *             send(status, (size_t)n);
- *         waiting.speaks = 0;
- *     }
- *
- *     static void hear(struct dxl_step step)
- *     {
- *         int64_t n = 0;
- *         if (step.kind == DXL_PACKET)          // its body is well stuffed and fits
- *             n = dxl_unstuff(packet + 7, step.count - 9, body, sizeof body);
- *         struct dxl_carried carried = dxl_carry_out(table, sizeof table, registered, step.kind, step.id, body, (size_t)n);
- *         registered = carried.registered;
- *         if (step.kind == DXL_PACKET && packet[7] != DXL_INST_STATUS)
- *             waiting.speaks = 0;               // an instruction: the master waits for no earlier reply
- *         if (carried.reply.speaks) {
- *             waiting = carried.reply;          // in the place of one that still waits
- *             if (waiting.slot == 0)
- *                 slot_came();                  // at once; for any other slot the timer calls it
- *         }
- *     }
- *
- *     void bytes_came(const uint8_t *chunk, size_t n)
- *     {
- *         for (;;) {
- *             struct dxl_step step = dxl_reader_feed(&reader, chunk, n, packet);
- *             if (step.kind == DXL_NO_EVENT || step.kind == DXL_BAD_READER)
- *                 return;
- *             chunk += step.taken;
- *             n -= step.taken;                  // and again, even if this is 0
- *             hear(step);
- *         }
- *     }
- *
- *     void line_was_silent(void)
- *     {
- *         for (;;) {
- *             struct dxl_step step = dxl_reader_gap(&reader, packet);
- *             if (step.kind == DXL_NO_EVENT || step.kind == DXL_BAD_READER)
- *                 return;
- *             hear(step);
- *         }
- *     }
- *
- * Whatever comes over the line, none of these calls is refused. A refusal means that the program passed something unfit, or that
- * its memory was overwritten; examples/board.c, such a loop on a pseudo-terminal, tests for it after each call and stops.
+ * Pass the bytes that have come to dxl_reader_feed, chunk by chunk, until it returns DXL_NO_EVENT. After a silence of more than 1.5
+ * ms, which the caller measures, end the segment by dxl_reader_gap. dxl_feed and dxl_gap are the same two calls for a record whose
+ * parts are kept apart. Whatever comes over the line, none of these calls is refused.
  */
 
 /* The reader's record: the first count bytes are held. */
@@ -385,26 +495,175 @@ struct dxl_step dxl_reader_feed(struct dxl_reader *reader, const uint8_t *chunk,
  */
 struct dxl_step dxl_reader_gap(struct dxl_reader *reader, uint8_t packet[1031]);
 
-/* The same two calls on a record in two parts: held has its bytes, *count its count. */
+/* The same two calls on a record in two parts: held has its bytes, *count its count. A board has these parts too. */
 struct dxl_step dxl_feed(uint8_t held[1030], size_t *count, const uint8_t *chunk, size_t n, uint8_t packet[1031]);
 struct dxl_step dxl_gap(uint8_t held[1030], size_t *count, uint8_t packet[1031]);
 
+/* What a call of the device returns. */
+struct dxl_answer {
+    int64_t count; /* the status packet's bytes, 0 for silence, or minus the number of a refusal */
+    size_t slot;   /* when to send it, as in struct dxl_reply; 0 for silence and for a refusal */
+    struct dxl_registered registered; /* the registered write from now on; if the call is refused, as it was passed */
+};
+
 /*
- * The readers of the old boards, on held bytes and their count, as dxl_feed and dxl_gap and with all that is said above: packets of
- * Protocol 1.0 or Mercury, as dxl_p1_encode and dxl_mercury_encode write them, with 259 in the place of 1,031 and 258 in that of
- * 1,030. A packet has 6 to 259 bytes; its body stands from byte 4 up to the checksum, which is the packet's last byte, and is not
- * stuffed. What is said of changed bytes is not promised here: a sum does not show every change of two neighbours.
+ * Carries out what was heard on the line, and writes the status packet that replies to it.
  *
- * FF is no ID, so that of several FF only the last two may begin a packet. A line keeps to one protocol; a program that does not
- * know which may read it with two readers.
+ * table, n_table   the control table, filled by dxl_fresh; any other contents are accepted, except those that 22 refuses
+ * registered       the registered write
+ * kind             DXL_PACKET: a packet; DXL_BAD_CHECKSUM: a packet with a wrong checksum; any other kind: nothing was heard, and
+ *                  the device is silent
+ * id               the packet's ID; what is sent neither to the table's ID nor to 254 leaves everything as it was, in silence
+ * body, n_body     DXL_PACKET: the unstuffed body, instruction and parameters, of any number of bytes; otherwise it is ignored
+ * reply, n_reply   the buffer for the status packet
  *
- * Refused with kind DXL_BAD_READER if *count is above 258, also where dxl_feed would accept it. examples/old_boards.c has the loops
- * around these calls.
+ * Returns the status packet's byte count, 11 to 21, with its slot, 0 for silence, or
+ *   -21  n_table is not 136
+ *   -22  the table's ID (byte 7) is above 252
+ *   -23  the registered write's count is above 8
+ *   -24  n_reply is below 32, even if the device would be silent
+ *
+ * The instruction changes the table. One that is refused with an error in the status leaves it as it was, except that Action
+ * drops the registered write that it found and sets byte 69 to 0. The status packet starts at byte 0 of reply, and the bytes
+ * after it stay as they were; for silence all of reply stays.
+ *
+ * Action carries a registered write out only if the min and max position in the table are those at which it was registered. Else
+ * it is dropped with DXL_ERROR_DATA_LIMIT, whatever it would write: a master that moves the limits registers anew.
+ *
+ * On a table that dxl_fresh has filled and only calls of this library have changed, the goal position is never below the min
+ * position nor above the max position, whatever was heard. A write of the limits that would leave it outside is refused with
+ * DXL_ERROR_DATA_LIMIT: after dxl_fresh, Reboot and Factory Reset the goal position is the min position, so that the min position
+ * can be raised only once the goal position has moved.
  */
-struct dxl_step dxl_p1_feed(uint8_t held[258], size_t *count, const uint8_t *chunk, size_t n, uint8_t packet[259]);
-struct dxl_step dxl_p1_gap(uint8_t held[258], size_t *count, uint8_t packet[259]);
-struct dxl_step dxl_mercury_feed(uint8_t held[258], size_t *count, const uint8_t *chunk, size_t n, uint8_t packet[259]);
-struct dxl_step dxl_mercury_gap(uint8_t held[258], size_t *count, uint8_t packet[259]);
+struct dxl_answer dxl_device(uint8_t *table, size_t n_table, struct dxl_registered registered, uint8_t kind, uint8_t id,
+                             const uint8_t *body, size_t n_body, uint8_t *reply, size_t n_reply);
+
+/*
+ * dxl_unstuff and dxl_device in one call: the device hears a packet as it was received.
+ *
+ * table, n_table, registered, reply, n_reply   as for dxl_device
+ * packet, n_packet   the packet's bytes from its header to its checksum, as the reader's calls write them; n_packet is their
+ *                    count. Bytes that are not exactly one well-formed packet change no table and get no reply. A bad checksum
+ *                    has no bytes to pass on: dxl_device takes it by its kind
+ * body, n_body       a buffer for the unstuffed body; DXL_MAX_BODY bytes are enough for every packet of the reader
+ *
+ * Returns what dxl_device returns for DXL_PACKET, the packet's ID and the unstuffed body, or
+ *   -14  the body, everything from byte 7 up to the last two bytes, is not well stuffed; never for a packet of the reader
+ *   -13  the unstuffed body has more than n_body bytes
+ *   -21 to -24, as dxl_device
+ *
+ * The unstuffed body is written from byte 0 of body on, even if the packet is for another device or gets no reply, and the bytes
+ * after it stay as they were; if the call is refused, all of body does. table, reply and the registered write become what
+ * dxl_device makes of them.
+ */
+struct dxl_answer dxl_exchange(uint8_t *table, size_t n_table, struct dxl_registered registered, const uint8_t *packet,
+                               size_t n_packet, uint8_t *body, size_t n_body, uint8_t *reply, size_t n_reply);
+
+/*
+ * The device call in two, for a status that has to wait for its slot: dxl_carry_out or dxl_carry_out_packet carries out what was
+ * heard and returns a small record of the reply, and dxl_status makes the packet of it when the slot has come. One straight after
+ * the other does what dxl_device or dxl_exchange does, for every input where that does not give 24. Where it does, the instruction
+ * has been carried out when dxl_status refuses the buffer: lend it one of DXL_MIN_REPLY bytes.
+ */
+
+/* What a first call returns. */
+struct dxl_carried {
+    int64_t refusal;                  /* 0, or minus the number of a refusal */
+    struct dxl_reply reply;           /* if the call is refused: silence */
+    struct dxl_registered registered; /* the registered write from now on; if the call is refused, as it was passed */
+};
+
+/*
+ * Carries out what was heard on the line. table, n_table, registered, kind, id, body and n_body are as for dxl_device, and so are
+ * -21, -22 and -23; a refused call leaves the table as it was.
+ */
+struct dxl_carried dxl_carry_out(uint8_t *table, size_t n_table, struct dxl_registered registered, uint8_t kind, uint8_t id,
+                                 const uint8_t *body, size_t n_body);
+
+/*
+ * Carries out a packet as it was received. The arguments are as for dxl_exchange, and so are -14, -13 and then -21 to -23; a
+ * refused call leaves the table and body as they were.
+ */
+struct dxl_carried dxl_carry_out_packet(uint8_t *table, size_t n_table, struct dxl_registered registered, const uint8_t *packet,
+                                        size_t n_packet, uint8_t *body, size_t n_body);
+
+/* ---- packets and checksums ---- */
+
+/*
+ * Returns the checksum of n bytes, going on from an earlier one: polynomial x^16 + x^15 + x^2 + 1 (0x8005), highest bit first, no
+ * final inversion.
+ *
+ * start   0 for the first bytes of a packet; otherwise the checksum of the bytes before
+ *
+ * Bytes may come in any number of parts, which may lie apart: dxl_crc16(dxl_crc16(s, a, n), b, m) is the checksum from s of a
+ * followed by b, for every s, even if either is empty. With n == 0 the result is start. examples/parts.c sends a packet so.
+ *
+ * Checksums add: for byte strings of equal length, the checksum of their exclusive or, from the exclusive or of the starts, is
+ * the exclusive or of their checksums.
+ *
+ * A packet's checksum starts from 0 and covers everything before it in the stuffed form, the header FF FF FD 00 included. It goes
+ * on the line low byte first.
+ *
+ * Never refused; writes no memory.
+ */
+uint16_t dxl_crc16(uint16_t start, const uint8_t *bytes, size_t n);
+
+/*
+ * Returns the checksum of bytes in which chosen bits were flipped, without a new pass over them.
+ *
+ * crc        their checksum before, from any start
+ * flips, n   a 1 for each flipped bit, in n bytes that lie over n of those bytes
+ * after      how many bytes follow these n up to the end of what the checksum covers; any number
+ *
+ * If crc is the checksum from some start of a, b and c joined, where b has n bytes and c has `after`, the result is the checksum
+ * from that start of a, b with its bits flipped, and c joined.
+ *
+ * The time grows with n and with the number of binary digits of `after`, not with the bytes before and behind the flips.
+ *
+ *     // bit 4 of the ID, byte 4 of a packet of which the checksum covers `covered` bytes
+ *     const uint8_t flips[] = {0x10};
+ *     crc = dxl_crc16_flipped(crc, flips, 1, covered - 5);
+ *
+ * Never refused; writes no memory.
+ */
+uint16_t dxl_crc16_flipped(uint16_t crc, const uint8_t *flips, size_t n, size_t after);
+
+/*
+ * Writes one packet into out, from offset at on: FF FF FD 00, the ID, the length (low byte first), the body and the checksum (low
+ * byte first). The body is the instruction byte followed by params, stuffed: one FD is added after each FF FF FD in it, also one
+ * that begins with the instruction. Length and checksum are those of the stuffed form.
+ *
+ * id            0 to 252, or 254 for all devices
+ * instruction   any byte; 0x55 for a status packet, whose first parameter is the error byte
+ * params        the parameters, not stuffed; any number of them
+ * out, n_out    the output buffer
+ * at            where in out the packet begins; any number, also past the end of out
+ *
+ * Returns the packet's byte count, 10 to 1,031, or
+ *   -11  id is 253 or 255
+ *   -12  the length would pass 1,024: the stuffed body has more than 1,022 bytes
+ *   -13  out has fewer bytes from at on than the packet, or at lies past its end
+ *
+ * The bytes of out before at and after the packet stay as they were; if the call is refused, all of out does.
+ */
+int64_t dxl_encode(uint8_t id, uint8_t instruction, const uint8_t *params, size_t n_params, uint8_t *out, size_t n_out,
+                   size_t at);
+
+/*
+ * Removes the stuffing of a body: writes it to the start of out without the FD after each FF FF FD.
+ *
+ * body, n_body   a packet's bytes from byte 7 (the instruction) up to its checksum; any bytes, any number of them
+ * out, n_out     the output buffer; n_body bytes are always enough
+ *
+ * Returns the unstuffed byte count, or
+ *   -14  body is not well stuffed: some FF FF FD in it is not followed by FD within the body
+ *   -13  the unstuffed body has more than n_out bytes
+ *
+ * The bytes of out after the unstuffed body stay as they were; if the call is refused, all of out does.
+ */
+int64_t dxl_unstuff(const uint8_t *body, size_t n_body, uint8_t *out, size_t n_out);
+
+/* ---- captures and logs ---- */
 
 /* The answer of dxl_next_event. Where there is no event, all of it is 0. */
 struct dxl_event {
@@ -546,145 +805,7 @@ enum {
  */
 struct dxl_salvaged dxl_log_salvage(const uint8_t *log, size_t n, uint8_t *out, size_t n_out, uint32_t *report, size_t n_report);
 
-/*
- * Fills a control table as it comes from the factory: every register has its fresh value, undefined bytes are 0.
- *
- * The registered write is the caller's. Where the table has been in use, make that all 0 too: Action would carry it out on the
- * fresh table. A board with a model number or a firmware version of its own stores it after this call, in bytes 0 and 1 or in
- * byte 6: no other call changes these bytes, and Ping and Read answer them.
- *
- * Returns 0, or -21 if n is not 136; then the table stays as it was.
- */
-int64_t dxl_fresh(uint8_t *table, size_t n);
-
-/*
- * Stores what was measured: the present position (132 to 135, any signed value, lowest byte first) and the hardware error (70).
- * No other byte of the table changes, and whatever it holds is accepted.
- *
- * Returns 0, or -21 if n is not 136; then the table stays as it was.
- */
-int64_t dxl_measure(uint8_t *table, size_t n, int32_t position, uint8_t hardware_error);
-
-/* A write that waits for Action. Begin with all 0, and pass each call of the device what the last one returned.
- * min and max are new since the first header: firmware that was compiled with that one must be compiled again. */
-struct dxl_registered {
-    uint16_t address;
-    uint8_t count; /* how many of bytes are to be written, at most 8; 0 if no write waits */
-    uint8_t bytes[8];
-    int32_t min; /* min and max position as they stood in the table when the write was registered; any numbers are accepted */
-    int32_t max;
-};
-
-/* What a call of the device returns. */
-struct dxl_answer {
-    int64_t count; /* the status packet's bytes, 0 for silence, or minus the number of a refusal */
-    size_t slot;   /* when to send it: 0 at once; for a Ping to all devices the own ID; for a Sync Read or Bulk Read the
-                      index of its entry in the list, from 0. 0 for silence and for a refusal */
-    struct dxl_registered registered; /* the registered write from now on; if the call is refused, as it was passed */
-};
-
-/*
- * Carries out what was heard on the line, and writes the status packet that replies to it.
- *
- * table, n_table   the control table, filled by dxl_fresh; any other contents are accepted, except those that 22 refuses
- * registered       the registered write
- * kind             DXL_PACKET: a packet; DXL_BAD_CHECKSUM: a packet with a wrong checksum; any other kind: nothing was heard, and
- *                  the device is silent
- * id               the packet's ID; what is sent neither to the table's ID nor to 254 leaves everything as it was, in silence
- * body, n_body     DXL_PACKET: the unstuffed body, instruction and parameters, of any number of bytes; otherwise it is ignored
- * reply, n_reply   the buffer for the status packet
- *
- * Returns the status packet's byte count, 11 to 21, with its slot, 0 for silence, or
- *   -21  n_table is not 136
- *   -22  the table's ID (byte 7) is above 252
- *   -23  the registered write's count is above 8
- *   -24  n_reply is below 32, even if the device would be silent
- *
- * The instruction changes the table. One that is refused with an error in the status leaves it as it was, except that Action
- * drops the registered write that it found and sets byte 69 to 0. The status packet starts at byte 0 of reply, and the bytes
- * after it stay as they were; for silence all of reply stays.
- *
- * Action carries a registered write out only if the min and max position in the table are those at which it was registered. Else
- * it is dropped with DXL_ERROR_DATA_LIMIT, whatever it would write: a master that moves the limits registers anew.
- *
- * On a table that dxl_fresh has filled and only calls of this library have changed, the goal position is never below the min
- * position nor above the max position, whatever was heard. A write of the limits that would leave it outside is refused with
- * DXL_ERROR_DATA_LIMIT: after dxl_fresh, Reboot and Factory Reset the goal position is the min position, so that the min position
- * can be raised only once the goal position has moved.
- */
-struct dxl_answer dxl_device(uint8_t *table, size_t n_table, struct dxl_registered registered, uint8_t kind, uint8_t id,
-                             const uint8_t *body, size_t n_body, uint8_t *reply, size_t n_reply);
-
-/*
- * dxl_unstuff and dxl_device in one call: the device hears a packet as it was received.
- *
- * table, n_table, registered, reply, n_reply   as for dxl_device
- * packet, n_packet   the packet's bytes from its header to its checksum, as the reader's calls write them; n_packet is their
- *                    count. Bytes that are not exactly one well-formed packet change no table and get no reply. A bad checksum
- *                    has no bytes to pass on: dxl_device takes it by its kind
- * body, n_body       a buffer for the unstuffed body; DXL_MAX_BODY bytes are enough for every packet of the reader
- *
- * Returns what dxl_device returns for DXL_PACKET, the packet's ID and the unstuffed body, or
- *   -14  the body, everything from byte 7 up to the last two bytes, is not well stuffed; never for a packet of the reader
- *   -13  the unstuffed body has more than n_body bytes
- *   -21 to -24, as dxl_device
- *
- * The unstuffed body is written from byte 0 of body on, even if the packet is for another device or gets no reply, and the bytes
- * after it stay as they were; if the call is refused, all of body does. table, reply and the registered write become what
- * dxl_device makes of them.
- */
-struct dxl_answer dxl_exchange(uint8_t *table, size_t n_table, struct dxl_registered registered, const uint8_t *packet,
-                               size_t n_packet, uint8_t *body, size_t n_body, uint8_t *reply, size_t n_reply);
-
-/*
- * The device call in two, for a status that has to wait for its slot: dxl_carry_out or dxl_carry_out_packet carries out what was
- * heard and returns a small record of the reply, and dxl_status makes the packet of it when the slot has come. One straight after
- * the other does what dxl_device or dxl_exchange does, for every input where that does not give 24. Where it does, the instruction
- * has been carried out when dxl_status refuses the buffer: lend it one of DXL_MIN_REPLY bytes.
- */
-
-/* A reply. The first calls return silence as all 0; to dxl_status any record may be passed. */
-struct dxl_reply {
-    uint8_t speaks;   /* 0: silence; any other mark: a status */
-    uint8_t id;       /* the device's ID, from before the instruction */
-    uint8_t error;    /* the error byte, its alert as the hardware error was after the instruction */
-    uint8_t count;    /* how many of bytes are sent, at most 8 */
-    uint8_t bytes[8]; /* the data; 0 past the count. dxl_status ignores what is past it */
-    size_t slot;      /* when to send it, as in struct dxl_answer */
-};
-
-/* What a first call returns. */
-struct dxl_carried {
-    int64_t refusal;                  /* 0, or minus the number of a refusal */
-    struct dxl_reply reply;           /* if the call is refused: silence */
-    struct dxl_registered registered; /* the registered write from now on; if the call is refused, as it was passed */
-};
-
-/*
- * Carries out what was heard on the line. table, n_table, registered, kind, id, body and n_body are as for dxl_device, and so are
- * -21, -22 and -23; a refused call leaves the table as it was.
- */
-struct dxl_carried dxl_carry_out(uint8_t *table, size_t n_table, struct dxl_registered registered, uint8_t kind, uint8_t id,
-                                 const uint8_t *body, size_t n_body);
-
-/*
- * Carries out a packet as it was received. The arguments are as for dxl_exchange, and so are -14, -13 and then -21 to -23; a
- * refused call leaves the table and body as they were.
- */
-struct dxl_carried dxl_carry_out_packet(uint8_t *table, size_t n_table, struct dxl_registered registered, const uint8_t *packet,
-                                        size_t n_packet, uint8_t *body, size_t n_body);
-
-/*
- * Writes the status packet of a reply to the start of out; for silence nothing.
- *
- * Returns its byte count, 11 to 21 for the reply of a first call and at most 22 for any other, 0 for silence, or, even for silence,
- *   -11  the reply's ID is above 252
- *   -12  its count is above 8
- *   -24  n_out is below 32
- *
- * The bytes after the status stay as they were; for silence and for a refusal all of out does.
- */
-int64_t dxl_status(struct dxl_reply reply, uint8_t *out, size_t n_out);
+/* ---- plans of goals ---- */
 
 /*
  * Writes the wanted goal positions of many devices as Sync Writes, one behind the other, to the start of out: IDs rising, 203
@@ -721,6 +842,48 @@ int64_t dxl_plan(const int32_t *goals, size_t n_goals, uint8_t *out, size_t n_ou
  * It writes no memory.
  */
 int64_t dxl_plan_check(const int32_t *goals, size_t n_goals, const uint8_t *plan, size_t n_plan);
+
+/* ---- old boards ---- */
+
+/*
+ * The old boards: packets of Protocol 1.0 and Mercury. FF FF, the ID, the length, the body and the checksum; the body is the
+ * instruction, or the error byte of a status, followed by params, and is not stuffed. The length counts body and checksum. The
+ * checksum is the low byte of the sum of all bytes from the ID up to it, with every bit inverted.
+ *
+ * id            dxl_p1_encode: 0 to 253, or 254 for all devices; dxl_mercury_encode: 0 to 252, or 254
+ * instruction   any byte; of a status packet the error byte
+ * params        the parameters; any number of them
+ * out, n_out    the output buffer
+ * at            where in out the packet begins; any number, also past the end of out
+ *
+ * Returns the packet's byte count, 6 to 259, or
+ *   -11  id is 255, or in Mercury 253
+ *   -12  the length would pass 255: there are more than 253 parameters
+ *   -13  out has fewer bytes from at on than the packet, or at lies past its end
+ *
+ * The bytes of out before at and after the packet stay as they were; if the call is refused, all of out does.
+ */
+int64_t dxl_p1_encode(uint8_t id, uint8_t instruction, const uint8_t *params, size_t n_params, uint8_t *out, size_t n_out,
+                      size_t at);
+int64_t dxl_mercury_encode(uint8_t id, uint8_t instruction, const uint8_t *params, size_t n_params, uint8_t *out, size_t n_out,
+                           size_t at);
+
+/*
+ * The readers of the old boards, on held bytes and their count, as dxl_feed and dxl_gap and with all that is said above: packets of
+ * Protocol 1.0 or Mercury, as dxl_p1_encode and dxl_mercury_encode write them, with 259 in the place of 1,031 and 258 in that of
+ * 1,030. A packet has 6 to 259 bytes; its body stands from byte 4 up to the checksum, which is the packet's last byte, and is not
+ * stuffed. What is said of changed bytes is not promised here: a sum does not show every change of two neighbours.
+ *
+ * FF is no ID, so that of several FF only the last two may begin a packet. A line keeps to one protocol; a program that does not
+ * know which may read it with two readers.
+ *
+ * Refused with kind DXL_BAD_READER if *count is above 258, also where dxl_feed would accept it. examples/old_boards.c has the loops
+ * around these calls.
+ */
+struct dxl_step dxl_p1_feed(uint8_t held[258], size_t *count, const uint8_t *chunk, size_t n, uint8_t packet[259]);
+struct dxl_step dxl_p1_gap(uint8_t held[258], size_t *count, uint8_t packet[259]);
+struct dxl_step dxl_mercury_feed(uint8_t held[258], size_t *count, const uint8_t *chunk, size_t n, uint8_t packet[259]);
+struct dxl_step dxl_mercury_gap(uint8_t held[258], size_t *count, uint8_t packet[259]);
 
 #ifdef __cplusplus
 }

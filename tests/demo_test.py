@@ -272,20 +272,34 @@ class BoardTest(unittest.TestCase):
             self.assertEqual(board.end(signal.SIGTERM), 0)
             noise.kill()
 
+    # [B2]
     def test_refusals(self):
-        at_start = {"dxl_fresh": [21], "dxl_encode": [11, 12, 13], "dxl_reader_feed": [25], "dxl_unstuff": [14, 13],
-                    "dxl_carry_out": [21, 22, 23], "dxl_status": [11, 12, 24], "dxl_measure": [21]}
+        at_start = {"dxl_encode": [11, 12, 13], "dxl_board_feed_parts": [25, 22, 23], "dxl_status": [11, 12, 24],
+                    "dxl_measure": [21]}
         for call, number in [(call, number) for call, numbers in at_start.items() for number in numbers]:
             with self.subTest(call=call, number=number):
                 code, _, errors = run(REFUSING_BOARD, "--seconds", str(PATIENCE), REFUSING=call, REFUSAL=str(number))
                 self.assertEqual(code, 3)
-                self.assertRegex(errors, rf"^board: {call} refuses with {number}: (?!a number).*\n$")
+                self.refused(errors, call, number)
 
+    def refused(self, errors, call, number):
+        """The board names the call as its source has it: without the parts of a record."""
+        self.assertRegex(errors, rf"^board: {call.removesuffix('_parts')} refuses with {number}: (?!a number).*\n$")
+
+    # [B2]
     def test_refusal_of_a_gap(self):
-        with Board(program=REFUSING_BOARD, REFUSING="dxl_reader_gap", REFUSAL="25") as board:
-            board.send(PING[:3])
-            self.assertEqual(board.process.wait(PATIENCE), 3)
-            self.assertEqual(board.said(), "board: dxl_reader_gap refuses with 25: the reader's count is above 1,030\n")
+        for number in [25, 22, 23]:
+            with Board(program=REFUSING_BOARD, REFUSING="dxl_board_gap_parts", REFUSAL=str(number)) as board:
+                board.send(PING[:3])
+                self.assertEqual(board.process.wait(PATIENCE), 3)
+                self.refused(board.said(), "dxl_board_gap_parts", number)
+
+    def test_refusal_in_the_trace(self):
+        for call, begin in {"dxl_reader_feed": "", "dxl_reader_gap": "gap, held: FF FF FD\n"}.items():
+            with Board("--trace", program=REFUSING_BOARD, REFUSING=call, REFUSAL="25") as board:
+                board.send(PING[:3])
+                self.assertEqual(board.process.wait(PATIENCE), 3)
+                self.assertEqual(board.said(), f"{begin}board: {call} refuses with 25: the reader's count is above 1,030\n")
 
     def test_bytes_that_waited_are_no_gap(self):
         with Board("--gap", "500000") as board:
@@ -391,13 +405,31 @@ class BoardTest(unittest.TestCase):
         self.assertRegex(output, r"^line: /dev/\S+\n$")
 
     def test_trace(self):
+        stuffed = bytes.fromhex("FF FF FD 00 01 0A 00 03 14 00 FF FF FD FD FF 23 83")
         with Board("--trace") as board:
-            board.send(PING[:-1] + b"\0" + PING)
-            read_for(board.line, 25)
+            board.send(PING[:-1] + b"\0" + PING + stuffed)
+            read_for(board.line, 36)
+            board.send(PING[:3])
+            self.wait_until(lambda: "gap" in board.said())
             self.assertEqual(board.end(signal.SIGTERM), 0)
             self.assertEqual(board.said(), "bad checksum, ID: 01\nsent: FF FF FD 00 01 04 00 55 03 AB 0C\n"
                                            "packet: FF FF FD 00 01 03 00 01 19 4E\n"
                                            "sent: FF FF FD 00 01 07 00 55 00 06 04 26 65 5D\n"
+                                           "packet: FF FF FD 00 01 0A 00 03 14 00 FF FF FD FD FF 23 83\n"
+                                           "sent: FF FF FD 00 01 04 00 55 00 A1 0C\n"
+                                           "gap, held: FF FF FD\n"
+                                           "board: ended, as a signal asked\n")
+
+    def test_trace_at_the_gap(self):
+        """Packets that come out at the gap are shown there, each before its status."""
+        noise = bytes.fromhex("FF FF FD 00 07 00 04")
+        with Board("--trace") as board:
+            board.send(noise + PING + READ_POSITION)
+            read_for(board.line, len(PING_STATUS + POSITION_STATUS))
+            self.assertEqual(board.end(signal.SIGTERM), 0)
+            self.assertEqual(board.said(), f"gap, held: {(noise + PING + READ_POSITION).hex(' ').upper()}\n"
+                                           f"packet: {PING.hex(' ').upper()}\nsent: {PING_STATUS.hex(' ').upper()}\n"
+                                           f"packet: {READ_POSITION.hex(' ').upper()}\nsent: {POSITION_STATUS.hex(' ').upper()}\n"
                                            "board: ended, as a signal asked\n")
 
 

@@ -1,7 +1,8 @@
 """Holds the documents to the tree: usage docs_test.py CC ARCHIVE, in the repository's root
 
 Links lead to files, and commands of make to targets. The code that docs/INTEGRATING.md shows stands so in a file that the gate
-runs, and its sizes are those of the archive. The program in README.md is compiled and run, and prints what its comments say.
+runs, and its sizes are those of archive and header. The loops that the header shows stand in tests/c/exchange.c. The program in README.md
+is compiled and run, and prints what its comments say.
 """
 import re
 import subprocess
@@ -56,6 +57,17 @@ class Documents(unittest.TestCase):
             parts = [code, textwrap.indent(textwrap.dedent(code), "    ")]
             self.assertTrue(any(part in source for part in parts for source in sources), code)
 
+    def test_loops_of_the_header(self):
+        """Paragraph by paragraph, comments left out."""
+        comments = re.findall(r"^/\*\n.*?^ \*/$", text(Path("include/mednukals.h")), flags=re.M | re.S)
+        shown = ["\n".join(re.findall(r"^ \* {5}(.*)$|^ \*$", comment, flags=re.M)) for comment in comments]
+        loops = [code for code in shown if "struct dxl_step" in code or "struct dxl_board_step" in code]
+        self.assertEqual(len(loops), 2)
+        source = text(Path("tests/c/exchange.c"))
+        for part in "\n\n".join(loops).split("\n\n"):
+            code = re.sub(r" *//.*$", "", part, flags=re.M).strip()
+            self.assertIn(f"\n{code}\n" if code else "", source)
+
     def linked(self):
         """How many bytes of the archive are in the example board, linked without what it does not call."""
         with tempfile.TemporaryDirectory() as folder:
@@ -66,12 +78,25 @@ class Documents(unittest.TestCase):
 
     def test_sizes_of_integrating(self):
         page = text(Path("docs/INTEGRATING.md"))
-        row = re.search(r"^\| code \| about (\S+), and (\S+) more with .* about (\S+) stay \|$", page, flags=re.M)
+        row = re.search(r"^\| code \| about (\S+) with .*, (\S+) with .*, (\S+) with .* about (\S+) stay \|$", page, flags=re.M)
         size = subprocess.run(["size", ARCHIVE], capture_output=True, check=True, timeout=PATIENCE, text=True).stdout
-        sizes = [int(line.split()[0]) for line in size.splitlines()[1:]] + [self.linked()]
-        self.assertEqual(len(sizes), 3)
+        objects = {line.split()[5]: int(line.split()[0]) for line in size.splitlines()[1:]}
+        sizes = [objects[name] for name in ("capi_board.o", "capi.o", "capi_v1.o")] + [self.linked()]
+        self.assertEqual(len(objects), 3)
         for said, bytes_ in zip(row.groups(), sizes):
             self.assertAlmostEqual(int(said.replace(",", "")), bytes_, delta=0.005 * bytes_, msg="make memory prints the sizes")
+
+    def test_records(self):
+        """The sizes of the header's structs, as make memory prints them."""
+        with tempfile.TemporaryDirectory() as folder:
+            subprocess.run([CC, "-Iinclude", "-o", f"{folder}/memory", "tests/bench/memory.c"], check=True, timeout=PATIENCE)
+            printed = subprocess.run([f"{folder}/memory"], capture_output=True, check=True, timeout=PATIENCE, text=True).stdout
+        self.assertIn(printed, text(Path("docs/PERFORMANCE.md")), "PERFORMANCE, 'Memory'")
+        board = re.search(r"struct dxl_board +(\d+)$", printed, flags=re.M).group(1)
+        kept, single = re.findall(r"together +(\d+)$", printed, flags=re.M)
+        row = re.search(r"^\| kept [^|]*\| (\S+) \| `struct dxl_board`, of (\S+) bytes, .* take (\S+) in the board's place \|$",
+                        text(Path("docs/INTEGRATING.md")), flags=re.M)
+        self.assertEqual([said.replace(",", "") for said in row.groups()], [kept, board, single])
 
     def test_program_of_readme(self):
         programs = [code for code in blocks(Path("README.md"), "c") if "int main" in code]

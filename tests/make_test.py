@@ -179,16 +179,17 @@ class Gate(unittest.TestCase):
 class Counts(unittest.TestCase):
     """counts_test.py with stand-ins for its tools: two exports take 100 instructions each, beside 50 of memset."""
 
-    def counts(self, *words, stored="dxl_one Ping 100\ndxl_two 7 bytes 100\n", second=COSTS.replace("dxl_one", "dxl_two"),
-               names="dxl_one Ping\ndxl_two 7 bytes\n", header="int dxl_one(void);\nint dxl_two(void);\n"):
+    def counts(self, *words, stored="dxl_one Ping 100\ndxl_two 7 bytes 100\n", first=COSTS,
+               second=COSTS.replace("dxl_one", "dxl_two"), names="dxl_one Ping\ndxl_two 7 bytes\n", header="int dxl_one(void);\nint dxl_two(void);\n"):
         with tempfile.TemporaryDirectory() as folder:
             for part in ["bin", "include", "tests"]:
                 Path(folder, part).mkdir()
-            costs = "".join(f"{number} {line}\n" for number, text in enumerate([COSTS, second], 1) for line in text.splitlines())
+            costs = "".join(f"{number} {line}\n" for number, text in enumerate([first, second], 1) for line in text.splitlines())
             files = {"costs": costs, "names": names, "include/mednukals.h": header, "tests/instructions.txt": stored}
             for name, text in files.items():
                 Path(folder, name).write_text(text, encoding="utf-8")
-            tools = {"valgrind": VALGRIND, "nm": "echo dxl_one T 0 1; echo dxl_two T 0 1; echo table r 0 1", "rt": "echo kit $1 2"}
+            own = "".join(f"echo {name} T 0 1\n" for name in ["dxl_one", "dxl_two", "dxl_board_feed_parts", "dxl_feed"])
+            tools = {"valgrind": VALGRIND, "nm": own + "echo table r 0 1", "rt": "echo kit $1 2"}
             for name, does in tools.items():
                 path = Path(folder, "bin", name)
                 path.write_text(f"#!/bin/sh\n{does}\n", encoding="utf-8")
@@ -229,6 +230,25 @@ class Counts(unittest.TestCase):
         self.fault("dxl_three has no count in tests/counts/counts.c",
                    header="int dxl_one(void);\nint dxl_two(void);\nint dxl_three(int n);\n")
         self.fault("dxl_two 7 bytes: the export was not called", second=COSTS)
+
+    def board(self, line="Write", loop="single calls, Write", second=COSTS):
+        """A board's call takes 100 instructions and 50 of memset; the second row is that of the loop."""
+        rows = ["dxl_board_feed_parts " + line, "dxl_feed " + loop]
+        return {"names": "".join(f"{row}\n" for row in rows), "stored": "".join(f"{row} 100\n" for row in rows),
+                "header": "int dxl_board_feed_parts(void);\nint dxl_feed(void);\n",
+                "first": COSTS.replace("dxl_one", "dxl_board_feed_parts"), "second": second.replace("dxl_one", "dxl_feed")}
+
+    def test_a_board_takes_fewer_than_the_loop(self):
+        moves = COSTS.replace("fn=counted\n7 3\n", "fn=__memmove_avx_unaligned_erms\n0 3\n")
+        self.assertEqual(self.counts(**self.board(second=moves))[0], 0)
+        self.fault("dxl_board_feed_parts Write: 150 instructions, and 150 by the single calls, memset and memcpy counted in",
+                   **self.board())
+        self.fault("dxl_board_feed_parts Write: no count of 'dxl_feed single calls, Write' beside it", **self.board(loop="Write"))
+        self.assertEqual(self.counts(**self.board(line="refused", loop="refused"))[0], 0)
+        self.assertEqual(self.counts(**self.board(line="worst call", loop="single calls, worst call"))[0], 0)
+        fewer = COSTS.replace("50\n", "49\n").replace("153", "152")
+        self.fault("dxl_board_feed_parts worst call: 150 instructions, and 149 by the single calls, memset and memcpy counted in",
+                   **self.board(line="worst call", loop="single calls, worst call", second=fewer))
 
     def test_the_counts_are_unusable(self):
         self.fault("a file of callgrind is not as it was when this was written", second=COSTS.replace("153", "154"))

@@ -227,11 +227,12 @@ class Tree:
         return {f"{crate}::{name}": self.statements.led_to(read(path), head) for crate, name, _, head, _, path in self.functions}
 
     def unpromised(self):
-        """A theorem has to be led to by a public function's contract, any other statement by some function's."""
+        """A theorem has to be led to by a public function's contract, any other statement by some function's, or be asked by one."""
         promised = self.promised()
+        asked = set().union(*(self.statements.asked(read(path), head) for *_, head, _, path in self.functions))
         public = {f"{crate}::{name}" for crate, name, public, _, _, _ in self.functions if public}
         by_public = set().union(*(places for who, places in promised.items() if who in public))
-        for place in sorted(self.statements.statements.keys() - set().union(*promised.values()) | self.statements.theorems - by_public):
+        for place in sorted(self.statements.statements.keys() - set().union(asked, *promised.values()) | self.statements.theorems - by_public):
             yield f"no function promises {place[2]} of {self.statements.statements[place]}"
 
     def unapplied(self):
@@ -242,10 +243,12 @@ class Tree:
                 cited |= set(self.statements.cited(read(path), head)) & self.statements.theorems
         proofs = {}
         for place, theorems in self.statements.applications.items():
-            texts = [read(path) for path in sorted(Path("crates", place[0], "proofs").glob("*.antt"))]
+            texts = [uncommented(read(path)) for path in sorted(Path("crates", place[0], "proofs").glob("*.antt"))]
             texts = [text for text in texts if re.search(rf": {place[2]}$", text, flags=re.M)]
             if not texts:
                 yield f"{place[2]} of crates/{place[0]} is proved nowhere"
+            if not all(uses_supposition(text, place[2]) for text in texts):
+                yield f"the proof of {place[2]} of crates/{place[0]} does not use what it supposes"
             for theorem in theorems:
                 proofs.setdefault(theorem, []).extend(texts)
         for theorem in sorted(cited):
@@ -291,6 +294,17 @@ def tags_of(tree, comment, where):
         if rule not in tree.rules:
             tree.faults.append(f"{where} names {rule}, which is no rule")
     return [rule for rule in named if rule in tree.rules]
+
+
+def uncommented(source):
+    """A file of proofs without its comments."""
+    return re.sub(r"(^|\s)--.*$", r"\1", source, flags=re.M)
+
+
+def uses_supposition(source, name):
+    """Whether the theorem that an application is given occurs in its proof."""
+    proof = re.search(rf"^(?:pub )?(\S+) : {name}$\n(?:unfolding .*\n)?\1 (\w+) =(.*?)(?=^\S|\Z)", source, flags=re.M | re.S)
+    return proof is None or bool(re.search(rf"\b{proof.group(2)}\b", proof.group(3)))
 
 
 def joined(places):

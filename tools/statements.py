@@ -8,8 +8,8 @@ APPLIED = re.compile(r"crates/(?:\w+/specs/Applied|\w+_applications/specs/\w+)\.
 BY_NAME = {"WellFormed", "Sound", "Plan", "Laws"}
 BEGINS = re.compile(r"(?:(?:abbrev|unfoldable|pub) )*(?P<sort>record |data )?(?P<name>[^\s(]+)")
 USES = re.compile(r"^(?:ghost )?use Rattle·(\w+)(?:·specs)?\.specs\.(\w+)\.\{(.*)\};?$", flags=re.M)
-# the parameters of a theorem that is not about one call's arguments: packet rules, a reader, a number
-GENERAL = re.compile(r"[^:]* (?:\((?:R : Rules|M : AnyReader)\) )*: (?:(?:Rules|AnyReader|ℕ) → )*Type [01](?: where)?$")
+# the parameters of a theorem that is not about one call's arguments: packet rules, a reader, the IDs of a protocol, a number
+GENERAL = re.compile(r"[^:]* (?:\((?:R : Rules|M : AnyReader|good : ℕ → Bool)\) )*: (?:(?:Rules|AnyReader|ℕ) → )*Type [01](?: where)?$")
 
 
 def read(path):
@@ -121,12 +121,18 @@ class Statements:
         while more:
             more = {place for place in self.statements.keys() - claims if claims & set(self.named[place])}
             claims |= more
+        self.claims = claims
         self.theorems = general & claims
 
     def cited(self, source, contract):
         """The definitions that a contract names; `source` is the file that it stands in."""
         clauses = re.findall(r"\bensures \{(.*?)⌝ \}", contract, flags=re.S)
         return [place for clause in clauses for place in named_in(clause, brought_in(source))]
+
+    def asked(self, source, contract):
+        """The definitions that a `requires` names."""
+        clauses = re.findall(r"\brequires \{(.*?)⌝ \}", contract, flags=re.S)
+        return {place for clause in clauses for place in named_in(clause, brought_in(source))}
 
     def led_to(self, source, contract):
         """All definitions that a contract leads to."""
@@ -150,7 +156,7 @@ class Statements:
                 continue
             seen.add(place)
             for field, concluded in self.fields.get(place, {}).items():
-                if place in self.statements:
+                if place in self.claims:
                     found.append((place, field))
                     ahead += concluded
             ahead += self.concluded.get(place, []) if place not in self.fields else []

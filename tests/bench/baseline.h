@@ -50,8 +50,16 @@ struct dxl_carried baseline_carry_out(uint8_t *table, size_t n_table, struct dxl
                                       const uint8_t *body, size_t n_body);
 struct dxl_carried baseline_carry_out_packet(uint8_t *table, size_t n_table, struct dxl_registered registered, const uint8_t *packet,
                                              size_t n_packet, uint8_t *body, size_t n_body);
+/* What is heard is carried out. All of the reply is 0 for silence. An instruction's error goes to *number, answered or not. */
+struct dxl_reply baseline_reply(uint8_t *table, struct dxl_registered *registered, uint8_t kind, uint8_t id, const uint8_t *body,
+                                size_t n_body, uint8_t *number);
 int64_t baseline_status(struct dxl_reply reply, uint8_t *out, size_t n_out);
 struct dxl_answer baseline_exchange(uint8_t *table, size_t n_table, struct dxl_registered registered, const uint8_t *packet,
                                     size_t n_packet, uint8_t *body, size_t n_body, uint8_t *reply, size_t n_reply);
+
+struct dxl_board_step baseline_board_feed_parts(uint8_t held[1030], size_t *count, const uint8_t *chunk, size_t n,
+                                                uint8_t packet[1031], uint8_t table[136], struct dxl_registered registered);
+struct dxl_board_step baseline_board_gap_parts(uint8_t held[1030], size_t *count, uint8_t packet[1031], uint8_t table[136],
+                                               struct dxl_registered registered);
 
 #endif

@@ -248,9 +248,8 @@ static int64_t fault(const uint8_t *table, size_t n_table, struct dxl_registered
     return n_reply < DXL_MIN_REPLY ? -DXL_SHORT_REPLY : 0;
 }
 
-/* What is heard is carried out; all of the reply is 0 for silence. */
-static struct dxl_reply carry_out(uint8_t *table, struct dxl_registered *registered, uint8_t kind, uint8_t id, const uint8_t *body,
-                                  size_t n_body)
+struct dxl_reply baseline_reply(uint8_t *table, struct dxl_registered *registered, uint8_t kind, uint8_t id, const uint8_t *body,
+                                size_t n_body, uint8_t *number)
 {
     struct dxl_reply silence = {0}, reply = {0};
     if (kind != DXL_PACKET && kind != DXL_BAD_CHECKSUM)
@@ -341,7 +340,7 @@ static struct dxl_reply carry_out(uint8_t *table, struct dxl_registered *registe
             }
             int place = n < 4 || second == 0 ? -1 : entry_of(params + 4, n - 4, second + 1, own);
             if (place >= 0)
-                store(table, first, params + 4 + (size_t)place * (second + 1) + 1, second);
+                *number = store(table, first, params + 4 + (size_t)place * (second + 1) + 1, second);
             return silence;
         }
         case 0x92: {
@@ -372,13 +371,14 @@ static struct dxl_reply carry_out(uint8_t *table, struct dxl_registered *registe
             }
             size_t at = 0;
             if (bulk_entry_of(params, n, 1, own, &at) >= 0)
-                store(table, word(params + at + 1), params + at + 5, word(params + at + 3));
+                *number = store(table, word(params + at + 1), params + at + 5, word(params + at + 3));
             return silence;
         }
         default:
             error = UNDEFINED;
         }
     }
+    *number = error;
     if (!answered || level < needs)
         return silence;
     reply.speaks = 1;
@@ -407,8 +407,9 @@ struct dxl_carried baseline_carry_out(uint8_t *table, size_t n_table, struct dxl
                                       const uint8_t *body, size_t n_body)
 {
     struct dxl_carried carried = {fault(table, n_table, registered, DXL_MIN_REPLY), {0}, registered};
+    uint8_t number;
     if (carried.refusal == 0)
-        carried.reply = carry_out(table, &carried.registered, kind, id, body, n_body);
+        carried.reply = baseline_reply(table, &carried.registered, kind, id, body, n_body, &number);
     return carried;
 }
 
@@ -418,7 +419,8 @@ struct dxl_answer baseline_device(uint8_t *table, size_t n_table, struct dxl_reg
     struct dxl_answer answer = {fault(table, n_table, registered, n_reply), 0, registered};
     if (answer.count < 0)
         return answer;
-    struct dxl_reply waiting = carry_out(table, &answer.registered, kind, id, body, n_body);
+    uint8_t number;
+    struct dxl_reply waiting = baseline_reply(table, &answer.registered, kind, id, body, n_body, &number);
     answer.count = baseline_status(waiting, reply, n_reply);
     answer.slot = waiting.slot;
     return answer;

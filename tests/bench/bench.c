@@ -10,6 +10,7 @@
 #include <time.h>
 
 #include "baseline.h"
+#include "board.h"
 #include "lines.h"
 #include "mednukals.h"
 #include "test_exports.h"
@@ -554,6 +555,26 @@ static uint16_t exchange_two_baseline(uint16_t last, size_t n)
     return exchanged_in_two(baseline_carry_out_packet, baseline_status, last, n);
 }
 
+/* A board that hears the line in chunks of n bytes: by the one call, by plain C, and by the loop of single calls. */
+static const struct one_call our_call = {dxl_board_feed_parts, dxl_board_gap_parts};
+static const struct one_call baseline_call = {baseline_board_feed_parts, baseline_board_gap_parts};
+
+static uint16_t board_ours(uint16_t last, size_t n)
+{
+    return (uint16_t)(last * 31u + feed_by_one(&our_call, line, n_line, n).mixed);
+}
+
+static uint16_t board_baseline(uint16_t last, size_t n)
+{
+    return (uint16_t)(last * 31u + feed_by_one(&baseline_call, line, n_line, n).mixed);
+}
+
+static uint16_t board_loop(uint16_t last, size_t n)
+{
+    static const struct single_calls singles = {dxl_feed, dxl_gap, dxl_unstuff, dxl_carry_out};
+    return (uint16_t)(last * 31u + feed_by_single(&singles, line, n_line, n).mixed);
+}
+
 /* Seconds of so many calls, and what the last one answered. */
 static double seconds(work *f, size_t n, size_t calls, uint16_t *answer)
 {
@@ -751,6 +772,32 @@ static int measure_instructions(void)
     return good && measure_device("device, Bulk Write", instruct_bulk(DXL_INST_BULK_WRITE, 110));
 }
 
+/* Before it is measured, each line is heard by both, and every part of the answers and every byte of the boards compared. */
+static int measure_board_line(const struct board_line *kind)
+{
+    char what[64], loop[64];
+    n_line = kind->fill(line, sizeof line);
+    size_t chunk = kind->chunk > 0 ? kind->chunk : n_line;
+    double amount = (double)n_line * 1e-6;
+    snprintf(what, sizeof what, "board, %s", kind->name);
+    snprintf(loop, sizeof loop, "board or loop, %s", kind->name);
+    if (!boards_alike(&our_call, &baseline_call, line, n_line, chunk)) {
+        fprintf(stderr, "%s: the boards differ\n", what);
+        return 0;
+    }
+    dxl_board_start(&board_memory.board);
+    return measure(what, board_ours, board_baseline, chunk, amount, "MB/s")
+           && measure(loop, board_ours, board_loop, chunk, amount, "MB/s");
+}
+
+static int measure_boards(void)
+{
+    for (size_t i = 0; i < BOARD_LINES; i++)
+        if (!measure_board_line(&board_lines[i]))
+            return 0;
+    return 1;
+}
+
 /* Every reader's call clears what its answer and its record do not use, which is most of it where the chunk is one byte. */
 static void measure_clearing(void)
 {
@@ -789,7 +836,7 @@ int main(int n_words, char **words)
                && measure_bytes("encode", encode_ours, encode_baseline, DXL_MAX_PACKET)
                && measure_bytes("encode 1.0", encode_v1_ours, encode_v1_baseline, 10)
                && measure_bytes("encode 1.0", encode_v1_ours, encode_v1_baseline, DXL_V1_MAX_PACKET) && measure_reader()
-               && measure_logs() && measure_plan(2) && measure_plan(253) && measure_instructions();
+               && measure_logs() && measure_plan(2) && measure_plan(253) && measure_instructions() && measure_boards();
     if (good)
         measure_clearing();
     return good ? 0 : 1;

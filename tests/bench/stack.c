@@ -115,6 +115,33 @@ static void call_reader_gap(void)
     } while (step.kind != DXL_NO_EVENT);
 }
 
+/* The registered writes that are tried: none, and one of a goal position. */
+static const struct dxl_registered REGISTERED[2] = {{0, 0, {0}, 0, 0}, {116, 4, {0}, 0, 4095}};
+
+/* The same lines into a board, and a record that is full. */
+static void call_board_line(void)
+{
+    MARK_TOP();
+    for (size_t n = 1; n <= sizeof line; n *= 8) {
+        struct dxl_board_step step;
+        count = 0;
+        for (size_t at = 0; at < n_line; at += step.taken) {
+            step = dxl_board_feed_parts(held, &count, line + at, n < n_line - at ? n : n_line - at, packet, table, REGISTERED[0]);
+            answered = step.kind;
+        }
+    }
+}
+
+static void call_board_held(void)
+{
+    struct dxl_board_step step;
+    MARK_TOP();
+    do {
+        step = dxl_board_gap_parts(held, &count, packet, table, REGISTERED[0]);
+        answered = step.kind;
+    } while (step.kind != DXL_NO_EVENT);
+}
+
 /* All kinds of events, from every offset to the next of them. */
 static void call_next_event(void)
 {
@@ -174,32 +201,29 @@ static void call_measure(void)
 /* To the device itself and to all, as a packet and as a bad checksum, with and without a registered write. */
 static void call_device(void)
 {
-    struct dxl_registered registered[2] = {{0, 0, {0}, 0, 0}, {116, 4, {0}, 0, 4095}};
     MARK_TOP();
     for (int i = 0; i < 8; i++) {
         uint8_t id = i & 1 ? 1 : DXL_BROADCAST_ID, kind = i & 2 ? DXL_PACKET : DXL_BAD_CHECKSUM;
         answered =
-            dxl_device(table, sizeof table, registered[i >> 2], kind, id, body, n_body, reply, sizeof reply).count;
+            dxl_device(table, sizeof table, REGISTERED[i >> 2], kind, id, body, n_body, reply, sizeof reply).count;
     }
 }
 
 /* The same in two calls. */
 static void call_carry_out(void)
 {
-    struct dxl_registered registered[2] = {{0, 0, {0}, 0, 0}, {116, 4, {0}, 0, 4095}};
     MARK_TOP();
     for (int i = 0; i < 8; i++) {
         uint8_t id = i & 1 ? 1 : DXL_BROADCAST_ID, kind = i & 2 ? DXL_PACKET : DXL_BAD_CHECKSUM;
-        answered = dxl_carry_out(table, sizeof table, registered[i >> 2], kind, id, body, n_body).refusal;
+        answered = dxl_carry_out(table, sizeof table, REGISTERED[i >> 2], kind, id, body, n_body).refusal;
     }
 }
 
 static void call_carry_out_packet(void)
 {
-    struct dxl_registered registered[2] = {{0, 0, {0}, 0, 0}, {116, 4, {0}, 0, 4095}};
     MARK_TOP();
     for (int i = 0; i < 4; i++)
-        answered = dxl_carry_out_packet(table, sizeof table, registered[i >> 1], received[i & 1], n_received, out, sizeof out).refusal;
+        answered = dxl_carry_out_packet(table, sizeof table, REGISTERED[i >> 1], received[i & 1], n_received, out, sizeof out).refusal;
 }
 
 static void call_status(void)
@@ -212,12 +236,36 @@ static void call_status(void)
 /* The same as packets in their bytes. */
 static void call_exchange(void)
 {
-    struct dxl_registered registered[2] = {{0, 0, {0}, 0, 0}, {116, 4, {0}, 0, 4095}};
     MARK_TOP();
     for (int i = 0; i < 4; i++) {
         const uint8_t *bytes = received[i & 1];
-        answered = dxl_exchange(table, sizeof table, registered[i >> 1], bytes, n_received, out, sizeof out, reply, sizeof reply)
+        answered = dxl_exchange(table, sizeof table, REGISTERED[i >> 1], bytes, n_received, out, sizeof out, reply, sizeof reply)
                        .count;
+    }
+}
+
+/* The same into a board, in one chunk and in two. */
+static void call_board_feed(void)
+{
+    MARK_TOP();
+    for (int i = 0; i < 4; i++) {
+        const uint8_t *bytes = received[i & 1];
+        size_t half = n_received / 2;
+        count = 0;
+        answered = dxl_board_feed_parts(held, &count, bytes, n_received, packet, table, REGISTERED[i >> 1]).kind;
+        answered = dxl_board_feed_parts(held, &count, bytes, half, packet, table, REGISTERED[i >> 1]).kind;
+        answered = dxl_board_feed_parts(held, &count, bytes + half, n_received - half, packet, table, REGISTERED[i >> 1]).kind;
+    }
+}
+
+/* And held when the gap comes. */
+static void call_board_gap(void)
+{
+    MARK_TOP();
+    for (int i = 0; i < 4; i++) {
+        count = n_received < sizeof held ? n_received : sizeof held;
+        memcpy(held, received[i & 1], count);
+        answered = dxl_board_gap_parts(held, &count, packet, table, REGISTERED[i >> 1]).kind;
     }
 }
 
@@ -386,6 +434,13 @@ static void call_plan_check(void)
     answered = dxl_plan_check(goals, 253, plan, sizeof plan);
 }
 
+/* By what the line brings and by what it asks for. */
+static size_t deepest_board(void (*prepare)(void), void (*by_line)(void), void (*by_instruction)(void))
+{
+    size_t line_depth = deepest(prepare, by_line), instruction_depth = deepest_device(by_instruction);
+    return line_depth > instruction_depth ? line_depth : instruction_depth;
+}
+
 static void tell(const char *name, size_t bytes)
 {
     printf("  %-20s %6zu\n", name, bytes);
@@ -426,6 +481,8 @@ int main(void)
     tell("dxl_log_salvage", deepest(nothing, call_log_salvage));
     tell("dxl_fresh", deepest(nothing, call_fresh));
     tell("dxl_measure", deepest(nothing, call_measure));
+    tell("dxl_board_feed_parts", deepest_board(all_kinds, call_board_line, call_board_feed));
+    tell("dxl_board_gap_parts", deepest_board(full_record, call_board_held, call_board_gap));
     tell("dxl_device", deepest_device(call_device));
     tell("dxl_exchange", deepest_device(call_exchange));
     tell("dxl_carry_out", deepest_device(call_carry_out));

@@ -7,16 +7,20 @@
 
 #include "mednukals.h"
 
-static struct dxl_reader reader;
-static uint8_t packet[DXL_MAX_PACKET], body[DXL_MAX_BODY];
-static uint8_t table[DXL_TABLE_BYTES], reply[DXL_MIN_REPLY];
-static struct dxl_registered registered;
-static struct dxl_reply waiting;
-
 /* What was sent, and in which slot at last. */
 static uint8_t sent[512];
 static size_t n_sent;
 static size_t last_slot;
+
+static unsigned failures;
+
+static void expect(int holds, const char *what, size_t chunk)
+{
+    if (!holds) {
+        fprintf(stderr, "C: chunks of %zu: %s\n", chunk, what);
+        failures++;
+    }
+}
 
 static void send_in_slot(const uint8_t *bytes, size_t n, size_t slot)
 {
@@ -27,52 +31,99 @@ static void send_in_slot(const uint8_t *bytes, size_t n, size_t slot)
     last_slot = slot;
 }
 
-static void slot_came(void)
+static void refused(int number)
+{
+    fprintf(stderr, "C: refused with %d\n", number);
+    failures++;
+}
+
+/* ---- the loop, as the header shows it; tests/docs_test.py compares them ---- */
+
+static struct dxl_board board;
+static struct dxl_reply waiting;
+
+static void send(const uint8_t *bytes, size_t n)
+{
+    send_in_slot(bytes, n, waiting.slot);
+}
+
+void slot_came(void)
 {
     uint8_t status[DXL_MIN_REPLY];
     int64_t n = dxl_status(waiting, status, sizeof status);
+    if (n < 0)
+        refused((int)-n);
     if (n > 0)
-        send_in_slot(status, (size_t)n, waiting.slot);
+        send(status, (size_t)n);
     waiting.speaks = 0;
 }
 
-static void hear(struct dxl_step step)
+static int heard(struct dxl_board_step step)
 {
-    int64_t n = 0;
-    if (step.kind == DXL_PACKET)
-        n = dxl_unstuff(packet + 7, step.count - 9, body, sizeof body);
-    struct dxl_carried carried = dxl_carry_out(table, sizeof table, registered, step.kind, step.id, body, (size_t)n);
-    registered = carried.registered;
-    if (step.kind == DXL_PACKET && packet[7] != DXL_INST_STATUS)
+    if (step.kind == DXL_NO_EVENT)
+        return 0;
+    if (step.kind > DXL_BAD_CHECKSUM) {
+        refused(step.kind);
+        return 0;
+    }
+    if (step.kind == DXL_PACKET && board.packet[7] != DXL_INST_STATUS)
         waiting.speaks = 0;
-    if (carried.reply.speaks) {
-        waiting = carried.reply;
+    if (step.reply.speaks) {
+        waiting = step.reply;
         if (waiting.slot == 0)
             slot_came();
     }
+    return 1;
 }
 
-static void bytes_came(const uint8_t *chunk, size_t n)
+void bytes_came(const uint8_t *chunk, size_t n)
 {
-    for (;;) {
-        struct dxl_step step = dxl_reader_feed(&reader, chunk, n, packet);
-        if (step.kind == DXL_NO_EVENT || step.kind == DXL_BAD_READER)
-            return;
+    struct dxl_board_step step;
+    do {
+        step = dxl_board_feed(&board, chunk, n);
         chunk += step.taken;
         n -= step.taken;
-        hear(step);
-    }
+    } while (heard(step));
 }
 
-static void line_was_silent(void)
+void line_was_silent(void)
 {
-    for (;;) {
-        struct dxl_step step = dxl_reader_gap(&reader, packet);
-        if (step.kind == DXL_NO_EVENT || step.kind == DXL_BAD_READER)
-            return;
-        hear(step);
-    }
+    while (heard(dxl_board_gap(&board)))
+        ;
 }
+
+/* ---- single calls, likewise ---- */
+
+static struct dxl_reader reader;
+static uint8_t packet[DXL_MAX_PACKET], body[DXL_MAX_BODY];
+static uint8_t table[DXL_TABLE_BYTES], reply[DXL_MIN_REPLY];
+static struct dxl_registered registered;
+
+static int same_registered(struct dxl_registered a, struct dxl_registered b)
+{
+    return a.address == b.address && a.count == b.count && memcmp(a.bytes, b.bytes, 8) == 0 && a.min == b.min && a.max == b.max;
+}
+
+static int same_reply(struct dxl_reply a, struct dxl_reply b)
+{
+    return a.speaks == b.speaks && a.id == b.id && a.error == b.error && a.count == b.count && memcmp(a.bytes, b.bytes, 8) == 0
+           && a.slot == b.slot;
+}
+
+static struct dxl_reply carry_out(struct dxl_step step)
+{
+    struct dxl_carried carried;
+    if (step.kind == DXL_PACKET)
+        carried = dxl_carry_out_packet(table, sizeof table, registered, packet, step.count, body, sizeof body);
+    else
+        carried = dxl_carry_out(table, sizeof table, registered, step.kind, step.id, body, 0);
+    if (carried.refusal != 0)
+        refused((int)-carried.refusal);
+    registered = carried.registered;
+    return carried.reply;
+}
+
+/* ---- tests ---- */
 
 /* The first bytes promise a packet that never comes; what stands in it is heard at the gap. */
 static const uint8_t noise[] = {0xFF, 0xFF, 0xFD, 0xFF, 0xFF, 0xFD, 0x00, 0x07, 0x00, 0x04};
@@ -95,16 +146,6 @@ static const uint8_t wanted[] = {
     0xFF, 0xFF, 0xFD, 0x00, 0x01, 0x07, 0x00, 0x55, 0x00, 0x06, 0x04, 0x26, 0x65, 0x5D,
 };
 
-static unsigned failures;
-
-static void expect(int holds, const char *what, size_t chunk)
-{
-    if (!holds) {
-        fprintf(stderr, "C: chunks of %zu: %s\n", chunk, what);
-        failures++;
-    }
-}
-
 static void feed_all(const uint8_t *bytes, size_t n, size_t chunk)
 {
     for (size_t at = 0; at < n; at += chunk)
@@ -114,8 +155,8 @@ static void feed_all(const uint8_t *bytes, size_t n, size_t chunk)
 static void exchange(size_t chunk, int with_noise)
 {
     n_sent = 0;
-    expect(dxl_fresh(table, sizeof table) == 0, "the table is refused", chunk);
-    expect(dxl_measure(table, sizeof table, 166, 0) == 0, "the measurement is refused", chunk);
+    dxl_board_start(&board);
+    expect(dxl_measure(board.table, sizeof board.table, 166, 0) == 0, "the measurement is refused", chunk);
     if (with_noise)
         feed_all(noise, sizeof noise, chunk);
     feed_all(line, sizeof line, chunk);
@@ -123,13 +164,51 @@ static void exchange(size_t chunk, int with_noise)
         expect(n_sent == 0, "a packet inside one that is still arriving is answered", chunk);
         line_was_silent();
     }
-    expect(reader.count == 0, "bytes are held at the end", chunk);
+    expect(board.count == 0, "bytes are held at the end", chunk);
     expect(waiting.speaks && waiting.slot == 1, "the reply to Ping to all does not wait for its slot", chunk);
     slot_came();
     expect(n_sent == sizeof wanted && memcmp(sent, wanted, sizeof wanted) == 0, "the answers are not those printed", chunk);
     expect(last_slot == 1, "Ping to all is not answered in the slot of the own ID", chunk);
-    expect(table[116] == 0 && table[117] == 2, "the goal position is not 512", chunk);
-    expect(table[104] == 200 && table[69] == 0 && registered.count == 0, "the registered write is not carried out", chunk);
+    expect(board.table[116] == 0 && board.table[117] == 2, "the goal position is not 512", chunk);
+    expect(board.table[104] == 200 && board.table[69] == 0, "the registered write is not carried out", chunk);
+    expect(board.registered.count == 0, "the registered write is still there", chunk);
+}
+
+/* What the reader has found is carried out; whether the board has done all of that too. */
+static int alike(struct dxl_step step, struct dxl_board_step done)
+{
+    int same = same_reply(done.reply, carry_out(step)) && same_registered(done.registered, registered)
+               && same_registered(board.registered, registered) && memcmp(board.table, table, sizeof table) == 0;
+    return same && done.taken == step.taken && done.count == step.count && done.kind == step.kind && done.id == step.id
+           && board.count == reader.count && memcmp(board.held, reader.bytes, sizeof reader.bytes) == 0;
+}
+
+/* The same by single calls: each step of a board is one of the reader, carried out, and the held bytes are the same. [B1 B3 B8] */
+static void in_single_calls(size_t chunk, int with_noise)
+{
+    static const struct dxl_registered none;
+    uint8_t bytes[sizeof noise + sizeof line];
+    struct dxl_step step;
+    memcpy(bytes, noise, sizeof noise);
+    memcpy(bytes + sizeof noise, line, sizeof line);
+    dxl_board_start(&board);
+    dxl_fresh(table, sizeof table);
+    registered = none;
+    memset(&reader, 0, sizeof reader);
+    for (size_t at = with_noise ? 0 : sizeof noise; at < sizeof bytes;) {
+        size_t n = chunk < sizeof bytes - at ? chunk : sizeof bytes - at;
+        do {
+            step = dxl_reader_feed(&reader, bytes + at, n, packet);
+            expect(alike(step, dxl_board_feed(&board, bytes + at, n)), "a board's feeding call is not the single calls", chunk);
+            at += step.taken;
+            n -= step.taken;
+        } while (step.kind != DXL_NO_EVENT);
+    }
+    do {
+        step = dxl_reader_gap(&reader, packet);
+        expect(alike(step, dxl_board_gap(&board)), "a board's gap call is not the single calls", chunk);
+    } while (step.kind != DXL_NO_EVENT);
+    expect(table[117] == 2 && table[104] == 200, "the single calls have not carried out what was heard", chunk);
 }
 
 /* The same packets, each given to the device in one call. */
@@ -169,10 +248,7 @@ static void in_two_calls(void)
         struct dxl_carried carried = dxl_carry_out_packet(two, sizeof two, left, line + at, n, second, sizeof second);
         expect(carried.refusal == 0 && memcmp(one, two, sizeof one) == 0, "in two calls: another table", 0);
         expect(memcmp(body, second, sizeof body) == 0, "in two calls: another body buffer", 0);
-        expect(carried.registered.address == answer.registered.address && carried.registered.count == answer.registered.count
-                   && memcmp(carried.registered.bytes, answer.registered.bytes, 8) == 0
-                   && carried.registered.min == answer.registered.min && carried.registered.max == answer.registered.max,
-               "in two calls: another registered write", 0);
+        expect(same_registered(carried.registered, answer.registered), "in two calls: another registered write", 0);
         expect(carried.reply.speaks == (answer.count > 0) && carried.reply.slot == answer.slot, "in two calls: another slot", 0);
         expect(dxl_status(carried.reply, other, sizeof other) == answer.count, "in two calls: another count", 0);
         expect(answer.count == 0 || memcmp(reply, other, (size_t)answer.count) == 0, "in two calls: another status", 0);
@@ -268,29 +344,25 @@ static void fresh_in_mid_life(void)
     }
 }
 
-/* A Reboot that was carried out is told by the event and its packet, as docs/INTEGRATING.md says. */
+/* A Reboot that was carried out is told by instruction and error, as the header and docs/INTEGRATING.md say. [B4 B5] */
 static void reboots(void)
 {
     static const struct {
         uint8_t id, instruction, params, damage;
     } said[] = {{1, DXL_INST_REBOOT, 0, 0}, {DXL_BROADCAST_ID, DXL_INST_REBOOT, 0, 0}, {2, DXL_INST_REBOOT, 0, 0},
                 {1, DXL_INST_REBOOT, 1, 0}, {1, DXL_INST_REBOOT, 0, 1},                {1, DXL_INST_PING, 0, 0}};
-    static const struct dxl_registered none;
     const uint8_t params[] = {0};
     uint8_t bytes[16];
-    registered = none;
-    dxl_fresh(table, sizeof table);
+    dxl_board_start(&board);
     for (size_t i = 0; i < sizeof said / sizeof said[0]; i++) {
-        table[DXL_REG_LAMP] = 1;
+        board.table[DXL_REG_LAMP] = 1;
         int64_t n = dxl_encode(said[i].id, said[i].instruction, params, said[i].params, bytes, sizeof bytes, 0);
         expect(n > 0, "a packet is refused", 0);
         bytes[n - 1] ^= said[i].damage;
-        struct dxl_step step = dxl_reader_feed(&reader, bytes, (size_t)n, packet);
-        int told = step.kind == DXL_PACKET && step.count == 10 && packet[7] == DXL_INST_REBOOT
-                   && (step.id == table[DXL_REG_ID] || step.id == DXL_BROADCAST_ID);
-        hear(step);
+        struct dxl_board_step step = dxl_board_feed(&board, bytes, (size_t)n);
+        int told = step.instruction == DXL_INST_REBOOT && step.error == 0;
+        expect(told == (board.table[DXL_REG_LAMP] == 0), "a Reboot is told wrongly", 0);
         line_was_silent();
-        expect(told == (table[DXL_REG_LAMP] == 0), "a Reboot is told wrongly", 0);
     }
 }
 
@@ -361,8 +433,10 @@ int main(void)
 {
     static const size_t chunks[] = {1, 3, 7, 64, sizeof line};
     for (size_t i = 0; i < sizeof chunks / sizeof chunks[0]; i++) {
-        exchange(chunks[i], 0);
-        exchange(chunks[i], 1);
+        for (int with_noise = 0; with_noise < 2; with_noise++) {
+            exchange(chunks[i], with_noise);
+            in_single_calls(chunks[i], with_noise);
+        }
     }
     in_one_call();
     in_two_calls();

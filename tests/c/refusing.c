@@ -1,7 +1,10 @@
 /*
- * Stands between the example board and the library, by the linker's --wrap: the call that REFUSING names, in the environment,
+ * Stands between an example board and the library, by the linker's --wrap: the call that REFUSING names, in the environment,
  * answers the refusal REFUSAL; all others go on to the library. Nothing that comes over the line makes a call of the board
  * refuse, and so this shows what the board does then.
+ *
+ * The inline functions of the header are compiled into the board, and no name of theirs reaches the linker: what is wrapped is the
+ * call within, dxl_board_feed_parts of dxl_board_feed.
  */
 #include <stdlib.h>
 #include <string.h>
@@ -36,31 +39,29 @@ static int64_t refusal(const char *call)
         return step.kind != 0 ? step : __real_##name arguments;    \
     }
 
+/* A call on a board, with all of its step 0 but the registered write. */
+#define BOARD_STEP(name, parameters, arguments)                 \
+    DECLARE(struct dxl_board_step, name, parameters)            \
+    {                                                           \
+        static const struct dxl_board_step nothing;             \
+        struct dxl_board_step step = nothing;                   \
+        step.kind = (uint8_t)refusal(#name);                    \
+        step.registered = registered;                           \
+        return step.kind != 0 ? step : __real_##name arguments; \
+    }
+
 COUNT(dxl_encode,
       (uint8_t id, uint8_t instruction, const uint8_t *params, size_t n_params, uint8_t *out, size_t n_out, size_t at),
       (id, instruction, params, n_params, out, n_out, at))
-COUNT(dxl_unstuff, (const uint8_t *body, size_t n_body, uint8_t *out, size_t n_out), (body, n_body, out, n_out))
-COUNT(dxl_fresh, (uint8_t *table, size_t n), (table, n))
 COUNT(dxl_measure, (uint8_t *table, size_t n, int32_t position, uint8_t hardware_error), (table, n, position, hardware_error))
+COUNT(dxl_status, (struct dxl_reply reply, uint8_t *out, size_t n_out), (reply, out, n_out))
 STEP(dxl_reader_feed, (struct dxl_reader *reader, const uint8_t *chunk, size_t n, uint8_t packet[1031]), (reader, chunk, n, packet))
 STEP(dxl_reader_gap, (struct dxl_reader *reader, uint8_t packet[1031]), (reader, packet))
-
-COUNT(dxl_status, (struct dxl_reply reply, uint8_t *out, size_t n_out), (reply, out, n_out))
-
-/* A first call, with all of its reply 0. */
-#define CARRIED(name, parameters, arguments)                                          \
-    DECLARE(struct dxl_carried, name, parameters)                                     \
-    {                                                                                 \
-        static const struct dxl_reply silence;                                        \
-        struct dxl_carried refused = {-refusal(#name), silence, registered};          \
-        return refused.refusal != 0 ? refused : __real_##name arguments;              \
-    }
-
-CARRIED(dxl_carry_out,
-        (uint8_t *table, size_t n_table, struct dxl_registered registered, uint8_t kind, uint8_t id, const uint8_t *body,
-         size_t n_body),
-        (table, n_table, registered, kind, id, body, n_body))
-CARRIED(dxl_carry_out_packet,
-        (uint8_t *table, size_t n_table, struct dxl_registered registered, const uint8_t *packet, size_t n_packet, uint8_t *body,
-         size_t n_body),
-        (table, n_table, registered, packet, n_packet, body, n_body))
+BOARD_STEP(dxl_board_feed_parts,
+           (uint8_t held[DXL_MAX_HELD], size_t *count, const uint8_t *chunk, size_t n, uint8_t packet[DXL_MAX_PACKET],
+            uint8_t table[DXL_TABLE_BYTES], struct dxl_registered registered),
+           (held, count, chunk, n, packet, table, registered))
+BOARD_STEP(dxl_board_gap_parts,
+           (uint8_t held[DXL_MAX_HELD], size_t *count, uint8_t packet[DXL_MAX_PACKET], uint8_t table[DXL_TABLE_BYTES],
+            struct dxl_registered registered),
+           (held, count, packet, table, registered))

@@ -321,6 +321,7 @@ static void test_in_order(void)
     run(20000, 100);
     want_status(1, DXL_ERROR_CHECKSUM, NOTHING, 0);
     expect_ping_answer(1);
+    expect(sent_at - busy_until < 1500 * NANOS, "the event that is left in the held bytes waits for the gap");
 
     power_up("more than one chunk for a turn of the loop");
     instruct(1, DXL_INST_PING, NOTHING, 0);
@@ -691,24 +692,34 @@ static void test_baud(void)
     forget_store();
 }
 
-/* A call refuses, by tests/c/refusing.c. */
+/* A call refuses, by tests/c/refusing.c, at power-up or later. */
 static void test_fault(const char *call, const char *number)
 {
-    forget_store();
-    power_up("a refusal");
+    make_store(store, &OLD, 0xFFFF);
     setenv("REFUSING", call, 1);
     setenv("REFUSAL", number, 1);
     if (setjmp(faulted) == 0) {
+        power_up("a refusal");
         say(NOTHING, 1);
         say((const uint8_t *)"\xFF\xFF\xFD", 3); /* is held until the gap */
         run(20000, 100);
-        instruct(1, DXL_INST_PING, NOTHING, 0);
-        run(20000, 100);
-        say((const uint8_t *)"\xFF\xFF\xFD\x00\x01\x03\x00\x01\x19\x4F", 10); /* a bad checksum */
+        instruct(9, DXL_INST_PING, NOTHING, 0);
         run(20000, 100);
     }
     expect(fault == atoi(number), call);
     unsetenv("REFUSING");
+    forget_store();
+}
+
+/* Each refusal that a call of the board's loop has. [B2] */
+static void test_faults(void)
+{
+    static const char *const refusals[][2] = {
+        {"dxl_board_feed_parts", "25"}, {"dxl_board_feed_parts", "22"}, {"dxl_board_feed_parts", "23"},
+        {"dxl_board_gap_parts", "25"},  {"dxl_board_gap_parts", "22"},  {"dxl_board_gap_parts", "23"},
+        {"dxl_encode", "11"},           {"dxl_measure", "21"},          {"dxl_status", "24"}};
+    for (size_t i = 0; i < sizeof refusals / sizeof refusals[0]; i++)
+        test_fault(refusals[i][0], refusals[i][1]);
 }
 
 int main(void)
@@ -735,12 +746,7 @@ int main(void)
     test_cut_stores();
     test_ranges();
     test_baud();
-    test_fault("dxl_reader_feed", "25");
-    test_fault("dxl_reader_gap", "25");
-    test_fault("dxl_measure", "21");
-    test_fault("dxl_carry_out", "22");
-    test_fault("dxl_carry_out_packet", "23");
-    test_fault("dxl_status", "24");
+    test_faults();
     if (failures != 0)
         return 1;
     printf("uart: the board on a simulated UART, %u tests\n", tests);

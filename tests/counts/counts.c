@@ -9,6 +9,7 @@
 #include <string.h>
 
 #include "baseline.h"
+#include "board.h"
 #include "lines.h"
 #include "mednukals.h"
 #include "test_exports.h"
@@ -681,6 +682,97 @@ static void count_faults(void)
     count(NAME(dxl_status), "refused", status, -DXL_SHORT_REPLY);
 }
 
+/* A board, by the one call, and the same by the single calls: tests/counts_test.py compares the two. */
+static const struct one_call one = {dxl_board_feed_parts, dxl_board_gap_parts};
+static const struct single_calls single = {dxl_feed, dxl_gap, dxl_unstuff, dxl_carry_out};
+
+static int64_t came_of(struct outcome outcome)
+{
+    return joined(outcome.events, outcome.error, board_memory.board.table[DXL_REG_GOAL_POSITION]);
+}
+
+static int64_t board_feed(void)
+{
+    return came_of(feed_by_one(&one, lent.line, given.n, given.chunk));
+}
+
+static int64_t single_feed(void)
+{
+    return came_of(feed_by_single(&single, lent.line, given.n, given.chunk));
+}
+
+static int64_t board_gap(void)
+{
+    return came_of(gap_by_one(&one));
+}
+
+static int64_t single_gap(void)
+{
+    return came_of(gap_by_single(&single));
+}
+
+/* A fresh board that holds so many bytes of the line. */
+static void begin_board(size_t held)
+{
+    dxl_board_start(&board_memory.board);
+    memcpy(board_memory.board.held, lent.line, held);
+    board_memory.board.count = held;
+}
+
+static void count_board_line(const struct board_line *kind)
+{
+    char input[48], same[64];
+    int64_t wanted = joined(kind->events, kind->error, kind->goal);
+    given.n = kind->fill(lent.line, sizeof lent.line);
+    given.chunk = kind->chunk > 0 ? kind->chunk : given.n;
+    if (kind->chunk > 0)
+        snprintf(input, sizeof input, "%s, by %zu", kind->name, kind->chunk);
+    else
+        snprintf(input, sizeof input, "%s", kind->name);
+    snprintf(same, sizeof same, "single calls, %s", input);
+    begin_board(0);
+    count(NAME(dxl_board_feed_parts), input, board_feed, wanted);
+    begin_board(0);
+    count(NAME(dxl_feed), same, single_feed, wanted);
+}
+
+static void count_board_gap(const char *input, size_t held, int64_t events)
+{
+    char same[64];
+    snprintf(same, sizeof same, "single calls, %s", input);
+    begin_board(held);
+    count(NAME(dxl_board_gap_parts), input, board_gap, joined(events, 0, 0));
+    begin_board(held);
+    count(NAME(dxl_gap), same, single_gap, joined(events, 0, 0));
+}
+
+static size_t worst_line(uint8_t *line, size_t n)
+{
+    (void)n;
+    worst_call(line);
+    return WORST_CALL;
+}
+
+/* The gaps are those of the reader's own call. A refusal is no work, and is not compared. */
+static void count_boards(void)
+{
+    static const struct board_line worst = {"worst call", worst_line, 0, 0, 0, 0};
+    for (size_t i = 0; i < BOARD_LINES; i++)
+        count_board_line(&board_lines[i]);
+    count_board_line(&worst);
+    lines[WORST_NOISE].fill(lent.line, 7);
+    lines[PACKETS_OF_14].fill(lent.line + 7, DXL_MAX_HELD - 7);
+    count_board_gap("nothing held", 0, 0);
+    count_board_gap("a header held", 7, 0);
+    count_board_gap("73 packets held", 7 + 73 * 14, 73);
+    worst_call(lent.line + 7);
+    count_board_gap("worst call held", 7 + WORST_CALL, 0);
+    begin_board(0);
+    board_memory.board.registered.count = 9;
+    count(NAME(dxl_board_feed_parts), "refused", board_feed, joined(-DXL_BAD_REGISTERED, 0, 0));
+    count(NAME(dxl_board_gap_parts), "refused", board_gap, joined(-DXL_BAD_REGISTERED, 0, 0));
+}
+
 static int64_t plan(void)
 {
     return dxl_plan(lent.goals, given.n, lent.plan, given.room);
@@ -737,6 +829,7 @@ int main(void)
         count_in_two(&heard[i]);
     count_lists();
     count_faults();
+    count_boards();
     count_plans();
     return 0;
 }

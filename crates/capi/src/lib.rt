@@ -38,12 +38,12 @@ ghost use Rattle.device.specs.Answers.{carriedAnswer, carriedReply, carriedRegi
 ghost use Rattle.device.specs.Split.{Split};
 ghost use Rattle.device.specs.Promises.{DevicePromises};
 ghost use Rattle.exchange.specs.Exchange.{packetAnswer, packetReply, packetRegistered, packetTable, packetBody, exchangeAnswer, exchangeRegistered, exchangeTable, exchangeBody, exchangeOut};
-ghost use Rattle.exchange.specs.Calls.{stateOf, afterCall};
-ghost use Rattle.exchange.specs.Calls.{fresh as Call·fresh, measurement as Call·measurement, device as Call·device, exchange as Call·exchange};
-ghost use Rattle.exchange.specs.Calls.{carry as Call·carry, carryPacket as Call·carryPacket};
+ghost use Rattle.device_calls.specs.Calls.{stateOf, afterCall};
+ghost use Rattle.device_calls.specs.Calls.{fresh as Call·fresh, measurement as Call·measurement, device as Call·device, exchange as Call·exchange};
+ghost use Rattle.device_calls.specs.Calls.{carry as Call·carry, carryPacket as Call·carryPacket};
 ghost use Rattle.instructions.specs.declared.RegisteredWrite.{RegisteredWrite as Ghost·RegisteredWrite};
-ghost use Rattle.exchange.specs.Stays.{StaysAccepted};
-ghost use Rattle.exchange.specs.GoalWithinLimits.{GoalWithinLimits};
+ghost use Rattle.device_calls.specs.Stays.{StaysAccepted};
+ghost use Rattle.device_calls.specs.GoalWithinLimits.{GoalWithinLimits};
 ghost use Rattle.exchange.specs.Promises.{ExchangePromises};
 ghost use Rattle.plan.specs.Planner.{planAnswer, planOut};
 ghost use Rattle.plan_laws.specs.Planned.{Planned};

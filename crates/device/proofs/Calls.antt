@@ -10,7 +10,7 @@ use lib.ListN.{length}
 use borrow.Author.Tests.{eq-eqb, ne-eqb, le-leb, lt-leb, eqb-true, leb-true}
 use Rattle.registers.specs.Registers.{tableSize}
 use Rattle.reactions.specs.Reactions.{ownId}
-use Rattle.device.specs.Answers.{sent, refused, replyUnless, stateRefusal, roomRefusal, orElse, callRefusal, repliedAnswer, answeredBy}
+use Rattle.device.specs.Answers.{sent, refused, replyUnless, errorUnless, stateRefusal, roomRefusal, orElse, callRefusal, repliedAnswer, answeredBy}
 use Rattle.device.specs.Split.{answerOfBoth}
 use Rattle.status.specs.Status.{silence}
 use Rattle.instructions.specs.Registered.{keptBy}
@@ -107,6 +107,7 @@ pub record Refuses (refusal : Option ℕ) (r : Replied) : Type 0 where
   pub keeps : (old new : RegisteredWrite) → old ≡ keptBy refusal old new
   -- of the first call, and of both where the second is not made
   pub silences : (reply : Reply) → silence ≡ replyUnless refusal reply
+  pub errs : (error : ℕ) → 0 ≡ errorUnless refusal error
   pub stops : (reply : Reply) (out : List ℕ) → repliedAnswer r ≡ answerOfBoth refusal reply out
 
 pub told-some : (r : Replied) (number : ℕ) → repliedAnswer r ≡ refused number → Refuses (some number) r
@@ -117,6 +118,7 @@ told-some r number e =
       leaves = λ old new. refl;
       keeps = λ old new. refl;
       silences = λ reply. refl;
+      errs = λ error. refl;
       stops = λ reply out. e;
     }
 

@@ -33,7 +33,7 @@ module _ (table : List ℕ) (w : RegisteredWrite) (heard : Heard) (id : ℕ) (bo
   to-device false e all = rw (e, eq-eqb id 254 (all refl))
 
   pub to-another : (id ≡ getD table 7 0 → ⊥) → (id ≡ 254 → ⊥)
-      → _≡_ {A = Carried} (record { table = table; registered = w; reply = silence }) (carryOut table w heard id body)
+      → _≡_ {A = Carried} (record { table = table; registered = w; reply = silence; error = 0 }) (carryOut table w heard id body)
   unfolding executed
   to-another n m = rw (ne-eqb id (getD table 7 0) n, ne-eqb id 254 m)
 

@@ -13,19 +13,19 @@ use Rattle.registers.specs.Registers.{tableSize}
 use Rattle.instructions.specs.Instructions.{Effect, read, write}
 use Rattle.instructions.proofs.Options.{each-option, each-action}
 use Rattle.instructions.proofs.Kept.{Kept, write-keeps, reg-write-keeps, action-keeps, factory-reset-keeps}
-use Rattle.instructions.proofs.Fit.{reg-write-short}
+use Rattle.instructions.proofs.Fit.{FitTable, fit-kept, reg-write-short}
 use Rattle.reactions.specs.Reactions.{Reaction}
 use Rattle.reaction_laws.proofs.Every.{every}
-use Rattle.device.specs.Device.{executed}
+use Rattle.device.specs.Device.{executed, carryOut}
 use Rattle.device.specs.Answers.{stateRefusal, carriedTable, carriedRegistered, callRefusal, callTable, callRegistered}
 use Rattle.instructions.specs.Registered.{keptBy}
-use Rattle.device.proofs.Calls.{AcceptedState, state-accepted, accepted}
+use Rattle.device.proofs.Calls.{AcceptedState, accepts-state, state-accepted, accepted}
 use Rattle.device.proofs.Replies.{to-whomever}
 use Rattle.instructions.specs.declared.RegisteredWrite.{RegisteredWrite}
 use Rattle.reactions.specs.declared.Heard.{Heard}
 
 module _ (P : List ℕ → Type 0) (kept : Kept P) (table : List ℕ) (p : P table) (w : RegisteredWrite) (heard : Heard) (id : ℕ) (body : List ℕ) where
-  executed-keeps : P (executed table w heard id body .effect .table)
+  pub executed-keeps : P (carryOut table w heard id body .table)
   unfolding read
   executed-keeps =
       to-whomever table w heard id body (λ (r : Reaction). P (r .effect .table))
@@ -45,7 +45,7 @@ module _ (P : List ℕ → Type 0) (kept : Kept P) (table : List ℕ) (p : P tab
   call-keeps out = unless-keeps (callRefusal table w out)
 
 module _ (table : List ℕ) (w : RegisteredWrite) (heard : Heard) (id : ℕ) (body : List ℕ) where
-  executed-short : length table ≡ tableSize → w .count ≤ 8 → executed table w heard id body .effect .registered .count ≤ 8
+  executed-short : length table ≡ tableSize → w .count ≤ 8 → carryOut table w heard id body .registered .count ≤ 8
   unfolding read write
   executed-short sized short =
       to-whomever table w heard id body (λ (r : Reaction). r .effect .registered .count ≤ 8)
@@ -69,3 +69,10 @@ module _ (table : List ℕ) (w : RegisteredWrite) (heard : Heard) (id : ℕ) (bo
   call-count out =
       unless-count (callRefusal table w out)
       (λ e. let a = accepted table w out e in record { sized = a .sized; known = a .known; short = a .short })
+
+  -- where nothing is refused
+  pub carry-accepted : stateRefusal table w ≡ none → stateRefusal (carryOut table w heard id body .table) (carryOut table w heard id body .registered) ≡ none
+  carry-accepted e =
+      let a = state-accepted table w e in
+      let f = executed-keeps FitTable fit-kept table (record { sized = a .sized; known = a .known }) w heard id body in
+      accepts-state _ _ (f .sized) (f .known) (executed-short (a .sized) (a .short))

@@ -16,7 +16,7 @@ use Rattle.reactions.specs.declared.Heard.{Heard}
 
 module _ (table : List ℕ) (w : RegisteredWrite) (heard : Heard) (body out : List ℕ) where
   -- an accepted table has another ID
-  nothing-done : ownId table ≤ 252 → carryOut table w heard 255 body ≡ record { table = table; registered = w; reply = silence }
+  nothing-done : ownId table ≤ 252 → carryOut table w heard 255 body ≡ record { table = table; registered = w; reply = silence; error = 0 }
   nothing-done known = sym (to-another table w heard 255 body (λ i. absurd (omega arith)) (λ i. absurd (omega arith)))
 
   -- nothing changes, and the answer is that of a device with nothing to say

@@ -28,6 +28,11 @@ abbrev pub replyUnless : Option ℕ → Reply → Reply
 replyUnless none reply = reply
 replyUnless (some number) reply = silence
 
+-- and has no error number
+abbrev pub errorUnless : Option ℕ → ℕ → ℕ
+errorUnless none error = error
+errorUnless (some number) error = 0
+
 module _ (table : List ℕ) (w : RegisteredWrite) (heard : Heard) (id : ℕ) (body : List ℕ) where
   -- [D50 D51]
   abbrev pub carriedReply : Reply
@@ -40,6 +45,10 @@ module _ (table : List ℕ) (w : RegisteredWrite) (heard : Heard) (id : ℕ) (bo
   -- [D50]
   abbrev pub carriedRegistered : RegisteredWrite
   carriedRegistered = keptBy (stateRefusal table w) w (carryOut table w heard id body .registered)
+
+  -- [D50]
+  abbrev pub carriedError : ℕ
+  carriedError = errorUnless (stateRefusal table w) (carryOut table w heard id body .error)
 
 -- ---- the device call: instruction and status in one
 

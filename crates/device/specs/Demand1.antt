@@ -5,7 +5,7 @@ use Prim.Native.Nat.{ℕ, _<_}
 use lib.ListN.{getD}
 use Rattle.status.specs.Status.{errorByte}
 use Rattle.reaction_laws.specs.Refused.{tableIfRefused, registeredIfRefused}
-use Rattle.device.specs.Device.{hardwareErrorIn, executed}
+use Rattle.device.specs.Device.{hardwareErrorIn, carryOut}
 use Rattle.device.specs.Answers.{sent, refused, callAnswer, callTable, callRegistered, callOut}
 use Rattle.instructions.specs.declared.RegisteredWrite.{RegisteredWrite}
 use Rattle.reactions.specs.declared.Heard.{Heard}
@@ -13,7 +13,7 @@ use Rattle.reactions.specs.declared.Heard.{Heard}
 -- the error number of an instruction, 0 for none: that of its status, or of the status that it would have where it is not answered
 -- [D40]
 abbrev pub errorNumber : List ℕ → RegisteredWrite → Heard → ℕ → List ℕ → ℕ
-errorNumber table w heard id body = executed table w heard id body .effect .error
+errorNumber table w heard id body = carryOut table w heard id body .error
 
 module _ (table : List ℕ) (w : RegisteredWrite) (heard : Heard) (id : ℕ) (body out : List ℕ) where
   pub record LeftAlone : Type 0 where

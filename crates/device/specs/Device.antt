@@ -1,5 +1,5 @@
 -- What the device makes of what it hears: one definition from (table, registered write, what was heard, its ID, unstuffed body) to
--- (new table, new registered write, reply).
+-- (new table, new registered write, reply, error number).
 use mathlib.Core.Bool.{true, false, cond}
 use mathlib.Core.List.{List}
 use Prim.Native.Nat.{ℕ}
@@ -23,14 +23,21 @@ replyBy (speaks least slot) table e =
     cond (leb least (getD table (statusReturnLevel .address) 0))
     (status (ownId table) (errorByte (e .error) (hardwareErrorIn (e .table))) (e .bytes) slot) silence
 
+-- the error number is 0 for none; it is there also where the reply is silence
 pub record Carried : Type 0 where
   pub table : List ℕ
   pub registered : RegisteredWrite
   pub reply : Reply
+  pub error : ℕ
 
 abbrev pub carried : List ℕ → Reaction → Carried
 carried table r =
-    record { table = r .effect .table; registered = r .effect .registered; reply = replyBy (r .replying) table (r .effect) }
+    record {
+      table = r .effect .table;
+      registered = r .effect .registered;
+      reply = replyBy (r .replying) table (r .effect);
+      error = r .effect .error;
+    }
 
 -- what is done with what was sent to the own ID, to all devices, or to another
 unfoldable pub executed : List ℕ → RegisteredWrite → Heard → ℕ → List ℕ → Reaction

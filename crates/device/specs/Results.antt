@@ -26,4 +26,4 @@ replyTo after own level r =
 
 -- what is carried out, but for the table; nothing is refused
 abbrev pub carriedOf : Carried → CarriedOut
-carriedOf c = record { refused = Sent 0 0; reply = c .reply; registered = c .registered }
+carriedOf c = record { refused = Sent 0 0; reply = c .reply; registered = c .registered; error = c .error }

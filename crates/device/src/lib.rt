@@ -20,7 +20,7 @@ ghost use Rattle.status.specs.Status.{silence as Status·silence};
 ghost use Rattle.status.specs.Sending.{writtenAnswer, statusAnswer, statusOut};
 ghost use Rattle.device.specs.Device.{carried, carryOut};
 ghost use Rattle.reactions.specs.Reactions.{reaction as Reactions·reaction};
-ghost use Rattle.device.specs.Answers.{repliedAnswer, withSlot, stateRefusal, carriedAnswer, carriedReply, carriedRegistered, carriedTable, callRefusal, answeredBy, callAnswer, callRegistered, callTable, callOut};
+ghost use Rattle.device.specs.Answers.{repliedAnswer, withSlot, stateRefusal, carriedAnswer, carriedReply, carriedRegistered, carriedError, carriedTable, callRefusal, answeredBy, callAnswer, callRegistered, callTable, callOut};
 ghost use Rattle.device.specs.Results.{replyTo, carriedOf};
 
 // By the ID and the status return level from before the instruction, and the table from after it.
@@ -58,11 +58,13 @@ pub enum Replied {
     LongReply,
 }
 
-// What the first call leaves: a fault of the caller, or `Sent(0, 0)` for none; the reply; the registered write.
+// What the first call leaves: a fault of the caller, or `Sent(0, 0)` for none; the reply; the registered write; the error number, 0 for
+// none, also where it is not answered.
 pub struct CarriedOut {
     pub refused: Replied,
     pub reply: Reply,
     pub registered: RegisteredWrite,
+    pub error: u8,
 }
 
 // What was sent to the own ID, or to all devices.
@@ -86,6 +88,7 @@ fn execute(
         refused: Replied::Sent(0, 0),
         reply: reply_to(&table[..], own, level, reacted),
         registered: kept,
+        error: done.error,
     }
 }
 
@@ -108,6 +111,7 @@ fn dispatch(
                 refused: Replied::Sent(0, 0),
                 reply: status::silence(),
                 registered,
+                error: 0,
             };
         }
     }
@@ -148,6 +152,7 @@ pub fn carry_out(
     ensures { λ r. ⌜ repliedAnswer (r .refused) ≡ carriedAnswer (now (table .entry)) registered ⌝ }
     ensures { λ r. ⌜ r .reply ≡ carriedReply (now (table .entry)) registered heard id (now (body .entry)) ⌝ }
     ensures { λ r. ⌜ r .registered ≡ carriedRegistered (now (table .entry)) registered heard id (now (body .entry)) ⌝ }
+    ensures { λ r. ⌜ r .error ≡ carriedError (now (table .entry)) registered heard id (now (body .entry)) ⌝ }
     ensures { λ _. ⌜ now (table .exit) ≡ carriedTable (now (table .entry)) registered heard id (now (body .entry)) ⌝ }
 {
     let refused = state_refusal(&table[..], registered);
@@ -156,6 +161,7 @@ pub fn carry_out(
             refused,
             reply: status::silence(),
             registered,
+            error: 0,
         };
     };
     dispatch(table, registered, heard, id, body)

@@ -18,22 +18,18 @@ use Rattle.protocols.proofs.Shapes.{laws, id-at}
 use Rattle.framer.specs.declared.Step.{Step}
 use Rattle.framer.specs.Results.{mostHeld, eventFor, packetBytes, stepFor, heldFor, packetFor}
 use Rattle.framer.specs.Delivered.{eventWith, sizeIn, Delivered}
+use Rattle.framer.proofs.Deliveries.{size-is}
 
 -- the buffer after its end is cleared
-abbrev cleared : List ℕ → ℕ → List ℕ
+abbrev pub cleared : List ℕ → ℕ → List ℕ
 cleared buffer n = take n buffer ++ replicate (length buffer - n) 0
 
-cleared-is : (buffer new front : List ℕ) (n most : ℕ) → length buffer ≡ most → n ≡ length front → take n buffer ≡ front
+pub cleared-is : (buffer new front : List ℕ) (n most : ℕ) → length buffer ≡ most → n ≡ length front → take n buffer ≡ front
     → new ≡ cleared buffer n → new ≡ padded most front
 cleared-is buffer new front n most l i j e =
     e ∙ ap₂ (λ (s : List ℕ) (k : ℕ). s ++ replicate k 0) j (ap₂ (λ (x y : ℕ). x - y) l i)
 
 -- ---- the event
-
-size-is : (id : ℕ) (a : Option Event) → sizeIn (eventWith id a) ≡ length (packetBytes a)
-size-is id none = refl
-size-is id (some (packet w)) = refl
-size-is id (some (badChecksum id′)) = refl
 
 -- a packet has its ID, and so has a buffer for the longest
 id-inside : (p : Protocol) (w : List ℕ) → rulesOf p .WellFormed w → idPlace p < length w
@@ -72,6 +68,14 @@ of-fields step step′ i j k = λ x. record { taken = i x; held = j x; event = k
 abbrev Answered : (p : Protocol) (count : ℕ) (r : CallResult) (held bytes : List ℕ) (step : Step) (held′ bytes′ : List ℕ) → Type 0
 Answered p count r held bytes step held′ bytes′ =
     (step ≡ stepFor p count r) × (held′ ≡ heldFor p count held r) × (bytes′ ≡ packetFor p count bytes r)
+
+pub step-is : (p : Protocol) (count : ℕ) (h : List ℕ) (c : Call) (held bytes : List ℕ) (step : Step) → count ≤ mostHeld p
+    → Delivered p (call (rulesOf p) h c) step held bytes → step ≡ stepFor p count (call (rulesOf p) h c)
+step-is p count h c held bytes step l w =
+    let r = call (rulesOf p) h c in
+    rw (le-leb count (mostHeld p) l)
+    (of-fields step _ (w .taken-is) (w .count-is)
+    (w .event-is ∙ event-is p (r .answer) bytes (packet-good (rulesOf p) (laws p) h c) (w .bytes-are)))
 
 pub answered : (p : Protocol) (count : ℕ) (h : List ℕ) (c : Call) (held₀ bytes₀ held bytes held′ bytes′ : List ℕ) (step : Step)
     → count ≤ mostHeld p → length held ≡ mostHeld p → length bytes ≡ rulesOf p .longest → Delivered p (call (rulesOf p) h c) step held bytes

@@ -1,25 +1,25 @@
 -- A step says what the result says, once the event's bytes and the held ones stand in their buffers.
-use mathlib.Core.Path.{_≡_, refl, sym, ap, ap₂, _∙_}
+use mathlib.Core.Path.{_≡_, refl, sym, ap, ap₂, subst, _∙_}
 use mathlib.Core.List.{List}
-use mathlib.Core.Option.{some}
+use mathlib.Core.Option.{Option, none, some}
 use Prim.Native.Nat.{ℕ, _+_, _-_, _≤_}
 use native.Mathlib.Omega.{arith}
 use lib.ListN.{length, take, drop, length-drop}
 use lib.Seq.{length-take-le, take-at, take-take}
 use Rattle.lists.specs.Write.{overwritten, placed}
-use Rattle.reading.specs.Reading.{packet}
+use Rattle.reading.specs.Reading.{Event, packet, badChecksum}
 use Rattle.protocols.specs.declared.Protocol.{Protocol}
 use Rattle.protocols.specs.Protocols.{idIn}
 use Rattle.framer.specs.declared.StepEvent.{StepEvent}
-use Rattle.framer.specs.declared.StepEvent.the-variants.{Packet, BadChecksum}
+use Rattle.framer.specs.declared.StepEvent.the-variants.{Packet, BadChecksum, Silent}
 use Rattle.windows.specs.declared.Scanned.{Scanned}
 use Rattle.windows.specs.declared.Scanned.the-variants.{Packet as Seen·Packet, BadChecksum as Seen·BadChecksum}
 use Rattle.windows.specs.declared.Scanned.the-variants.{Waiting as Seen·Waiting}
 use Rattle.framer.specs.declared.Step.{Step}
 use Rattle.windows.specs.Scan.{onFrom, sizeSeen, answerOf, resultOf}
 use Rattle.framer.specs.Results.{packetBytes}
-use Rattle.framer.specs.Delivered.{eventWith, Delivered}
-use Rattle.buffers.proofs.Parts.{part-is, placed-whole}
+use Rattle.framer.specs.Delivered.{eventWith, sizeIn, Delivered, Stayed}
+use Rattle.buffers.proofs.Parts.{part-is, placed-whole, overwritten-stays}
 
 -- ---- where reading goes on, and the packet's bytes
 
@@ -36,28 +36,37 @@ front old new buffer n e l = ap (λ (b : List ℕ). take n b) e ∙ take-at new 
 
 -- ---- the event
 
-module _ (p : Protocol) (src : List ℕ) (v : Scanned) (bytes : List ℕ) where
+pub size-is : (id : ℕ) (a : Option Event) → sizeIn (eventWith id a) ≡ length (packetBytes a)
+size-is id none = refl
+size-is id (some (packet w)) = refl
+size-is id (some (badChecksum id′)) = refl
+
+module _ (p : Protocol) (src : List ℕ) (v : Scanned) (old bytes : List ℕ) where
   abbrev Told : StepEvent → Type 0
   Told e =
       (e ≡ eventWith (idIn p bytes) (answerOf src v))
-      × (take (length (packetBytes (answerOf src v))) bytes ≡ packetBytes (answerOf src v))
+      × ((take (length (packetBytes (answerOf src v))) bytes ≡ packetBytes (answerOf src v))
+      × (drop (length (packetBytes (answerOf src v))) bytes ≡ drop (length (packetBytes (answerOf src v))) old))
 
-  pub told-packet : (old : List ℕ) (at n : ℕ) → v ≡ Seen·Packet at n → at + n ≤ length src → n ≤ length old
+  pub told-packet : (at n : ℕ) → v ≡ Seen·Packet at n → at + n ≤ length src → n ≤ length old
       → bytes ≡ placed old 0 (take (length old - 0) (take (at + n - at) (drop at src))) → (id : ℕ)
       → id ≡ idIn p bytes → Told (Packet id n)
-  told-packet old at n i h k b id d =
+  told-packet at n i h k b id d =
       let z : at + n - at ≡ n = omega arith in
       let l : length (take n (drop at src)) ≡ n = length-take-le n (drop at src) (simp length-drop (omega arith)) in
+      let q : bytes ≡ overwritten old (take n (drop at src)) =
+      b ∙ ap (λ (k : ℕ). placed old 0 (take (length old - 0) (take k (drop at src)))) z
+      ∙ placed-whole old (take n (drop at src)) 0 (omega arith) in
       rw i (
         ap₂ Packet d (sym l),
-        front old (take n (drop at src)) bytes (length (take n (drop at src)))
-            (b ∙ ap (λ (k : ℕ). placed old 0 (take (length old - 0) (take k (drop at src)))) z
-            ∙ placed-whole old (take n (drop at src)) 0 (omega arith))
-            refl,
+        (front old (take n (drop at src)) bytes (length (take n (drop at src))) q refl, overwritten-stays old (take n (drop at src)) bytes q),
       )
 
-  pub told-bad : (at id : ℕ) → v ≡ Seen·BadChecksum at id → Told (BadChecksum id)
-  told-bad at id i = rw i (refl, refl)
+  pub told-bad : (at id : ℕ) → v ≡ Seen·BadChecksum at id → bytes ≡ old → Told (BadChecksum id)
+  told-bad at id i e = rw i (refl, (refl, e))
+
+  pub told-none : (at : ℕ) → v ≡ Seen·Waiting at → bytes ≡ old → Told Silent
+  told-none at i e = rw i (refl, (refl, e))
 
 -- ---- the step: the bytes of src from where reading goes on up to `end` are held
 
@@ -86,4 +95,19 @@ replied p src old held bytes end taken on v event r i o h k e b s =
       count-is = rw o (sym (ap length (sym q) ∙ n));
       held-is = rw o (front old (take (end - onFrom v) (drop (onFrom v) src)) held (end - onFrom v) (rw o at s) n ∙ q);
       bytes-are = b;
+    })
+
+pub stayed : (p : Protocol) (src old held bytes₀ bytes : List ℕ) (end taken on : ℕ) (v : Scanned) (event : StepEvent) (r : Step)
+    → r ≡ record { taken = taken; held = end - on; event = event } → on ≡ onFrom v → onFrom v ≤ end → end ≤ length src
+    → event ≡ eventWith (idIn p bytes) (answerOf src v)
+    → drop (length (packetBytes (answerOf src v))) bytes ≡ drop (length (packetBytes (answerOf src v))) bytes₀
+    → held ≡ overwritten old (take (end - on) (drop on src)) → Stayed r old bytes₀ held bytes
+stayed p src old held bytes₀ bytes end taken on v event r i o h k e b s =
+    let part = take (end - on) (drop on src) in
+    let n : length part ≡ end - on = length-take-le (end - on) (drop on src) (simp length-drop (omega arith)) in
+    let m : sizeIn event ≡ length (packetBytes (answerOf src v)) = ap sizeIn e ∙ size-is (idIn p bytes) (answerOf src v) in
+    rw i
+    (record {
+      held-stays = subst (λ (k : ℕ). drop k held ≡ drop k old) n (overwritten-stays old part held s);
+      bytes-stay = rw m b;
     })

@@ -2,3 +2,5 @@ pub mod Deliveries
 pub mod Turns
 pub mod Answers
 pub mod Longest
+pub mod Spared
+pub mod Lean

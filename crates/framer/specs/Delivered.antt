@@ -2,8 +2,8 @@
 use mathlib.Core.Path.{_≡_}
 use mathlib.Core.List.{List}
 use mathlib.Core.Option.{Option, none, some}
-use Prim.Native.Nat.{ℕ}
-use lib.ListN.{length, take}
+use Prim.Native.Nat.{ℕ, _+_, _≤_}
+use lib.ListN.{length, take, drop}
 use Rattle.reading.specs.Reading.{Event, packet, badChecksum}
 use Rattle.reading.specs.Calls.{CallResult}
 use Rattle.protocols.specs.declared.Protocol.{Protocol}
@@ -33,3 +33,14 @@ pub record Delivered (p : Protocol) (r : CallResult) (step : Step) (held bytes :
   pub count-is : step .held ≡ length (r .held)
   pub held-is : take (step .held) held ≡ r .held
   pub bytes-are : take (length (packetBytes (r .answer))) bytes ≡ packetBytes (r .answer)
+
+-- the bytes past those held, and past the packet's, are as they were
+pub record Stayed (step : Step) (held₀ bytes₀ held bytes : List ℕ) : Type 0 where
+  pub held-stays : drop (step .held) held ≡ drop (step .held) held₀
+  pub bytes-stay : drop (sizeIn (step .event)) bytes ≡ drop (sizeIn (step .event)) bytes₀
+
+-- So are, of a whole call on `count` held bytes, those past the bytes that were held and the bytes taken; and past the packet's, where
+-- these are no more than can be held.
+pub record Spared (most count : ℕ) (step : Step) (held₀ bytes₀ held bytes : List ℕ) : Type 0 where
+  pub held-stays : drop (count + step .taken) held ≡ drop (count + step .taken) held₀
+  pub bytes-stay : count + step .taken ≤ most → drop (sizeIn (step .event)) bytes ≡ drop (sizeIn (step .event)) bytes₀

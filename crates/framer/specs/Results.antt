@@ -1,12 +1,12 @@
 -- What a feeding or gap call answers, by the result of the rules, and what it leaves of the bytes that are lent to it. `count` is
 -- how many of the lent bytes are held; a count above what can be held is refused, and a refusal leaves everything as it was.
 use mathlib.Core.Bool.{cond}
-use mathlib.Core.List.{List, []}
+use mathlib.Core.List.{List, [], _++_}
 use mathlib.Core.Option.{Option, none, some}
-use Prim.Native.Nat.{ℕ, _-_}
+use Prim.Native.Nat.{ℕ, _+_, _-_, min}
 use lib.Dec.{leb}
-use lib.ListN.{length}
-use Rattle.lists.specs.Write.{padded}
+use lib.ListN.{length, drop, replicate}
+use Rattle.lists.specs.Write.{overwritten, padded}
 use Rattle.reading.specs.Reading.{Event, packet, badChecksum}
 use Rattle.reading.specs.Calls.{CallResult}
 use Rattle.protocols.specs.declared.Protocol.{Protocol}
@@ -44,3 +44,21 @@ heldFor p count old r = cond (leb count (mostHeld p)) (padded (mostHeld p) (r .h
 -- the packet buffer: the packet's bytes followed by 0, all 0 beside any other answer [F9 F10 F16 N12]
 abbrev pub packetFor : Protocol → ℕ → List ℕ → CallResult → List ℕ
 packetFor p count old r = cond (leb count (mostHeld p)) (padded (rulesOf p .longest) (packetBytes (r .answer))) old
+
+-- What a lean call leaves, which clears no more than it has to. `count` bytes were held, and r .taken are taken: of that many bytes
+-- those held then come first, followed by 0; the bytes further on stay.
+abbrev pub leanHeld : Protocol → ℕ → List ℕ → CallResult → List ℕ
+leanHeld p count old r = padded (min (mostHeld p) (count + r .taken)) (r .held) ++ drop (count + r .taken) old
+
+-- The packet buffer: the packet's bytes, if any, at the start of what was there; or of 0, where more bytes were held and taken than
+-- can be held.
+abbrev pub leanPacket : Protocol → ℕ → List ℕ → CallResult → List ℕ
+leanPacket p count old r =
+    overwritten (cond (leb (count + r .taken) (mostHeld p)) old (replicate (rulesOf p .longest) 0)) (packetBytes (r .answer))
+
+-- and a refusal leaves both as they were
+abbrev pub leanHeldFor : Protocol → ℕ → List ℕ → CallResult → List ℕ
+leanHeldFor p count old r = cond (leb count (mostHeld p)) (leanHeld p count old r) old
+
+abbrev pub leanPacketFor : Protocol → ℕ → List ℕ → CallResult → List ℕ
+leanPacketFor p count old r = cond (leb count (mostHeld p)) (leanPacket p count old r) old

@@ -4,8 +4,10 @@ use protocols::Protocol;
 use windows::Scanned;
 use windows::Stop;
 ghost use mathlib.Core.Path.{_≡_};
+ghost use mathlib.Core.Bool.{cond};
 ghost use mathlib.Core.List.{[], _∷_, _++_};
-ghost use Prim.Native.Nat.{_+_, _-_, _^_, _≤_, _<_};
+ghost use Prim.Native.Nat.{_+_, _-_, _^_, _≤_, _<_, min};
+ghost use lib.Dec.{leb};
 ghost use lib.ListN.{length, take, drop, replicate};
 ghost use Rattle.reading.specs.Reading.{closed};
 ghost use Rattle.reading.specs.Calls.{first, fed, gapped, call};
@@ -15,8 +17,8 @@ ghost use Rattle.packet_rules.specs.Answers.{answerBy};
 ghost use Rattle.protocols.specs.declared.Protocol.the-variants.{Two, One, Mercury};
 ghost use Rattle.protocols.specs.Protocols.{rulesOf, idIn};
 ghost use Rattle.windows.specs.Scan.{onFrom, sizeSeen, answerOf, resultOf};
-ghost use Rattle.framer.specs.Results.{mostHeld, packetBytes, stepFor, heldFor, packetFor};
-ghost use Rattle.framer.specs.Delivered.{eventWith, sizeIn, Delivered};
+ghost use Rattle.framer.specs.Results.{mostHeld, packetBytes, stepFor, heldFor, packetFor, leanHeldFor, leanPacketFor};
+ghost use Rattle.framer.specs.Delivered.{eventWith, sizeIn, Delivered, Stayed, Spared};
 
 // The event of a call: a packet with its ID and its byte count, a bad checksum with its ID, none (of a gap call: nothing is
 // left), or the refusal of a count of held bytes above what can be held.
@@ -64,8 +66,10 @@ fn id_in(protocol: Protocol, packet: &[u8]) -> u8
 fn report(protocol: Protocol, src: &[u8], seen: Scanned, packet: &mut [u8]) -> StepEvent
     requires { ⌜ (onFrom seen ≤ length (now src)) × (sizeSeen seen ≤ length (now packet)) × (length (now packet) ≡ rulesOf protocol .longest) ⌝ }
     ensures { λ r. ⌜ r ≡ eventWith (idIn protocol (now (packet .exit))) (answerOf (now (src .entry)) seen) ⌝ }
-    ensures { λ _. ⌜ take (length (packetBytes (answerOf (now (src .entry)) seen))) (now (packet .exit))
-        ≡ packetBytes (answerOf (now (src .entry)) seen) ⌝ }
+    ensures { λ _. ⌜ (take (length (packetBytes (answerOf (now (src .entry)) seen))) (now (packet .exit))
+        ≡ packetBytes (answerOf (now (src .entry)) seen))
+        × (drop (length (packetBytes (answerOf (now (src .entry)) seen))) (now (packet .exit))
+        ≡ drop (length (packetBytes (answerOf (now (src .entry)) seen))) (now (packet .entry))) ⌝ }
 {
     match seen {
         Scanned::Packet { at, count } => {
@@ -90,6 +94,7 @@ fn deliver(
     requires { ⌜ (onFrom seen ≤ end) × (end ≤ length (now held)) × (sizeSeen seen ≤ length (now packet))
         × (length (now packet) ≡ rulesOf protocol .longest) ⌝ }
     ensures { λ r. ⌜ Delivered protocol (resultOf (take end (now (held .entry))) taken seen) r (now (held .exit)) (now (packet .exit)) ⌝ }
+    ensures { λ r. ⌜ Stayed r (now (held .entry)) (now (packet .entry)) (now (held .exit)) (now (packet .exit)) ⌝ }
 {
     let event = report(protocol, held, seen, packet);
     let on = on_from(seen);
@@ -110,6 +115,7 @@ fn deliver_chunk(
     requires { ⌜ (onFrom seen ≤ end) × (end ≤ length (now chunk)) × (end - onFrom seen ≤ length (now held))
         × (sizeSeen seen ≤ length (now packet)) × (length (now packet) ≡ rulesOf protocol .longest) × (before + end < 2 ^ 64) ⌝ }
     ensures { λ r. ⌜ Delivered protocol (resultOf (take end (now (chunk .entry))) (before + end) seen) r (now (held .exit)) (now (packet .exit)) ⌝ }
+    ensures { λ r. ⌜ Stayed r (now (held .entry)) (now (packet .entry)) (now (held .exit)) (now (packet .exit)) ⌝ }
 {
     let event = report(protocol, chunk, seen, packet);
     let on = on_from(seen);
@@ -143,6 +149,7 @@ fn read_chunk(
     requires { ⌜ (from ≤ length (now chunk)) × (length (now held) ≡ mostHeld protocol) × (length (now packet) ≡ rulesOf protocol .longest) ⌝ }
     ensures { λ r. ⌜ Delivered protocol (afterTaking from (fed (rulesOf protocol) [] (drop from (now (chunk .entry))))) r
         (now (held .exit)) (now (packet .exit)) ⌝ }
+    ensures { λ r. ⌜ Stayed r (now (held .entry)) (now (packet .entry)) (now (held .exit)) (now (packet .exit)) ⌝ }
 {
     let ahead = windows::advance(protocol, &chunk[from..]);
     let seen = ahead.seen;
@@ -168,6 +175,7 @@ fn feed_slices(
     requires { ⌜ (count ≤ mostHeld protocol) × (length (now held) ≡ mostHeld protocol) × (length (now packet) ≡ rulesOf protocol .longest) ⌝ }
     ensures { λ r. ⌜ Delivered protocol (fed (rulesOf protocol) (take count (now (held .entry))) (now (chunk .entry))) r
         (now (held .exit)) (now (packet .exit)) ⌝ }
+    ensures { λ r. ⌜ Spared (mostHeld protocol) count r (now (held .entry)) (now (packet .entry)) (now (held .exit)) (now (packet .exit)) ⌝ }
 {
     let mut n = count;
     let mut taken = 0;
@@ -208,6 +216,7 @@ fn gap_slices(protocol: Protocol, held: &mut [u8], count: usize, packet: &mut [u
     requires { ⌜ (count ≤ mostHeld protocol) × (length (now held) ≡ mostHeld protocol) × (length (now packet) ≡ rulesOf protocol .longest) ⌝ }
     ensures { λ r. ⌜ Delivered protocol (gapped (first (rulesOf protocol) closed (take count (now (held .entry))))) r
         (now (held .exit)) (now (packet .exit)) ⌝ }
+    ensures { λ r. ⌜ Spared (mostHeld protocol) count r (now (held .entry)) (now (packet .entry)) (now (held .exit)) (now (packet .exit)) ⌝ }
 {
     let seen = windows::scan_closed(protocol, &held[..count]);
     if let Scanned::Waiting { at: _ } = seen {
@@ -349,4 +358,54 @@ pub fn gap_mercury(held: &mut [u8; 258], count: usize, packet: &mut [u8; 259]) -
         return stepped(0, count, StepEvent::Refused);
     }
     gap_by(Protocol::Mercury, held, count, packet)
+}
+
+// Sets to 0 what a call on `count` held bytes may have left past those held now, and past the packet's bytes.
+fn clear_reached(held: &mut [u8], count: usize, packet: &mut [u8], step: Step)
+    requires { ⌜ (count ≤ length (now held)) × (step .held ≤ length (now held)) × (step .held ≤ count + step .taken) ⌝ }
+    ensures { λ _. ⌜ (now (held .exit)
+        ≡ take (step .held) (now (held .entry)) ++ (replicate (min (length (now (held .entry))) (count + step .taken) - step .held) 0
+        ++ drop (count + step .taken) (now (held .entry))))
+        × (now (packet .exit)
+        ≡ cond (leb (count + step .taken) (length (now (held .entry)))) (now (packet .entry))
+        (take (sizeIn (step .event)) (now (packet .entry)) ++ replicate (length (now (packet .entry)) - sizeIn (step .event)) 0)) ⌝ }
+{
+    let from = step.held;
+    let taken = step.taken;
+    let room = held.len() - count;
+    let end = count + windows::least(room, taken);
+    buffers::clear(&mut held[from..end], 0);
+    if room < taken {
+        let event = step.event;
+        let past = size_of(event);
+        buffers::clear(packet, past);
+    }
+}
+
+// A feeding call that clears no more than it has to. It answers what `feed_in` answers.
+pub fn feed_lean(held: &mut [u8; 1030], count: usize, chunk: &[u8], packet: &mut [u8; 1031]) -> Step
+    ensures { λ r. ⌜ (r ≡ stepFor Two count (call (rulesOf Two) (take count (now (held .entry))) (Call·feed (now (chunk .entry)))))
+        × (now (held .exit) ≡ leanHeldFor Two count (now (held .entry)) (call (rulesOf Two) (take count (now (held .entry))) (Call·feed (now (chunk .entry)))))
+        × (now (packet .exit) ≡ leanPacketFor Two count (now (packet .entry)) (call (rulesOf Two) (take count (now (held .entry))) (Call·feed (now (chunk .entry))))) ⌝ }
+{
+    if 1030 < count {
+        return stepped(0, count, StepEvent::Refused);
+    }
+    let step = feed_slices(Protocol::Two, held, count, chunk, packet);
+    clear_reached(held, count, packet, step);
+    step
+}
+
+// A gap call, likewise.
+pub fn gap_lean(held: &mut [u8; 1030], count: usize, packet: &mut [u8; 1031]) -> Step
+    ensures { λ r. ⌜ (r ≡ stepFor Two count (call (rulesOf Two) (take count (now (held .entry))) Call·gap))
+        × (now (held .exit) ≡ leanHeldFor Two count (now (held .entry)) (call (rulesOf Two) (take count (now (held .entry))) Call·gap))
+        × (now (packet .exit) ≡ leanPacketFor Two count (now (packet .entry)) (call (rulesOf Two) (take count (now (held .entry))) Call·gap)) ⌝ }
+{
+    if 1030 < count {
+        return stepped(0, count, StepEvent::Refused);
+    }
+    let step = gap_slices(Protocol::Two, held, count, packet);
+    clear_reached(held, count, packet, step);
+    step
 }

@@ -14,7 +14,10 @@ use Rattle.lists.specs.Numbers.{numberAt}
 use Rattle.lists.proofs.Bools.{and-right, both-ways}
 use Rattle.stuffing.specs.Stuffing.{unstuff}
 use Rattle.reading.specs.Reading.{Event, packet}
-use Rattle.reading.specs.Lists.{model, Follows}
+use Rattle.reading.specs.Calls.{Call}
+use Rattle.reading.specs.Lists.{model, Follows, after, given}
+use Rattle.reading.specs.Promise.{since, AtStart}
+use Rattle.reader.specs.Records.{records}
 use Rattle.reading.proofs.Clean.{call-promises}
 use Rattle.packet.specs.Packet.{bodyOf}
 use Rattle.packet.specs.Verdict.{protocol2}
@@ -26,11 +29,11 @@ use Rattle.table_rules.specs.Rules.{stored}
 use Rattle.table_rules.proofs.Stored.{stored-before, stored-after, stored-length}
 use Rattle.reactions.specs.Reactions.{ownId}
 use Rattle.device.proofs.Calls.{state-accepted, accepted}
-use Rattle.plan.specs.Goals.{unwanted, goalOf, wanted, goalWithin}
-use Rattle.plan.specs.Plan.{goalFound, paramsOf, goalsIn, GoalWrite}
+use Rattle.plan.specs.Goals.{unwanted, goalOf, wanted, goalWithin, goalsRefusal}
+use Rattle.plan.specs.Plan.{goalFound, paramsOf, goalsIn, GoalWrite, Plan}
 use Rattle.plan.proofs.Wanted.{goals-within, within-at}
 use Rattle.plan_heard.specs.Hearing.{Device, Form, inTwo, inOne, unstuffed, hears, hearsAll}
-use Rattle.plan_heard.specs.PlanCarriedOut.{admits, faultOf, Obeyed, PlanCarriedOut}
+use Rattle.plan_heard.specs.PlanCarriedOut.{admits, faultOf, Ready, ofDevice, Obeyed, TakenWhole}
 use Rattle.plan_heard.proofs.Written.{goal-is}
 use Rattle.plan_heard.proofs.Step.{Fit, changed, same-room, not-found, Wrote, is-found}
 
@@ -183,7 +186,7 @@ module _ (goals : List ℤ) (form : Form) (d : Device) (fit : Fit form d) (ws : 
   end = hearsAll form d (map packet ws)
 
   -- by what is wanted of the device
-  obeyed : (z : ℤ) → getD goals (ownId (d .table)) unwanted ≡ z → goalWithin z ≡ true → Obeyed goals d end
+  obeyed : (z : ℤ) → getD goals (ownId (d .table)) unwanted ≡ z → goalWithin z ≡ true → Obeyed goals (ofDevice d) (ofDevice end)
   obeyed (pos n) e w =
       let is : wanted goals (ownId (d .table)) ≡ n ∷ [] = ap goalOf e in
       let r = one-heard form ws d n (bounded n w) fit each room (stands ∙ is) in
@@ -214,19 +217,26 @@ model-follows : Follows protocol2 (model protocol2) (λ h. Unit {0}) (λ h. h)
 model-follows =
     record { fresh = λ x e. (tt, e); same-taken = λ x c l. refl; same-answer = λ x c l. refl; same-next = λ x c l. (tt, refl) }
 
-pub plan-carried-out : PlanCarriedOut
-plan-carried-out =
-    record {
-      carried-out = λ goals bytes good plan x fresh earlier start chunks g taken form d ready.
-          let ws = plan .packets in
-          let fit = fit-of form d (ready .faultless) in
-          let line = every-protocol .two .calls .clean-line x fresh earlier start chunks g ws (λ w m. plan .each w m .well)
-          (taken .0 ∙ sym (plan .end-to-end)) (taken .1) in
-          subst (λ (events : List Event). Obeyed goals d (hearsAll form d events)) (sym (line .1))
-          (obeyed goals form d fit ws (plan .each) (ready .room) (plan .stands (ownId (d .table)) (let k = fit .known in omega arith))
-          (getD goals (ownId (d .table)) unwanted) refl (within-at goals (ownId (d .table)) (goals-within goals good)));
-      can-be-taken = λ goals bytes plan.
-          let r = call-promises protocol2 laws (model protocol2) (λ h. Unit {0}) (λ h. h) model-follows .packet-by-packet [] refl (plan .packets)
-          (λ w m. plan .each w m .well) in
-          (r .all-taken ∙ plan .end-to-end, r .finished);
-    }
+-- what a reader is promised, for every form of calls
+abbrev pub CarriedOut : Type 0
+CarriedOut =
+    (goals : List ℤ) (bytes : List ℕ) → goalsRefusal goals ≡ none → (plan : Plan goals bytes)
+    → (x : records .State) → records .Fresh x → (earlier : List Call) → AtStart (model protocol2) [] earlier
+    → (chunks : List (List ℕ)) (g : ℕ) → TakenWhole chunks g bytes → (form : Form) (d : Device) → Ready form d (plan .packets)
+    → Obeyed goals (ofDevice d) (ofDevice (hearsAll form d (given records (after records x earlier) (since chunks g))))
+
+pub carried-out : CarriedOut
+carried-out goals bytes good plan x fresh earlier start chunks g taken form d ready =
+    let ws = plan .packets in
+    let fit = fit-of form d (ready .faultless) in
+    let line = every-protocol .two .calls .clean-line x fresh earlier start chunks g ws (λ w m. plan .each w m .well)
+    (taken .0 ∙ sym (plan .end-to-end)) (taken .1) in
+    subst (λ (events : List Event). Obeyed goals (ofDevice d) (ofDevice (hearsAll form d events))) (sym (line .1))
+    (obeyed goals form d fit ws (plan .each) (ready .room) (plan .stands (ownId (d .table)) (let k = fit .known in omega arith))
+    (getD goals (ownId (d .table)) unwanted) refl (within-at goals (ownId (d .table)) (goals-within goals good)))
+
+pub can-be-taken : (goals : List ℤ) (bytes : List ℕ) (plan : Plan goals bytes) → TakenWhole (plan .packets) 1 bytes
+can-be-taken goals bytes plan =
+    let r = call-promises protocol2 laws (model protocol2) (λ h. Unit {0}) (λ h. h) model-follows .packet-by-packet [] refl (plan .packets)
+    (λ w m. plan .each w m .well) in
+    (r .all-taken ∙ plan .end-to-end, r .finished)

@@ -19,6 +19,9 @@ use Rattle.registers.specs.Registers.{minPosition, maxPosition, goalPosition, e
 use Rattle.items.specs.Items.{valueOf}
 use Rattle.reactions.specs.Reactions.{ownId}
 use Rattle.device.specs.Answers.{stateRefusal, callRefusal}
+use Rattle.board.specs.Board.{Board}
+use Rattle.device_calls.specs.Calls.{State, stateOf}
+use Rattle.in_step.specs.InStep.{boards}
 use Rattle.plan.specs.Goals.{wanted, goalsRefusal}
 use Rattle.plan.specs.Plan.{Plan}
 use Rattle.plan_heard.specs.Hearing.{Device, Form, inTwo, inOne, unstuffed, hearsAll}
@@ -39,18 +42,25 @@ pub record Ready (form : Form) (d : Device) (packets : List (List ℕ)) : Type 0
   pub faultless : faultOf form d ≡ none
   pub room : (w : List ℕ) → List·Memᴰ w packets → length (unstuff (bodyOf w)) ≤ length (d .body)
 
--- what a device that was `d` is then
-pub record Obeyed (goals : List ℤ) (d now : Device) : Type 0 where
+-- the table and the registered write of a device, and of a board
+abbrev pub ofDevice : Device → State
+ofDevice d = stateOf (d .table) (d .registered)
+
+abbrev pub ofBoard : Board → State
+ofBoard b = stateOf (b .table) (b .registered)
+
+-- what a device that had `s` has then
+pub record Obeyed (goals : List ℤ) (s now : State) : Type 0 where
   -- a goal that is wanted of it, between the limits in its table, has become its goal position [W10]
-  pub stored : (goal : ℕ) → wanted goals (ownId (d .table)) ≡ goal ∷ [] → admits (d .table) goal ≡ true
+  pub stored : (goal : ℕ) → wanted goals (ownId (s .table)) ≡ goal ∷ [] → admits (s .table) goal ≡ true
       → valueOf goalPosition (now .table) ≡ pos goal
   -- with one that they do not admit, or none, its table is as it was [W10]
-  pub refused : (goal : ℕ) → wanted goals (ownId (d .table)) ≡ goal ∷ [] → admits (d .table) goal ≡ false → now .table ≡ d .table
+  pub refused : (goal : ℕ) → wanted goals (ownId (s .table)) ≡ goal ∷ [] → admits (s .table) goal ≡ false → now .table ≡ s .table
   -- [W10]
-  pub unwanted : wanted goals (ownId (d .table)) ≡ [] → now .table ≡ d .table
+  pub unwanted : wanted goals (ownId (s .table)) ≡ [] → now .table ≡ s .table
   -- whatever its ID, no byte beside the goal position changes, and no registered write [W10]
-  pub others : (a : ℕ) → (a < goalPosition .address) ⊎ (endOf goalPosition ≤ a) → getD (now .table) a 0 ≡ getD (d .table) a 0
-  pub registered : now .registered ≡ d .registered
+  pub others : (a : ℕ) → (a < goalPosition .address) ⊎ (endOf goalPosition ≤ a) → getD (now .table) a 0 ≡ getD (s .table) a 0
+  pub registered : now .registered ≡ s .registered
 
 -- feeding calls with these chunks and then g gap calls: by the packet rules they take the bytes and finish the gap
 abbrev pub TakenWhole : List (List ℕ) → ℕ → List ℕ → Type 0
@@ -63,6 +73,11 @@ pub record PlanCarriedOut : Type 0 where
   pub carried-out : (goals : List ℤ) (bytes : List ℕ) → goalsRefusal goals ≡ none → (plan : Plan goals bytes)
       → (x : records .State) → records .Fresh x → (earlier : List Call) → AtStart (model protocol2) [] earlier
       → (chunks : List (List ℕ)) (g : ℕ) → TakenWhole chunks g bytes → (form : Form) (d : Device) → Ready form d (plan .packets)
-      → Obeyed goals d (hearsAll form d (given records (after records x earlier) (since chunks g)))
+      → Obeyed goals (ofDevice d) (ofDevice (hearsAll form d (given records (after records x earlier) (since chunks g))))
+  -- and a board that takes it so, whose calls give none of these numbers
+  pub on-board : (goals : List ℤ) (bytes : List ℕ) → goalsRefusal goals ≡ none → (plan : Plan goals bytes)
+      → (b : Board) → boards .Fresh b → (earlier : List Call) → AtStart (model protocol2) [] earlier
+      → (chunks : List (List ℕ)) (g : ℕ) → TakenWhole chunks g bytes
+      → Obeyed goals (ofBoard (after boards b earlier)) (ofBoard (after boards (after boards b earlier) (since chunks g)))
   -- such calls are there: each packet of the plan is one chunk, and one gap call follows
   pub can-be-taken : (goals : List ℤ) (bytes : List ℕ) (plan : Plan goals bytes) → TakenWhole (plan .packets) 1 bytes

@@ -6,7 +6,7 @@ use native.Mathlib.Omega.{arith}
 use lib.ListN.{length, take, drop, length-append, length-take, length-drop}
 use lib.Seq.{length-take-le, take-at, drop-append-le, take-append-add, take-append-seam}
 use Rattle.lists.specs.Write.{overwritten, placed}
-use Rattle.buffers.proofs.Parts.{part-is, placed-whole}
+use Rattle.buffers.proofs.Parts.{part-is, placed-whole, stays-more, overwritten-stays, placed-stays}
 
 -- what a placed part stands behind, where it has room
 placed-behind : (old new held : List ℕ) (e : ℕ) → e + length new ≤ length old
@@ -43,3 +43,14 @@ append-moved old mid new held a e h k r i j =
     ∙ placed-behind mid new held (e - a) (omega arith) j
     ∙ ap (λ (t : List ℕ). t ++ new)
     (ap (λ (t : List ℕ). take (e - a) t) i ∙ take-at part (drop (length part) old) (e - a) l ∙ part-is a e old h (omega arith))
+
+-- what lies behind them stays
+pub moved-stays : (old mid new held : List ℕ) (a e : ℕ) → a ≤ e → e ≤ length old → e - a + length new ≤ length old
+    → mid ≡ overwritten old (take (e - a) (drop a old)) → held ≡ placed mid (e - a) (take (length mid - (e - a)) new)
+    → drop (e + length new) held ≡ drop (e + length new) old
+moved-stays old mid new held a e h k r i j =
+    let part = take (e - a) (drop a old) in
+    let l : length part ≡ e - a = length-take-le (e - a) (drop a old) (simp length-drop (omega arith)) in
+    let m : length mid ≡ length old = ap length i ∙ simp (length-append, length-take, length-drop) (omega arith) in
+    stays-more (e - a + length new) (e + length new) held mid (omega arith) (placed-stays mid new held (e - a) (omega arith) j)
+    ∙ stays-more (length part) (e + length new) mid old (omega arith) (overwritten-stays old part mid i)

@@ -11,9 +11,10 @@ use lib.Seq.{length-take-le, take-all, take-add, drop-drop, drop-append-le, drop
 use borrow.Author.Tests.{leb-true, ltb-true, le-leb, lt-ltb}
 use Rattle.lists.proofs.Bools.{and-left, and-right, both-ways}
 use Rattle.lists.proofs.Parts.{take-least}
+use Rattle.buffers.proofs.Parts.{stays-more}
 use Rattle.reading.specs.Rules.{Rules, Laws, Undecided}
 use Rattle.reading.specs.Reading.{Event, packet, badChecksum, open′}
-use Rattle.reading.specs.Calls.{fed}
+use Rattle.reading.specs.Calls.{CallResult, fed}
 use Rattle.reading.specs.Progress.{Reached, Patient}
 use Rattle.reading.proofs.Progress.{silent-again, reached-start, reached-past, reached-event, reached-end}
 use Rattle.reading.proofs.Progress.{reached-take, reached-back}
@@ -141,6 +142,13 @@ module _ (R : Rules) (L : Laws R) (chunk : List ℕ) (most : ℕ) where
         → Ends R h chunk (take end held) taken v
     filling-decided v n d = ends-decided R L h chunk (take end held) taken at v n d (w .reached)
 
+    -- what stays behind the bytes held and those taken so far stays behind those that the whole call takes
+    pub filling-stays : (held₀ : List ℕ) (count : ℕ) → drop (count + taken) held ≡ drop (count + taken) held₀
+        → drop (count + fed R h chunk .taken) held ≡ drop (count + fed R h chunk .taken) held₀
+    filling-stays held₀ count e =
+        let n = ap (λ (r : CallResult). r .taken) (w .reached .same) in
+        stays-more (count + taken) (count + fed R h chunk .taken) held held₀ (omega (arith, n)) e
+
     -- they wait, and the window begins at `start`
     module _ (start : ℕ) (v : Waits R open′ (take end held) at start) where
       pub window-fits : start ≤ end
@@ -188,13 +196,13 @@ module _ (R : Rules) (L : Laws R) (chunk : List ℕ) (most : ℕ) where
           )
 
       pub window-full : length held - (end - start) ≡ 0 → 0 < length chunk - taken
-          → (taken < length chunk) × Stops R h chunk held taken 0
+          → (taken < length chunk) × Stops R h chunk held taken 0 × (length held ≤ length h + taken)
       window-full l t =
           let i = w .within in
           let s = w .size in
           let z : start ≡ 0 = omega (arith, window-fits) in
           let all : take end held ≡ held = take-all end held (omega arith) in
-          (omega arith, rw (z, all) at window)
+          (omega arith, rw (z, all) at window, omega (arith, window-fewer))
 
       -- some wait
       pub window-waits : (end - start ≡ 0 → ⊥) → start < length (take end held)

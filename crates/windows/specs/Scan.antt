@@ -80,5 +80,6 @@ Filled R h chunk old held (Done v end n) =
     (length held ≡ length old) × (n ≤ length chunk) × (end ≤ length held) × Ends R h chunk (take end held) n v
 -- The held bytes have all been passed. All bytes of the buffer are free.
 Filled R h chunk old held (Passed n) = (length held ≡ length old) × (n ≤ length chunk) × Reached R h chunk [] n
--- They fill the buffer, of which no byte is free, and the next byte of the chunk decides.
-Filled R h chunk old held (Full n) = (length held ≡ length old) × (n < length chunk) × Stops R h chunk held n 0
+-- They fill the buffer, of which no byte is free, and the next byte of the chunk decides. All were held or taken.
+Filled R h chunk old held (Full n) =
+    (length held ≡ length old) × (n < length chunk) × Stops R h chunk held n 0 × (length held ≤ length h + n)

@@ -10,6 +10,7 @@ ghost use Prim.Native.Nat.{_+_, _-_, _≤_, min};
 ghost use lib.Dec.{leb, ltb};
 ghost use lib.ListN.{length, take, drop};
 ghost use Rattle.reading.specs.Reading.{open′, closed};
+ghost use Rattle.reading.specs.Calls.{fed};
 ghost use Rattle.protocols.specs.Protocols.{shapeOf, rulesOf};
 ghost use Rattle.windows.specs.Scan.{Seen, Wants, Ends, Filled};
 
@@ -60,7 +61,7 @@ fn ending(seen: Scanned, end: usize) -> Window
     Window { seen, end }
 }
 
-fn least(a: usize, b: usize) -> usize
+pub fn least(a: usize, b: usize) -> usize
     ensures { λ r. ⌜ r ≡ min a b ⌝ }
 {
     if a < b { a } else { b }
@@ -168,7 +169,8 @@ fn append(held: &mut [u8], at: usize, end: usize, bytes: &[u8]) -> usize
     requires { ⌜ (at ≤ end) × (end ≤ length (now held)) × (end - at + length (now bytes) ≤ length (now held)) ⌝ }
     ensures { λ r. ⌜ (r ≤ at) × (r + (end - at) + length (now (bytes .entry)) ≤ length (now (held .entry)))
         × (drop r (take (r + (end - at) + length (now (bytes .entry))) (now (held .exit)))
-        ≡ drop at (take end (now (held .entry))) ++ now (bytes .entry)) ⌝ }
+        ≡ drop at (take end (now (held .entry))) ++ now (bytes .entry))
+        × (drop (end + length (now (bytes .entry))) (now (held .exit)) ≡ drop (end + length (now (bytes .entry))) (now (held .entry))) ⌝ }
 {
     if bytes.len() <= held.len() - end {
         buffers::place(held, end, bytes);
@@ -187,9 +189,12 @@ fn back_in_chunk(protocol: Protocol, waiting: usize, taken: usize) -> bool
 }
 
 // The held bytes, and where they wait as many of the chunk's as they wait for, as far as there is room. Once those that were held
-// are passed, the few that wait go back to the chunk, and reading goes on there. [K2 K4]
+// are passed, the few that wait go back to the chunk, and reading goes on there. What lies behind the bytes that were held and those
+// that the whole call takes stays. [K2 K4]
 pub fn fill(protocol: Protocol, held: &mut [u8], count: usize, chunk: &[u8]) -> Stop
     ensures { λ r. ⌜ Filled (rulesOf protocol) (take count (now (held .entry))) (now (chunk .entry)) (now (held .entry)) (now (held .exit)) r ⌝ }
+    ensures { λ _. ⌜ drop (count + fed (rulesOf protocol) (take count (now (held .entry))) (now (chunk .entry)) .taken) (now (held .exit))
+        ≡ drop (count + fed (rulesOf protocol) (take count (now (held .entry))) (now (chunk .entry)) .taken) (now (held .entry)) ⌝ }
 {
     let mut end = least(count, held.len());
     if end == 0 {

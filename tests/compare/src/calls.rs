@@ -1,4 +1,4 @@
-use exports::{Answer, Carried, Event, Found, Reader, Registered, Reply, Salvaged, Step};
+use exports::{Answer, BoardStep, Carried, Event, Found, Reader, Registered, Reply, Salvaged, Step};
 
 /// ID, instruction, parameters, output buffer and offset.
 pub type EncodeCall = fn(u8, u8, &[u8], &mut [u8], usize) -> i64;
@@ -20,6 +20,12 @@ pub type CarryCall = fn(&mut [u8], Registered, u8, u8, &[u8]) -> Carried;
 
 /// Table, registered write, packet as received and body buffer.
 pub type CarryPacketCall = fn(&mut [u8], Registered, &[u8], &mut [u8]) -> Carried;
+
+/// Held bytes, their count, chunk, packet buffer, table and registered write.
+pub type BoardFeedCall = fn(&mut [u8; 1030], &mut usize, &[u8], &mut [u8; 1031], &mut [u8; 136], Registered) -> BoardStep;
+
+/// The same without a chunk.
+pub type BoardGapCall = fn(&mut [u8; 1030], &mut usize, &mut [u8; 1031], &mut [u8; 136], Registered) -> BoardStep;
 
 /// The exports that are compared, as one value: a test of the comparison itself puts a wrong one in.
 #[derive(Clone, Copy)]
@@ -50,6 +56,8 @@ pub struct Calls {
     pub carry_out: CarryCall,
     pub carry_out_packet: CarryPacketCall,
     pub status: fn(Reply, &mut [u8]) -> i64,
+    pub board_feed: BoardFeedCall,
+    pub board_gap: BoardGapCall,
     pub plan: fn(&[i32], &mut [u8]) -> i64,
     pub plan_check: fn(&[i32], &[u8]) -> i64,
 }
@@ -81,6 +89,8 @@ pub const PROVED: Calls = Calls {
     carry_out: exports::carry_out,
     carry_out_packet: exports::carry_out_packet,
     status: exports::status,
+    board_feed: exports::board_feed,
+    board_gap: exports::board_gap,
     plan: exports::plan,
     plan_check: exports::plan_check,
 };

@@ -1,6 +1,7 @@
 //! Random inputs of a device: tables, registered writes and instructions that lead to the corners of the rules.
 
-use reference::{fresh, Registered, Rng, Table, TABLE_BYTES};
+use crate::{around_the_longest, front, noise, record, segment, worst_noise};
+use reference::{framed, fresh, packet_of, stuff, Board, Registered, Rng, Table, LONGEST_PACKET, TABLE_BYTES};
 
 /// Address and bytes of each item.
 const ITEMS: [(usize, usize); 15] = [
@@ -25,6 +26,9 @@ const WRITABLE: [(usize, usize); 10] = [(7, 1), (8, 1), (20, 4), (48, 4), (52, 4
 const SIDE_BY_SIDE: [(usize, usize); 3] = [(7, 2), (48, 8), (64, 2)];
 
 pub const INSTRUCTIONS: [u8; 11] = [0x01, 0x02, 0x03, 0x04, 0x05, 0x06, 0x08, 0x82, 0x83, 0x92, 0x93];
+
+/// The longest body of a packet.
+const LONGEST_BODY: usize = 1_022;
 
 /// The ends of the ranges, and numbers beside them.
 const ENDS: [i32; 29] = [
@@ -345,4 +349,97 @@ pub fn instruction_of_a_life(rng: &mut Rng) -> u8 {
         94..=97 => 0x93,
         _ => rng.byte(),
     }
+}
+
+/// The ID and the body of an instruction for a device with this table, mostly: some are for others, empty, or of any length.
+pub fn instruction(rng: &mut Rng, table: &[u8]) -> (u8, Vec<u8>) {
+    let instruction = instruction_of_a_life(rng);
+    let body = match rng.between(0, 299) {
+        0..=4 => vec![],
+        5 => {
+            let length = crate::length(rng);
+            [&[instruction], &crate::body(rng, length)[..]].concat()
+        }
+        _ => body(rng, table, instruction),
+    };
+    let id = if has_list(instruction) && !rng.one_in(5) { 254 } else { id(rng, table[7]) };
+    (id, body)
+}
+
+/// A packet with an instruction, as long as it fits into one.
+pub fn packet(rng: &mut Rng, table: &[u8]) -> Vec<u8> {
+    let (id, body) = instruction(rng, table);
+    let fits = stuff(&body).len() <= LONGEST_BODY;
+    packet_of(id, if fits { &body } else { &body[..500] })
+}
+
+/// What stands on the line of a device: mostly a packet with an instruction; or a damaged one, one cut short, one inside a
+/// damaged one, one behind a front that promises far more, another device's status, noise.
+pub fn part(rng: &mut Rng, table: &[u8]) -> Vec<u8> {
+    let mut packet = packet(rng, table);
+    let id = packet[4];
+    match rng.between(0, 24) {
+        0 => {
+            let length = rng.between(1, 30);
+            noise(rng, length)
+        }
+        1 => segment(rng, 1, 60),
+        2 | 3 => {
+            let place = rng.between(0, packet.len() - 1);
+            packet[place] ^= 1 << rng.between(0, 7);
+            packet
+        }
+        4 | 5 => {
+            let mut outer = framed(id, &[&[rng.byte()], &packet[..], &[rng.byte()]].concat());
+            *outer.last_mut().expect("no packet is empty") ^= rng.pick(&[0, 1, 0x80]);
+            outer
+        }
+        6 => {
+            let count = rng.between(0, 8);
+            packet_of(id, &[&[0x55, 0], &rng.bytes(count)[..]].concat())
+        }
+        7 => {
+            packet.truncate(rng.between(0, packet.len() - 1));
+            packet
+        }
+        8 => [&vec![0xFF; rng.between(1, 6)][..], &packet].concat(),
+        9 => [front(rng), packet].concat(),
+        _ => packet,
+    }
+}
+
+/// What stands on the line of a device between two gaps, now and then many bytes at once.
+pub fn line(rng: &mut Rng, table: &[u8]) -> Vec<u8> {
+    match rng.between(0, 79) {
+        0 => worst_noise(rng.between(140, 250)),
+        1 | 2 => around_the_longest(rng),
+        3 => {
+            let length = rng.between(1_000, 1_100);
+            [rng.bytes(length), packet(rng, table)].concat()
+        }
+        _ => (0..rng.between(1, 6)).flat_map(|_| part(rng, table)).collect(),
+    }
+}
+
+/// A board that is not refused: all 0 beside its table, in which anything may stand, and a registered write or none.
+pub fn board(rng: &mut Rng) -> Board {
+    let table = table(rng);
+    let mut registered = registered(rng, &table);
+    registered.count %= 9;
+    Board { table, registered, ..Board::start() }
+}
+
+/// Anything in every part of a board; count, ID and registered write may be such that it is refused.
+pub fn any_board(rng: &mut Rng) -> Board {
+    let (held, count) = record(rng);
+    let Board { mut table, mut registered, .. } = board(rng);
+    if rng.one_in(8) {
+        table[7] = rng.pick(&[253, 254, 255]);
+    }
+    if rng.one_in(8) {
+        registered.count = rng.pick(&[9, 10, 128, 255]);
+    }
+    let mut packet = [0; LONGEST_PACKET];
+    packet.fill_with(|| rng.byte());
+    Board { held, count, packet, table, registered }
 }

@@ -200,12 +200,12 @@ fn shown(answer: &exports::Answer) -> String {
     format!("count {count}, slot {slot}, registered: address {address}, count {n}, bytes {}, min {min}, max {max}", hex(bytes))
 }
 
-fn exported(registered: Registered) -> exports::Registered {
+pub(crate) fn exported(registered: Registered) -> exports::Registered {
     let Registered { address, count, bytes, min, max } = registered;
     exports::Registered { address, count, bytes, min, max }
 }
 
-fn exported_reply(waiting: Waiting) -> exports::Reply {
+pub(crate) fn exported_reply(waiting: Waiting) -> exports::Reply {
     let Waiting { speaks, id, error, count, bytes, slot } = waiting;
     exports::Reply { speaks, id, error, count, bytes, slot }
 }

@@ -160,6 +160,13 @@ pub fn noise(rng: &mut Rng, length: usize) -> Vec<u8> {
     noise
 }
 
+/// The front of a packet, often of the longest: it may swallow all that follows for a while.
+pub fn front(rng: &mut Rng) -> Vec<u8> {
+    let promised = if rng.one_in(2) { rng.between(1_020, 1_024) } else { rng.between(3, 1_024) };
+    let [low, high] = (promised as u16).to_le_bytes();
+    vec![0xFF, 0xFF, 0xFD, 0x00, rng.pick(&[0, 1, 7, 252, 254]), low, high]
+}
+
 /// A part of a segment. Longer bodies have up to so many bytes.
 fn part(rng: &mut Rng, longest: usize) -> Vec<u8> {
     let length = if rng.one_in(3) { rng.between(1, longest) } else { rng.between(1, longest.min(12)) };
@@ -197,6 +204,30 @@ fn part(rng: &mut Rng, longest: usize) -> Vec<u8> {
 /// Noise, packets good and bad, cut, and inside each other, one after the other.
 pub fn segment(rng: &mut Rng, parts: usize, longest: usize) -> Vec<u8> {
     (0..parts).flat_map(|_| part(rng, longest)).collect()
+}
+
+/// A packet about as long as one can be, good or damaged, and what may stand beside it.
+pub fn around_the_longest(rng: &mut Rng) -> Vec<u8> {
+    let (before, stuffed) = (rng.between(0, 9), rng.between(1_018, 1_024));
+    let mut packet = packet_of(rng.pick(&[0, 1, 252, 254]), &body_of_stuffed_length(rng, stuffed));
+    if rng.one_in(3) {
+        let place = rng.between(0, packet.len() - 1);
+        packet[place] ^= 1 << rng.between(0, 7);
+    }
+    [noise(rng, before), packet, segment(rng, 1, 12)].concat()
+}
+
+/// The line in chunks of any size, empty ones too, cut anywhere.
+pub fn chunks<'a>(rng: &mut Rng, line: &'a [u8]) -> Vec<&'a [u8]> {
+    let largest = rng.pick(&[1, 3, 9, 40, 300, 3_000]);
+    let mut chunks = Vec::new();
+    let mut at = 0;
+    while at < line.len() {
+        let end = line.len().min(at + rng.between(0, largest));
+        chunks.push(&line[at..end]);
+        at = end;
+    }
+    chunks
 }
 
 /// Headers seven bytes apart, each promising the longest packet.

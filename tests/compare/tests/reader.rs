@@ -1,8 +1,8 @@
 //! The reader: the proved calls and the reference answer the same and leave the same record and packet buffer, call by call; and
 //! the promise over whole lists of calls.
 
-use compare::{noise, packet, published, record, segment, worst_noise, ReaderPair, Status};
-use reference::{packet_of, reading, verdict, Event, Rng, Verdict, LONGEST_PACKET, MOST_HELD};
+use compare::{front, noise, packet, published, record, segment, worst_noise, NoisyLine, ReaderPair, Rest, Status};
+use reference::{packet_of, reading, Event, Rng, LONGEST_PACKET, MOST_HELD};
 
 const PING: [u8; 10] = [0xFF, 0xFF, 0xFD, 0x00, 0x01, 0x03, 0x00, 0x01, 0x19, 0x4E];
 
@@ -268,72 +268,19 @@ fn published_packets() {
     assert!(good > 80, "{good} packets");
 }
 
-/// What is on the line in the promise over lists of calls.
-struct Line {
-    noise: usize,
-    packets: Vec<Vec<u8>>,
-    /// What follows the packets is the beginning of another one, and not all of it.
-    ends_in_a_beginning: bool,
-    bytes: Vec<u8>,
-}
-
-impl Line {
-    fn new(rng: &mut Rng) -> Line {
-        let length = if rng.one_in(4) { 0 } else { rng.between(0, 40) };
-        let mut bytes = noise(rng, length);
-        if rng.one_in(2) {
-            // the noise ends with the beginning of a packet that may swallow all that follows for a while
-            let promised = if rng.one_in(2) { 1_024 } else { rng.between(3, 1_024) };
-            bytes.extend([0xFF, 0xFF, 0xFD, 0x00, rng.between(0, 252) as u8, (promised % 256) as u8, (promised / 256) as u8]);
-        }
-        let noise_bytes = bytes.len();
-        let packets: Vec<Vec<u8>> = (0..rng.between(0, 8))
-            .map(|_| {
-                let length = if rng.one_in(3) { rng.between(1, 500) } else { rng.between(1, 12) };
-                packet_of(rng.pick(&[0, 1, 7, 252, 254]), &compare::body(rng, length))
-            })
-            .collect();
-        packets.iter().for_each(|packet| bytes.extend(packet));
-        let rest = rng.between(0, 3);
-        match rest {
-            0 => {}
-            1 => {
-                let length = rng.between(1, 600);
-                let next = packet_of(4, &compare::body(rng, length));
-                bytes.extend(&next[..rng.between(0, next.len() - 1)]);
-            }
-            2 => bytes.extend(segment(rng, 3, 200)),
-            _ => bytes.extend(noise(rng, 1_200)),
-        }
-        Line { noise: noise_bytes, packets, ends_in_a_beginning: rest == 1, bytes }
+fn noisy_line(rng: &mut Rng) -> NoisyLine {
+    let length = if rng.one_in(4) { 0 } else { rng.between(0, 40) };
+    let mut before = noise(rng, length);
+    if rng.one_in(2) {
+        before.extend(front(rng));
     }
-
-    /// Some stretch that starts in the noise and ends beyond it is itself a packet: then nothing is promised.
-    fn noise_makes_a_packet(&self) -> bool {
-        (0..self.noise).any(|start| match verdict(&self.bytes[start..]) {
-            Verdict::Packet { count, .. } => start + count > self.noise,
-            _ => false,
+    let packets = (0..rng.between(0, 8))
+        .map(|_| {
+            let length = if rng.one_in(3) { rng.between(1, 500) } else { rng.between(1, 12) };
+            packet_of(rng.pick(&[0, 1, 7, 252, 254]), &compare::body(rng, length))
         })
-    }
-
-    /// The packets of which all bytes are among the first so many, with their offsets, and the offset behind them.
-    fn packets_within(&self, taken: usize) -> (Vec<(usize, Event)>, usize) {
-        let mut at = self.noise;
-        let mut packets = Vec::new();
-        for packet in &self.packets {
-            if at + packet.len() > taken {
-                break;
-            }
-            packets.push((at, Event::Packet { id: packet[4], bytes: packet.clone() }));
-            at += packet.len();
-        }
-        (packets, at)
-    }
-
-    /// Whether so many bytes end in a packet that is still arriving, after so many of the packets.
-    fn still_arriving(&self, whole: usize) -> bool {
-        whole < self.packets.len() || self.ends_in_a_beginning
-    }
+        .collect();
+    NoisyLine::new(before, packets, Rest::draw(rng))
 }
 
 /// The promise over lists of calls, of our reader: noise, then packets, then anything, fed in any chunks after any earlier calls
@@ -343,7 +290,7 @@ fn packets_after_noise_all_come_out() {
     let mut rng = Rng::new(48);
     let (mut lists, mut without_gap, mut in_noise, mut arriving) = (0, 0, 0, 0);
     while lists < 4_000 {
-        let line = Line::new(&mut rng);
+        let line = noisy_line(&mut rng);
         if line.noise_makes_a_packet() {
             continue;
         }

@@ -83,6 +83,20 @@ pub struct Carried {
     pub registered: Registered,
 }
 
+/// What a call on a board answers. If `kind` is a refusal, all else but the registered write is 0.
+#[repr(C)]
+#[derive(Clone, Copy, PartialEq, Eq, Debug, Default)]
+pub struct BoardStep {
+    pub taken: usize,
+    pub count: usize,
+    pub kind: u8,
+    pub id: u8,
+    pub instruction: u8,
+    pub error: u8,
+    pub reply: Reply,
+    pub registered: Registered,
+}
+
 /// A reader's record: the held bytes stand at the start.
 #[repr(C)]
 #[derive(Clone, PartialEq, Eq, Debug)]
@@ -93,7 +107,7 @@ pub struct Reader {
 
 mod raw {
     use super::test::Fed;
-    use super::{Answer, Carried, Event, Found, Reader, Registered, Reply, Salvaged, Step};
+    use super::{Answer, BoardStep, Carried, Event, Found, Reader, Registered, Reply, Salvaged, Step};
 
     #[repr(C)]
     pub struct Verdict {
@@ -206,6 +220,22 @@ mod raw {
             n_body: usize,
         ) -> Carried;
         pub fn dxl_status(reply: Reply, out: *mut u8, n_out: usize) -> i64;
+        pub fn dxl_board_feed_parts(
+            held: *mut u8,
+            count: *mut usize,
+            chunk: *const u8,
+            n: usize,
+            packet: *mut u8,
+            table: *mut u8,
+            registered: Registered,
+        ) -> BoardStep;
+        pub fn dxl_board_gap_parts(
+            held: *mut u8,
+            count: *mut usize,
+            packet: *mut u8,
+            table: *mut u8,
+            registered: Registered,
+        ) -> BoardStep;
 
         pub fn dxl_plan(goals: *const i32, n_goals: usize, out: *mut u8, n_out: usize) -> i64;
         pub fn dxl_plan_check(goals: *const i32, n_goals: usize, plan: *const u8, n_plan: usize) -> i64;
@@ -361,6 +391,37 @@ pub fn carry_out_packet(table: &mut [u8], registered: Registered, packet: &[u8],
 
 pub fn status(reply: Reply, out: &mut [u8]) -> i64 {
     unsafe { raw::dxl_status(reply, out.as_mut_ptr(), out.len()) }
+}
+
+pub fn board_feed(
+    held: &mut [u8; 1030],
+    count: &mut usize,
+    chunk: &[u8],
+    packet: &mut [u8; 1031],
+    table: &mut [u8; 136],
+    registered: Registered,
+) -> BoardStep {
+    unsafe {
+        raw::dxl_board_feed_parts(
+            held.as_mut_ptr(),
+            count,
+            chunk.as_ptr(),
+            chunk.len(),
+            packet.as_mut_ptr(),
+            table.as_mut_ptr(),
+            registered,
+        )
+    }
+}
+
+pub fn board_gap(
+    held: &mut [u8; 1030],
+    count: &mut usize,
+    packet: &mut [u8; 1031],
+    table: &mut [u8; 136],
+    registered: Registered,
+) -> BoardStep {
+    unsafe { raw::dxl_board_gap_parts(held.as_mut_ptr(), count, packet.as_mut_ptr(), table.as_mut_ptr(), registered) }
 }
 
 pub fn plan(goals: &[i32], out: &mut [u8]) -> i64 {

@@ -1,4 +1,4 @@
-use reference::v1;
+use reference::{v1, Registered, Table};
 
 /// A call, a short list of calls, or a change of the memory that later calls borrow. Any of them may follow any other, so that a
 /// case from which some are dropped is a case again.
@@ -155,6 +155,31 @@ pub enum Operation {
     },
     /// The other loop of the header, when the line was silent.
     Silence,
+    /// Another board. What is not given of its 1,030 held bytes is `past`; its packet buffer has any bytes.
+    BoardRecord {
+        count: usize,
+        past: u8,
+        held: Vec<u8>,
+        table: Table,
+        registered: Registered,
+    },
+    /// One feeding call of that board.
+    BoardFeed {
+        chunk: Vec<u8>,
+    },
+    /// Its feeding calls until one gives no event.
+    BoardArrive {
+        chunk: Vec<u8>,
+    },
+    /// One gap call of that board.
+    BoardGap,
+    /// Its gap calls until one gives no event.
+    BoardFinish,
+    /// The measurement call on its table.
+    BoardMeasure {
+        position: i32,
+        error: u8,
+    },
 }
 
 impl Operation {
@@ -175,6 +200,8 @@ impl Operation {
             Operation::FeedV1 { chunk } | Operation::ArriveV1 { chunk } => chunk.len(),
             Operation::Board { table, .. } => table.len(),
             Operation::Receive { packet, .. } => packet.len(),
+            Operation::BoardRecord { held, table, .. } => held.len() + table.len(),
+            Operation::BoardFeed { chunk } | Operation::BoardArrive { chunk } => chunk.len(),
             _ => 0,
         }
     }

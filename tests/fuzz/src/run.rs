@@ -4,9 +4,10 @@ use crate::{Case, Operation};
 use compare::{compare_checksum, compare_encode, compare_flipped, compare_log_check, compare_log_last, compare_log_salvage};
 use compare::compare_log_write;
 use compare::{compare_next_event, compare_plan, compare_plan_check, compare_status, compare_unstuff, compare_v1_encode};
-use compare::{BAD_CHECKSUM, PACKET};
+use compare::{BoardPair, BAD_CHECKSUM, PACKET};
 use compare::{hex, Calls, Comparison, DevicePair, Difference, Encoded, Guarded, ReaderPair, Stepped, Told, V1ReaderPair};
-use reference::{fresh, v1, Event, Registered, Rng, MOST_HELD};
+use exports::{BoardStep, Reply};
+use reference::{fresh, v1, Board, Event, Registered, Rng, MOST_HELD};
 use std::collections::BTreeMap;
 
 /// Room for any unstuffed body.
@@ -62,6 +63,7 @@ struct World<'a> {
     /// A reader of Protocol 1.0 or Mercury.
     v1_reader: V1ReaderPair,
     device: DevicePair,
+    board: BoardPair,
     /// The reader at the other end of the line. It holds nothing between two statuses.
     host: ReaderPair,
     tally: &'a mut Tally,
@@ -75,7 +77,8 @@ impl<'a> World<'a> {
         let host = ReaderPair::of(*calls, &mut rng, [past; MOST_HELD], 0);
         let device = DevicePair::of(*calls, &mut rng, &fresh(), Registered::default(), REPLY_BYTES);
         let v1_reader = V1ReaderPair::of(*calls, v1::Protocol::P1, &mut rng, [past; v1::MOST_HELD], 0);
-        World { calls, rng, reader, rest: Vec::new(), v1_reader, device, host, tally }
+        let board = BoardPair::of(*calls, &mut rng, Board::start());
+        World { calls, rng, reader, rest: Vec::new(), v1_reader, device, board, host, tally }
     }
 
     fn perform(&mut self, operation: &Operation) -> Result<(), Difference> {
@@ -107,7 +110,7 @@ impl<'a> World<'a> {
                 let filler = self.rng.bytes(room);
                 let mut ours = Guarded::new(&mut self.rng, &filler);
                 let mut expected = ours.clone();
-                let reply = exports::Reply { speaks, id, error, count, bytes, slot };
+                let reply = Reply { speaks, id, error, count, bytes, slot };
                 let answer = compare_status(self.calls, reply, &mut ours, &mut expected)?;
                 self.tally.call("dxl_status", answer.min(0));
             }
@@ -187,7 +190,33 @@ impl<'a> World<'a> {
             }
             Operation::Hear { kind, id, ref body } => self.hear(kind, id, body)?,
             Operation::Receive { room, ref packet } => self.receive(packet, room)?,
-            _ => unreachable!("the others are no operations on a device"),
+            _ => self.on_board(operation)?,
+        }
+        Ok(())
+    }
+
+    fn on_board(&mut self, operation: &Operation) -> Result<(), Difference> {
+        match *operation {
+            Operation::BoardRecord { count, past, ref held, table, registered } => {
+                let mut board = Board { held: [past; MOST_HELD], count, table, registered, ..Board::start() };
+                board.held[..held.len()].copy_from_slice(held);
+                board.packet.fill_with(|| self.rng.byte());
+                self.board = BoardPair::of(*self.calls, &mut self.rng, board);
+            }
+            Operation::BoardFeed { ref chunk } => _ = self.call_board(Some(chunk))?,
+            Operation::BoardArrive { ref chunk } => {
+                let mut taken = 0;
+                while let Some(step) = self.call_board(Some(&chunk[taken..]))? {
+                    taken += step.taken;
+                }
+            }
+            Operation::BoardGap => _ = self.call_board(None)?,
+            Operation::BoardFinish => while self.call_board(None)?.is_some() {},
+            Operation::BoardMeasure { position, error } => {
+                let answer = self.board.try_measure(position, error)?;
+                self.tally.call("dxl_measure", answer);
+            }
+            _ => unreachable!("the others are no operations on a board"),
         }
         Ok(())
     }
@@ -240,6 +269,29 @@ impl<'a> World<'a> {
         Ok((step, event))
     }
 
+    /// A feeding call, or a gap call, of the board, and the status that it asks for; the answer where that is an event.
+    fn call_board(&mut self, chunk: Option<&[u8]>) -> Result<Option<BoardStep>, Difference> {
+        let step = self.board.try_call(chunk)?;
+        let export = if chunk.is_some() { "dxl_board_feed_parts" } else { "dxl_board_gap_parts" };
+        self.tally.call(export, i64::from(step.kind));
+        if !matches!(step.kind, 1 | 2) {
+            return Ok(None);
+        }
+        self.tally.note("error of a board", i64::from(step.error));
+        if step.reply.speaks > 0 {
+            self.send(step.reply)?;
+        }
+        Ok(Some(step))
+    }
+
+    fn send(&mut self, reply: Reply) -> Result<(), Difference> {
+        let mut ours = Guarded::new(&mut self.rng, &[0; REPLY_BYTES]);
+        let mut expected = ours.clone();
+        let count = compare_status(self.calls, reply, &mut ours, &mut expected)?;
+        self.tally.call("dxl_status", count.min(0));
+        self.read_back(&ours.bytes()[..count as usize])
+    }
+
     fn arrive(&mut self, chunk: &[u8], hand_on: fn(&mut Self, Event) -> Result<(), Difference>) -> Result<(), Difference> {
         let mut taken = 0;
         while let (step, Some(event)) = self.feed(&chunk[taken..])? {
@@ -286,19 +338,19 @@ impl<'a> World<'a> {
         if let Some(error) = error {
             self.tally.note("error", i64::from(error & 0x7F));
             self.tally.note("slot above 0", i64::from(slot > 0));
-            self.read_back(count as usize)?;
+            let status = self.device.reply()[..count as usize].to_vec();
+            self.read_back(&status)?;
         }
         Ok(())
     }
 
     /// A reader hears the status as one packet.
-    fn read_back(&mut self, count: usize) -> Result<(), Difference> {
-        let status = self.device.reply()[..count].to_vec();
-        let (step, event) = self.host.try_feed(&status)?;
+    fn read_back(&mut self, status: &[u8]) -> Result<(), Difference> {
+        let (step, event) = self.host.try_feed(status)?;
         self.tally.call("dxl_feed", i64::from(step.kind));
-        let given = || format!("status {}", hex(&status));
+        let given = || format!("status {}", hex(status));
         let comparison = Comparison { export: "dxl_feed", given: &given };
-        comparison.same("a status read back", event, Some(Event::Packet { id: status[4], bytes: status.clone() }))
+        comparison.same("a status read back", event, Some(Event::Packet { id: status[4], bytes: status.to_vec() }))
     }
 }
 

@@ -3,7 +3,7 @@
 
 use crate::{Case, Operation};
 use compare::hex;
-use reference::{v1, MOST_HELD};
+use reference::{v1, Registered, Table, MOST_HELD};
 use std::fmt;
 
 const VERSION: &str = "mednukals fuzz case, version 1";
@@ -82,7 +82,22 @@ fn line(operation: &Operation) -> String {
         Operation::Receive { room, packet } => format!("receive room={room} packet={}", hex(packet)),
         Operation::Exchange { chunk } => format!("exchange chunk={}", hex(chunk)),
         Operation::Silence => "silence".to_string(),
+        Operation::BoardRecord { count, past, held, table, registered } => {
+            let (held, table) = (hex(held), hex(table));
+            format!("board_record count={count} past=0x{past:02x} held={held} table={table} {}", write_of(registered))
+        }
+        Operation::BoardFeed { chunk } => format!("board_feed chunk={}", hex(chunk)),
+        Operation::BoardArrive { chunk } => format!("board_arrive chunk={}", hex(chunk)),
+        Operation::BoardGap => "board_gap".to_string(),
+        Operation::BoardFinish => "board_finish".to_string(),
+        Operation::BoardMeasure { position, error } => format!("board_measure position={position} error=0x{error:02x}"),
     }
+}
+
+/// The registered write of a board, in the fields behind those of its record.
+fn write_of(registered: &Registered) -> String {
+    let Registered { address, count, bytes, min, max } = registered;
+    format!("address={address} write={count} bytes={} min={min} max={max}", hex(bytes))
 }
 
 fn name_of(protocol: v1::Protocol) -> &'static str {
@@ -165,6 +180,12 @@ fn operation(line: &str) -> Result<Operation, String> {
         "receive" => Operation::Receive { room: fields.room("room")?, packet: fields.bytes("packet")? },
         "exchange" => Operation::Exchange { chunk: fields.bytes("chunk")? },
         "silence" => Operation::Silence,
+        "board_record" => board_record(&mut fields)?,
+        "board_feed" => Operation::BoardFeed { chunk: fields.bytes("chunk")? },
+        "board_arrive" => Operation::BoardArrive { chunk: fields.bytes("chunk")? },
+        "board_gap" => Operation::BoardGap,
+        "board_finish" => Operation::BoardFinish,
+        "board_measure" => Operation::BoardMeasure { position: fields.position("position")?, error: fields.number("error")? },
         name => return Err(format!("there is no operation `{name}`")),
     };
     fields.end()?;
@@ -191,8 +212,17 @@ fn record_v1(fields: &mut Fields) -> Result<Operation, String> {
     Ok(Operation::RecordV1 { protocol, count, past, held: fields.held("held", v1::MOST_HELD)? })
 }
 
+fn board_record(fields: &mut Fields) -> Result<Operation, String> {
+    let (count, past, held) = (fields.number("count")?, fields.number("past")?, fields.held("held", MOST_HELD)?);
+    let table: Table = fields.exactly("table")?;
+    let (address, write, bytes) = (fields.number("address")?, fields.number("write")?, fields.exactly("bytes")?);
+    let (min, max) = (fields.position("min")?, fields.position("max")?);
+    let registered = Registered { address, count: write, bytes, min, max };
+    Ok(Operation::BoardRecord { count, past, held, table, registered })
+}
+
 fn registered(fields: &mut Fields) -> Result<Operation, String> {
-    let (address, count, bytes) = (fields.number("address")?, fields.number("count")?, fields.eight("bytes")?);
+    let (address, count, bytes) = (fields.number("address")?, fields.number("count")?, fields.exactly("bytes")?);
     let (min, max) = (fields.position("min")?, fields.position("max")?);
     Ok(Operation::Registered { address, count, bytes, min, max })
 }
@@ -200,7 +230,7 @@ fn registered(fields: &mut Fields) -> Result<Operation, String> {
 fn status(fields: &mut Fields) -> Result<Operation, String> {
     let (room, slot, speaks) = (fields.room("room")?, fields.number("slot")?, fields.number("speaks")?);
     let (id, error, count) = (fields.number("id")?, fields.number("error")?, fields.number("count")?);
-    Ok(Operation::Status { room, slot, speaks, id, error, count, bytes: fields.eight("bytes")? })
+    Ok(Operation::Status { room, slot, speaks, id, error, count, bytes: fields.exactly("bytes")? })
 }
 
 /// The fields of a line, taken one by one.
@@ -261,8 +291,8 @@ impl<'a> Fields<'a> {
         value.parse().map_err(|_| format!("`{key}` is no number of four bytes: `{}`", short(value)))
     }
 
-    fn eight(&mut self, key: &str) -> Result<[u8; 8], String> {
-        self.bytes(key)?.try_into().map_err(|bytes: Vec<u8>| format!("`{key}` has {} bytes, and not 8", bytes.len()))
+    fn exactly<const N: usize>(&mut self, key: &str) -> Result<[u8; N], String> {
+        self.bytes(key)?.try_into().map_err(|bytes: Vec<u8>| format!("`{key}` has {} bytes, and not {N}", bytes.len()))
     }
 
     fn bytes(&mut self, key: &str) -> Result<Vec<u8>, String> {

@@ -34,7 +34,7 @@ fn other_seeds_other_cases() {
 }
 
 /// What has to come up in a short search, and how each export answers then.
-const ANSWERS: [(&str, &[i64]); 30] = [
+const ANSWERS: [(&str, &[i64]); 33] = [
     ("dxl_crc16", &[0]),
     ("dxl_crc16_flipped", &[0]),
     ("dxl_encode", &[0, -11, -12, -13]),
@@ -62,6 +62,9 @@ const ANSWERS: [(&str, &[i64]); 30] = [
     ("dxl_carry_out", &[0, -21, -22, -23]),
     ("dxl_carry_out_packet", &[0, -13, -14, -21, -22, -23]),
     ("dxl_status", &[0, -11, -12, -24]),
+    ("dxl_board_feed_parts", &[0, 1, 2, 22, 23, 25]),
+    ("dxl_board_gap_parts", &[0, 1, 2, 22, 23, 25]),
+    ("error of a board", &[0, 2, 3, 4, 5, 6, 7]),
     ("dxl_plan", &[0, -13, -41, -42]),
     ("dxl_plan_check", &[0, 1, -41, -42]),
     ("error", &[0, 2, 3, 4, 5, 6, 7]),

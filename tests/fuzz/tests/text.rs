@@ -1,7 +1,7 @@
 //! The text form of cases.
 
 use fuzz::{case, parse, write, Malformed, Operation};
-use reference::v1;
+use reference::{v1, Registered};
 
 #[test]
 fn round_trip() {
@@ -15,7 +15,9 @@ fn round_trip() {
 /// The form stays as it is: files of earlier searches must replay.
 #[test]
 fn every_operation_by_hand() {
-    let text = "mednukals fuzz case, version 1\n\
+    let table = "07".repeat(136);
+    let text = format!(
+        "mednukals fuzz case, version 1\n\
         # about\n\
         memory number=0x1f\n\
         \n\
@@ -51,8 +53,15 @@ fn every_operation_by_hand() {
         hear kind=1 id=1 body=01\n\
         receive room=5 packet=fffffd0001\n\
         exchange chunk=fffffd00\n\
-        silence\n";
-    let case = parse(text).expect("the text is a case");
+        silence\n\
+        board_record count=1031 past=0xa5 held=ff table={table} address=104 write=9 bytes=c800000000000000 min=-1 max=4095\n\
+        board_feed chunk=ff\n\
+        board_arrive chunk=\n\
+        board_gap\n\
+        board_finish\n\
+        board_measure position=-166 error=0x80\n"
+    );
+    let case = parse(&text).expect("the text is a case");
     assert_eq!(case.memory, 0x1F);
     let wanted = [
         Operation::Checksum { start: 0x1234, bytes: vec![0, 0xFF] },
@@ -96,6 +105,18 @@ fn every_operation_by_hand() {
         Operation::Receive { room: 5, packet: vec![0xFF, 0xFF, 0xFD, 0, 1] },
         Operation::Exchange { chunk: vec![0xFF, 0xFF, 0xFD, 0] },
         Operation::Silence,
+        Operation::BoardRecord {
+            count: 1_031,
+            past: 0xA5,
+            held: vec![0xFF],
+            table: [7; 136],
+            registered: Registered { address: 104, count: 9, bytes: [200, 0, 0, 0, 0, 0, 0, 0], min: -1, max: 4095 },
+        },
+        Operation::BoardFeed { chunk: vec![0xFF] },
+        Operation::BoardArrive { chunk: vec![] },
+        Operation::BoardGap,
+        Operation::BoardFinish,
+        Operation::BoardMeasure { position: -166, error: 0x80 },
     ];
     assert_eq!(case.operations, wanted);
     assert_eq!(write(&case, "about"), text.replace("\n\n", "\n"));
@@ -119,6 +140,7 @@ fn malformed_texts() {
         ("board reply=99999999 table=", "`reply` is above 16777216: 99999999"),
         ("measure position=2147483648 error=0", "`position` is no number of four bytes: `2147483648`"),
         (&long, "`held` has 1031 bytes, and a record 1030"),
+        ("board_record count=0 past=0 held= table=07", "`table` has 1 bytes, and not 136"),
     ] {
         let text = format!("mednukals fuzz case, version 1\nmemory number=0\ngap\n# and then\n{line}\ngap\n");
         assert_eq!(parse(&text), Err(Malformed { line: 5, why: why.to_string() }));

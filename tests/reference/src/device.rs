@@ -45,15 +45,29 @@ enum Sent {
 /// The data of a status, or its error number.
 type Outcome = Result<Vec<u8>, u8>;
 
-/// Where a status may be answered: the return level that it needs and its slot.
-struct Reply {
-    level: u8,
-    slot: u8,
+/// What came of something heard, and where a status may say so: the return level that it needs and its slot.
+struct Reaction {
     outcome: Outcome,
+    status: Option<(u8, u8)>,
 }
 
-fn reply(level: u8, slot: u8, outcome: Outcome) -> Option<Reply> {
-    Some(Reply { level, slot, outcome })
+impl Reaction {
+    /// Its slot, where a status is sent at this return level.
+    fn slot(&self, level: u8) -> Option<u8> {
+        self.status.filter(|&(lowest, _)| level >= lowest).map(|(_, slot)| slot)
+    }
+}
+
+fn answered(level: u8, slot: u8, outcome: Outcome) -> Reaction {
+    Reaction { outcome, status: Some((level, slot)) }
+}
+
+fn unanswered(outcome: Outcome) -> Reaction {
+    Reaction { outcome, status: None }
+}
+
+fn nothing_done() -> Reaction {
+    unanswered(Ok(vec![]))
 }
 
 /// The device call on a table and a reply buffer of any length, or the number of its refusal.
@@ -71,11 +85,11 @@ pub fn device_call(table: &mut [u8], registered: Registered, heard: Heard, out: 
 
     let (id, level) = (table::own_id(table), table::return_level(table));
     let mut registered = registered;
-    let reply = hear(table, &mut registered, heard).filter(|reply| level >= reply.level);
-    let Some(Reply { slot, outcome, .. }) = reply else {
+    let reaction = hear(table, &mut registered, heard);
+    let Some(slot) = reaction.slot(level) else {
         return Ok(Answer { count: 0, slot: 0, registered });
     };
-    let (error, data) = match outcome {
+    let (error, data) = match reaction.outcome {
         Ok(data) => (0, data),
         Err(error) => (error, vec![]),
     };
@@ -128,18 +142,26 @@ pub fn carry_out_call(table: &mut [u8], registered: Registered, heard: Heard) ->
         () if registered.count > 8 => return Err(23),
         () => {}
     }
-    let (level, mut registered) = (table::return_level(table), registered);
-    let mut waiting = Waiting::default();
-    if let Some(reply) = hear(table, &mut registered, heard) {
-        if level >= reply.level {
-            let alert = u8::from(table::hardware_error(table) != 0) << 7;
-            let (error, data) = reply.outcome.map_or_else(|error| (error, vec![]), |data| (0, data));
-            waiting.bytes[..data.len()].copy_from_slice(&data);
-            let (count, slot) = (data.len() as u8, usize::from(reply.slot));
-            waiting = Waiting { speaks: 1, id, error: error | alert, count, slot, ..waiting };
-        }
-    }
+    let mut registered = registered;
+    let (waiting, _) = carry_out(table, &mut registered, heard);
     Ok((waiting, registered))
+}
+
+/// Carries out on a table and a registered write that are accepted: what is to be said later, and the error number, which is
+/// there also where nothing is said.
+pub(crate) fn carry_out(table: &mut Table, registered: &mut Registered, heard: Heard) -> (Waiting, u8) {
+    let (id, level) = (table::own_id(table), table::return_level(table));
+    let reaction = hear(table, registered, heard);
+    let slot = reaction.slot(level);
+    let (error, data) = reaction.outcome.map_or_else(|error| (error, vec![]), |data| (0, data));
+    let Some(slot) = slot else {
+        return (Waiting::default(), error);
+    };
+    let alert = u8::from(table::hardware_error(table) != 0) << 7;
+    let mut bytes = [0; 8];
+    bytes[..data.len()].copy_from_slice(&data);
+    let waiting = Waiting { speaks: 1, id, error: error | alert, count: data.len() as u8, bytes, slot: usize::from(slot) };
+    (waiting, error)
 }
 
 /// The same for a packet as received, whose unstuffed body goes into a buffer of any length.
@@ -178,27 +200,27 @@ pub fn status_call(waiting: Waiting, out: &mut [u8]) -> Result<usize, u8> {
     Ok(status.len())
 }
 
-fn hear(table: &mut Table, registered: &mut Registered, heard: Heard) -> Option<Reply> {
+fn hear(table: &mut Table, registered: &mut Registered, heard: Heard) -> Reaction {
     let own = table::own_id(table);
     match heard {
-        Heard::Nothing => None,
-        Heard::BadChecksum { id } if id == own => reply(2, 0, Err(3)),
-        Heard::BadChecksum { .. } => None,
+        Heard::Nothing => nothing_done(),
+        Heard::BadChecksum { id } if id == own => answered(2, 0, Err(3)),
+        Heard::BadChecksum { .. } => nothing_done(),
         Heard::Packet { id, body } if id == own => told(table, registered, Sent::ToUs, body),
         Heard::Packet { id: 254, body } => told(table, registered, Sent::ToAll, body),
-        Heard::Packet { .. } => None,
+        Heard::Packet { .. } => nothing_done(),
     }
 }
 
-fn told(table: &mut Table, registered: &mut Registered, sent: Sent, body: &[u8]) -> Option<Reply> {
-    let to_us = |level, outcome| if sent == Sent::ToUs { reply(level, 0, outcome) } else { None };
+fn told(table: &mut Table, registered: &mut Registered, sent: Sent, body: &[u8]) -> Reaction {
+    let to_us = |level, outcome| if sent == Sent::ToUs { answered(level, 0, outcome) } else { unanswered(outcome) };
     let Some((&instruction, parameters)) = body.split_first() else {
         return to_us(2, Err(2));
     };
     match instruction {
-        0x55 => None,
+        0x55 => nothing_done(),
         0x01 => match (sent, ping(table, parameters)) {
-            (Sent::ToAll, Ok(data)) => reply(0, table::own_id(table), Ok(data)),
+            (Sent::ToAll, Ok(data)) => answered(0, table::own_id(table), Ok(data)),
             (_, outcome) => to_us(0, outcome),
         },
         0x02 => to_us(1, read(table, parameters)),
@@ -207,18 +229,12 @@ fn told(table: &mut Table, registered: &mut Registered, sent: Sent, body: &[u8])
         0x05 => to_us(2, action(table, registered, parameters)),
         0x06 => to_us(2, factory_reset(table, registered, sent, parameters)),
         0x08 => to_us(2, reboot(table, registered, parameters)),
-        0x82 if sent == Sent::ToAll => sync_read(table, parameters),
+        0x82 if sent == Sent::ToAll => sync_read(table, parameters).unwrap_or_else(nothing_done),
         0x82 => to_us(1, Err(2)),
-        0x83 if sent == Sent::ToAll => {
-            sync_write(table, parameters);
-            None
-        }
-        0x92 if sent == Sent::ToAll => bulk_read(table, parameters),
+        0x83 if sent == Sent::ToAll => sync_write(table, parameters).map_or_else(nothing_done, unanswered),
+        0x92 if sent == Sent::ToAll => bulk_read(table, parameters).unwrap_or_else(nothing_done),
         0x92 => to_us(1, Err(2)),
-        0x93 if sent == Sent::ToAll => {
-            bulk_write(table, parameters);
-            None
-        }
+        0x93 if sent == Sent::ToAll => bulk_write(table, parameters).map_or_else(nothing_done, unanswered),
         _ => to_us(2, Err(2)),
     }
 }
@@ -333,21 +349,17 @@ fn usable(ids: &[u8]) -> bool {
     (0..ids.len()).all(|i| ids[i] <= 252 && !ids[..i].contains(&ids[i]))
 }
 
-fn sync_read(table: &Table, parameters: &[u8]) -> Option<Reply> {
+fn sync_read(table: &Table, parameters: &[u8]) -> Option<Reaction> {
     let list = sync_list(parameters, false)?;
     let slot = list.entries.iter().position(|&(id, _)| id == table::own_id(table))?;
-    reply(1, slot as u8, table::read(table, list.address, list.length))
+    Some(answered(1, slot as u8, table::read(table, list.address, list.length)))
 }
 
-fn sync_write(table: &mut Table, parameters: &[u8]) {
-    let Some(list) = sync_list(parameters, true) else {
-        return;
-    };
+fn sync_write(table: &mut Table, parameters: &[u8]) -> Option<Outcome> {
+    let list = sync_list(parameters, true)?;
     let own = table::own_id(table);
-    if let Some((_, data)) = list.entries.iter().find(|&&(id, _)| id == own) {
-        // nobody hears whether it was refused
-        let _ = store(table, list.address, data);
-    }
+    let (_, data) = list.entries.iter().find(|&&(id, _)| id == own)?;
+    Some(store(table, list.address, data))
 }
 
 /// What a Bulk list says to one device.
@@ -377,20 +389,17 @@ fn bulk_list(parameters: &[u8], with_data: bool) -> Option<Vec<Bulk<'_>>> {
     (usable(&ids) && !some_empty).then_some(entries)
 }
 
-fn bulk_read(table: &Table, parameters: &[u8]) -> Option<Reply> {
+fn bulk_read(table: &Table, parameters: &[u8]) -> Option<Reaction> {
     let entries = bulk_list(parameters, false)?;
     let slot = entries.iter().position(|entry| entry.id == table::own_id(table))?;
-    reply(1, slot as u8, table::read(table, entries[slot].address, entries[slot].length))
+    Some(answered(1, slot as u8, table::read(table, entries[slot].address, entries[slot].length)))
 }
 
-fn bulk_write(table: &mut Table, parameters: &[u8]) {
+fn bulk_write(table: &mut Table, parameters: &[u8]) -> Option<Outcome> {
+    let entries = bulk_list(parameters, true)?;
     let own = table::own_id(table);
-    for entry in bulk_list(parameters, true).unwrap_or_default() {
-        if entry.id == own {
-            // nobody hears whether it was refused
-            let _ = store(table, entry.address, entry.data);
-        }
-    }
+    let entry = entries.iter().find(|entry| entry.id == own)?;
+    Some(store(table, entry.address, entry.data))
 }
 
 #[cfg(test)]

@@ -1,6 +1,7 @@
 //! The second implementation: the rules of the protocol as plainly as they can be said, for comparison alone. It shares nothing
 //! with the proved code, has no table and no care for speed.
 
+mod board;
 mod checksum;
 mod device;
 mod log;
@@ -14,6 +15,7 @@ mod stuffing;
 mod table;
 pub mod v1;
 
+pub use board::{Board, BoardStep};
 pub use checksum::{checksum, flipped};
 pub use device::{carry_out_call, carry_out_packet_call, device_call, packet_call, status_call};
 pub use device::{Answer as DeviceAnswer, Heard, Registered, Waiting};

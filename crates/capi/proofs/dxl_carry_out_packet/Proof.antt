@@ -1,11 +1,11 @@
 use mathlib.Core.Path.{_∙_, ap, ap₂}
 use Rattle.numbers.specs.declared.CarriedNumbers.{CarriedNumbers}
-use Rattle.exchange.specs.Calls.{stateOf}
+use Rattle.device_calls.specs.Calls.{stateOf}
 use Rattle.device.proofs.Promises.{device-promises}
 use Rattle.device.proofs.Split.{split}
 use Rattle.exchange.proofs.Promises.{exchange-promises}
-use Rattle.exchange.proofs.Stays.{stays-accepted}
-use Rattle.exchange.proofs.GoalWithinLimits.{goal-within-limits}
+use Rattle.device_calls.proofs.Stays.{stays-accepted}
+use Rattle.device_calls.proofs.GoalWithinLimits.{goal-within-limits}
 use Rattle.capi.proofs.Carried.{by-parts}
 use borrow.Author.Needs.{needs}
 use Rattle.capi.proofs.dxl_carry_out_packet.Statement.{statement}

@@ -2,7 +2,7 @@ use mathlib.Core.Path.{ap, _∙_}
 use mir.Facts.{toZ-ofZ}
 use mir.Syntax.{w64}
 use Rattle.plan_laws.proofs.Planned.{planned}
-use Rattle.plan_heard.proofs.Heard.{plan-carried-out}
+use Rattle.plan_heard.proofs.OnBoard.{plan-carried-out}
 use Rattle.numbers.specs.Exported.{exported}
 use borrow.Author.Needs.{needs}
 use Rattle.capi.proofs.dxl_plan.Statement.{statement}

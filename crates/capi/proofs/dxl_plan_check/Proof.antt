@@ -9,7 +9,7 @@ use Rattle.plan_check.specs.Tested.{TestSays}
 use Rattle.plan_check.specs.declared.Tested.{Tested}
 use Rattle.plan_check.specs.declared.Tested.the-variants.{Accepted, NotPlan, BadCount, BadGoal}
 use Rattle.numbers.specs.Exported.{testedNumber}
-use Rattle.plan_heard.proofs.Heard.{plan-carried-out}
+use Rattle.plan_heard.proofs.OnBoard.{plan-carried-out}
 use Rattle.capi.specs.Plans.{CheckSays}
 use borrow.Author.Needs.{needs}
 use Rattle.capi.proofs.dxl_plan_check.Statement.{statement}

@@ -29,7 +29,7 @@ returns c =
     let a = i .before .before .before .before .args in
     let q = fault-told (stateRefusal (a .table .now) (a .registered)) (i .state-refusal .result) (i .state-refusal .ensures)
     (λ n slot e. miss (1 ∷ 2 ∷ 3 ∷ 4 ∷ 5 ∷ 6 ∷ []) 0 tt (rw e at (m .match .keys2))) in
-    (i .state-refusal .ensures, (c .silence .ensures ∙ q .silences _, (q .keeps _ _, q .leaves _ _)))
+    (i .state-refusal .ensures, (c .silence .ensures ∙ q .silences _, (q .keeps _ _, (q .errs _, q .leaves _ _))))
 
 -- nothing is refused, once the match is passed
 passes : (t : tie.After-enum-told) → let a = t .before .before .before .before .before .before .args in
@@ -51,7 +51,7 @@ returns-2 c =
     let e = passes (d .before .before) in
     let r = d .dispatch .ensures in (
       rw e (ap (λ (x : CarriedOut). repliedAnswer (x .refused)) (r .0)),
-      (rw e (ap (λ (x : CarriedOut). x .reply) (r .0)), (rw e (ap (λ (x : CarriedOut). x .registered) (r .0)), rw e (r .1))),
+      (rw e (ap (λ (x : CarriedOut). x .reply) (r .0)), (rw e (ap (λ (x : CarriedOut). x .registered) (r .0)), (rw e (ap (λ (x : CarriedOut). x .error) (r .0)), rw e (r .1)))),
     )
 
 pub carry-out-spec : {M : Type 1} → statement M

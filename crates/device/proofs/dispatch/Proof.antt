@@ -23,7 +23,7 @@ returns c =
     let a = k .before .before .before .before .before .args in
     let e = to-another (a .table .now) (a .registered) (a .heard) (a .id) (a .body .now)
     (eqb-false _ _ (not-true _ (k .before .if1 .taken))) (k .if2 .taken) in
-    (ap (λ (x : Reply). record { refused = Sent 0 0; reply = x; registered = a .registered }) (c .silence .ensures) ∙ ap carriedOf e, ap (λ (x : Carried). x .table) e)
+    (ap (λ (x : Reply). record { refused = Sent 0 0; reply = x; registered = a .registered; error = 0 }) (c .silence .ensures) ∙ ap carriedOf e, ap (λ (x : Carried). x .table) e)
 
 execute-requires : tie.Need-execute-requires
 execute-requires c κs = search needs

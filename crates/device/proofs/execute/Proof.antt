@@ -51,12 +51,12 @@ returns c =
     let left = r .reaction .ensures .1 ∙ ap (λ (x : Reaction). x .effect .table) e in
     let own = getD (a .table .now) 7 0 in
     let level = getD (a .table .now) 68 0 in (
-      ap (λ (x : Reply). record { refused = Sent 0 0; reply = x; registered = r .reaction .result .done .registered })
+      ap (λ (x : Reply). record { refused = Sent 0 0; reply = x; registered = r .reaction .result .done .registered; error = r .reaction .result .done .error })
           (c .reply-to .ensures
           ∙ ap (λ (t : List ℕ). replyTo t own level (r .reaction .result)) left
           ∙ ap (replyTo (q .effect .table) own level) reacted
           ∙ reply-of (a .table .now) q)
-          ∙ ap (λ (x : Done). record { refused = Sent 0 0; reply = replyBy (q .replying) (a .table .now) (q .effect); registered = x .registered }) (ap (λ (x : Reacted). x .done) reacted ∙ reacted-done q),
+          ∙ ap (λ (x : Done). record { refused = Sent 0 0; reply = replyBy (q .replying) (a .table .now) (q .effect); registered = x .registered; error = x .error }) (ap (λ (x : Reacted). x .done) reacted ∙ reacted-done q),
       left,
     )
 

@@ -51,7 +51,7 @@ returns-2 c =
     let s = both r in
     let q = fault-told (stateRefusal (a .table .now) (a .registered)) (r .carry-out .result .refused) (e .0)
     (λ n slot h. miss (1 ∷ 2 ∷ 3 ∷ 4 ∷ 5 ∷ 6 ∷ []) 0 tt (rw h at (c .match .keys2))) in
-    (q .stops _ _ ∙ s .same-answer, (e .1 .1 .0 ∙ s .same-registered, (e .1 .1 .1 ∙ s .same-table, q .leaves _ _ ∙ s .same-reply)))
+    (q .stops _ _ ∙ s .same-answer, (e .1 .1 .0 ∙ s .same-registered, (e .1 .1 .1 .1 ∙ s .same-table, q .leaves _ _ ∙ s .same-reply)))
 
 send-requires : tie.Need-send-requires
 send-requires c κs = search needs
@@ -75,7 +75,7 @@ returns-3 c =
       g .send .ensures .0 ∙ ap (λ (x : Reply). withSlot (statusAnswer x (a .out .now)) (x .slot)) q ∙ rw f at (s .same-answer),
       (
         e .1 .1 .0 ∙ s .same-registered,
-        (e .1 .1 .1 ∙ s .same-table, g .send .ensures .1 ∙ ap (λ (x : Reply). statusOut x (a .out .now)) q ∙ rw f at (s .same-reply)),
+        (e .1 .1 .1 .1 ∙ s .same-table, g .send .ensures .1 ∙ ap (λ (x : Reply). statusOut x (a .out .now)) q ∙ rw f at (s .same-reply)),
       ),
     )
 

@@ -130,7 +130,7 @@ returns-4 c =
         (
           rw e (r .1 .1 .0 ∙ ap (λ (x : Message). carriedRegistered (a .table .now) (a .registered) Packet (x .id) (x .body)) m),
           (
-            rw e (r .1 .1 .1 ∙ ap (λ (x : Message). carriedTable (a .table .now) (a .registered) Packet (x .id) (x .body)) m),
+            rw e (r .1 .1 .1 .1 ∙ ap (λ (x : Message). carriedTable (a .table .now) (a .registered) Packet (x .id) (x .body)) m),
             rw (e, f) (unstuffed (a .packet .now) (a .body .now) _ g _ (u .unstuff .ensures .1)),
           ),
         ),

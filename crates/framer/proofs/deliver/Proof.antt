@@ -1,5 +1,5 @@
 use borrow.Author.Needs.{needs}
-use Rattle.framer.proofs.Deliveries.{replied}
+use Rattle.framer.proofs.Deliveries.{replied, stayed}
 use Rattle.framer.proofs.deliver.Statement.{statement}
 use Rattle.framer.proofs.deliver.Tie as tie
 
@@ -27,9 +27,12 @@ same-length-2 c = search needs
 returns : tie.Need-returns
 returns c =
     let s = c .before .before .before .before .before .before .before .before .before .before .before .before .before in
-    let t = c .before .before .before .before .before .before .before .before .report .ensures in
-    replied (s .args .protocol) (s .args .held .now) _ _ _ _ _ _ (s .args .seen) _ _ (c .stepped .ensures) (c .before .before .before .before .before .on-from .ensures) (s .pre .0)
-    (s .pre .1) (t .0) (t .1) (c .before .before .before .shift .ensures)
+    let t = c .before .before .before .before .before .before .before .before .report .ensures in (
+      replied (s .args .protocol) (s .args .held .now) _ _ _ _ _ _ (s .args .seen) _ _ (c .stepped .ensures) (c .before .before .before .before .before .on-from .ensures) (s .pre .0)
+          (s .pre .1) (t .0) (t .1 .0) (c .before .before .before .shift .ensures),
+      stayed (s .args .protocol) (s .args .held .now) _ _ _ _ _ _ _ (s .args .seen) _ _ (c .stepped .ensures) (c .before .before .before .before .before .on-from .ensures) (s .pre .0)
+          (s .pre .1) (t .0) (t .1 .1) (c .before .before .before .shift .ensures),
+    )
 
 pub deliver-spec : {M : Type 1} → statement M
 deliver-spec =

@@ -3,7 +3,7 @@ use native.Mathlib.Omega.{arith}
 use lib.ListN.{length-take}
 use borrow.Author.Needs.{needs}
 use Rattle.buffers.proofs.Parts.{placed-whole}
-use Rattle.framer.proofs.Deliveries.{replied}
+use Rattle.framer.proofs.Deliveries.{replied, stayed}
 use Rattle.framer.proofs.deliver_chunk.Statement.{statement}
 use Rattle.framer.proofs.deliver_chunk.Tie as tie
 
@@ -44,9 +44,12 @@ returns : tie.Need-returns
 returns c =
     let s = c .before .before .before .before .before .before .before .before .before .before .before .before .before .before in
     let t = c .before .before .before .before .before .before .before .before .before .report .ensures in
-    replied (s .args .protocol) (s .args .chunk .now) _ _ _ _ _ _ (s .args .seen) _ _ (c .stepped .ensures) (c .before .before .before .before .before .before .on-from .ensures) (s .pre .0)
-    (s .pre .1) (t .0) (t .1)
-    (c .before .before .before .place .ensures ∙ placed-whole (s .args .held .now) _ 0 (simp length-take (omega (arith, s .pre .2))))
+    let q = c .before .before .before .place .ensures ∙ placed-whole (s .args .held .now) _ 0 (simp length-take (omega (arith, s .pre .2))) in (
+      replied (s .args .protocol) (s .args .chunk .now) _ _ _ _ _ _ (s .args .seen) _ _ (c .stepped .ensures) (c .before .before .before .before .before .before .on-from .ensures) (s .pre .0)
+          (s .pre .1) (t .0) (t .1 .0) q,
+      stayed (s .args .protocol) (s .args .chunk .now) _ _ _ _ _ _ _ (s .args .seen) _ _ (c .stepped .ensures) (c .before .before .before .before .before .before .on-from .ensures) (s .pre .0)
+          (s .pre .1) (t .0) (t .1 .1) q,
+    )
 
 pub deliver-chunk-spec : {M : Type 1} → statement M
 deliver-chunk-spec =

@@ -1,11 +1,38 @@
 use Rattle.framer.proofs.Turns.{room-for, gap-nothing, gap-decided}
 use lib.Seq.{length-take-le}
 use types.Run.{miss}
-use mathlib.Core.List.{[], _∷_}
-use mathlib.Core.Path.{sym}
+use mathlib.Core.List.{List, [], _∷_}
+use mathlib.Core.Path.{_≡_, refl, sym}
+use Prim.Native.Nat.{ℕ}
+use native.Mathlib.Omega.{arith}
+use lib.ListN.{take, length-take}
+use Rattle.reading.specs.Reading.{closed}
+use Rattle.reading.specs.Calls.{first, CallResult, gapped, gap, call}
+use Rattle.protocols.specs.Protocols.{rulesOf}
+use Rattle.protocols.proofs.Shapes.{laws}
+use Rattle.framer.specs.declared.Step.{Step}
+use Rattle.framer.specs.Results.{mostHeld}
+use Rattle.framer.specs.Delivered.{Delivered, Stayed, Spared}
+use Rattle.framer.proofs.Spared.{call-shorter, spared}
 use borrow.Author.Needs.{needs}
 use Rattle.framer.proofs.gap_slices.Statement.{statement}
 use Rattle.framer.proofs.gap_slices.Tie as tie
+
+-- what stays
+to-spared : (s : tie.Start) (r : CallResult) (step : Step) (held bytes : List ℕ)
+    → gapped (first (rulesOf (s .args .protocol)) closed (take (s .args .count) (s .args .held .now))) ≡ r
+    → Delivered (s .args .protocol) r step held bytes → Stayed step (s .args .held .now) (s .args .packet .now) held bytes
+    → Delivered (s .args .protocol) (gapped (first (rulesOf (s .args .protocol)) closed (take (s .args .count) (s .args .held .now)))) step held bytes
+    × Spared (mostHeld (s .args .protocol)) (s .args .count) step (s .args .held .now) (s .args .packet .now) held bytes
+unfolding call
+to-spared s r step held bytes e d k =
+    let h = take (s .args .count) (s .args .held .now) in
+    let w : Delivered (s .args .protocol) (gapped (first (rulesOf (s .args .protocol)) closed h)) step held bytes = rw e d in (
+      w,
+      spared (s .args .protocol) _ _ (s .args .count) step (s .args .held .now) (s .args .packet .now) (s .args .held .now) (s .args .packet .now) held bytes
+          (omega (arith, call-shorter (rulesOf (s .args .protocol)) (laws (s .args .protocol)) h gap, length-take (s .args .count) (s .args .held .now))) w k refl
+          (λ _. refl),
+    )
 
 slice-reshare-prefix-scan-closed : tie.Need-slice-reshare-prefix-scan-closed
 slice-reshare-prefix-scan-closed c = search needs
@@ -28,8 +55,9 @@ same-length c = search needs
 returns : tie.Need-returns
 returns c =
     let g = c .before in
-    gap-nothing (c .before .before .before .before .before .before .before .args .protocol) _ _ _ _ _ (rw (g .enum-told .given .1) at (c .before .before .before .scan-closed .ensures))
-    (c .stepped .ensures)
+    let w = gap-nothing (c .before .before .before .before .before .before .before .args .protocol) _ _ _ _ _ (rw (g .enum-told .given .1) at (c .before .before .before .scan-closed .ensures))
+    (c .stepped .ensures) in
+    to-spared (c .before .before .before .before .before .before .before) _ _ _ _ refl w (record { held-stays = refl; bytes-stay = refl })
 
 deliver-requires : tie.Need-deliver-requires
 deliver-requires c κs =
@@ -51,7 +79,8 @@ returns-2 c =
     let s = k .before .before .before .before .before in
     let d = gap-decided (s .args .protocol) _ (k .before .scan-closed .result)
     (λ at e. miss (0 ∷ 1 ∷ []) 2 tt (rw e at (k .match .keys2))) (k .before .scan-closed .ensures) in
-    rw (d .2) (c .before .before .before .before .deliver .ensures)
+    let q = c .before .before .before .before .deliver .ensures in
+    to-spared s _ _ _ _ (d .2) (q .0) (q .1)
 
 pub gap-slices-spec : {M : Type 1} → statement M
 gap-slices-spec =

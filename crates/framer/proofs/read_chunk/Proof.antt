@@ -48,8 +48,8 @@ returns : tie.Need-returns
 returns c =
     let s = c .before .before .before .before .before .before .before .before .before .before .before .before .before in
     let w = c .before .before .before .before .before .before .before .before .advance .ensures in
-    rw (ends-rest (s .args .protocol) (s .args .chunk .now) _ (s .args .from) _ _ (w .1))
-    (c .before .before .before .before .deliver-chunk .ensures)
+    let d = c .before .before .before .before .deliver-chunk .ensures in
+    (rw (ends-rest (s .args .protocol) (s .args .chunk .now) _ (s .args .from) _ _ (w .1)) (d .0), d .1)
 
 pub read-chunk-spec : {M : Type 1} → statement M
 read-chunk-spec =

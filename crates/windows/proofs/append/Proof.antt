@@ -1,4 +1,5 @@
-use Rattle.windows.proofs.Behind.{append-behind, append-moved}
+use Rattle.buffers.proofs.Parts.{placed-stays}
+use Rattle.windows.proofs.Behind.{append-behind, append-moved, moved-stays}
 use borrow.Author.Needs.{needs}
 use Rattle.windows.proofs.append.Statement.{statement}
 use Rattle.windows.proofs.append.Tie as tie
@@ -19,6 +20,7 @@ returns c =
       search needs,
       append-behind (a .held .now) (a .bytes .now) _ (a .at) (a .end) (search needs) (search needs)
           (c .before .before .place .ensures),
+      placed-stays (a .held .now) (a .bytes .now) _ (a .end) (search needs) (c .before .before .place .ensures),
     )
 
 shift-requires : tie.Need-shift-requires
@@ -39,6 +41,8 @@ returns-2 c =
       search needs,
       search needs,
       append-moved (a .held .now) _ (a .bytes .now) _ (a .at) (a .end) (search needs) (search needs) (search needs)
+          (c .before .before .before .before .before .before .shift .ensures) (c .before .before .place2 .ensures),
+      moved-stays (a .held .now) _ (a .bytes .now) _ (a .at) (a .end) (search needs) (search needs) (search needs)
           (c .before .before .before .before .before .before .shift .ensures) (c .before .before .place2 .ensures),
     )
 

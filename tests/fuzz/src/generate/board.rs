@@ -1,7 +1,7 @@
 //! A device as a case goes on: the generator follows it by the reference, so that instructions meet what the table holds.
 
 use crate::Operation;
-use compare::device_inputs::{self, has_list, instruction_of_a_life, value};
+use compare::device_inputs::{self, value};
 use compare::{BAD_CHECKSUM, PACKET};
 use reference::{device_call, framed, fresh, packet_of, reading, unstuff, Event, Heard, Registered, Rng, Table, TABLE_BYTES};
 
@@ -54,7 +54,7 @@ impl Board {
     }
 
     /// The table for drawing inputs; a fresh one where it has not its length.
-    fn known(&self) -> Table {
+    pub fn known(&self) -> Table {
         self.table.as_slice().try_into().unwrap_or_else(|_| fresh())
     }
 
@@ -98,18 +98,7 @@ impl Board {
 
     /// The ID and the body of an instruction.
     pub fn instruction(&self, rng: &mut Rng) -> (u8, Vec<u8>) {
-        let table = self.known();
-        let instruction = instruction_of_a_life(rng);
-        let body = match rng.between(0, 299) {
-            0..=4 => vec![],
-            5 => {
-                let length = compare::length(rng);
-                [&[instruction], &compare::body(rng, length)[..]].concat()
-            }
-            _ => device_inputs::body(rng, &table, instruction),
-        };
-        let id = if has_list(instruction) && !rng.one_in(5) { 254 } else { device_inputs::id(rng, table[7]) };
-        (id, body)
+        device_inputs::instruction(rng, &self.known())
     }
 
     pub fn hear(&mut self, kind: u8, id: u8, body: Vec<u8>, operations: &mut Vec<Operation>) {

@@ -2,11 +2,8 @@
 
 use super::board::Board;
 use crate::Operation;
-use compare::{body_of_stuffed_length, noise, record, segment, v1_record, v1_segment, worst_noise};
-use reference::{framed, packet_of, stuff, v1, Rng};
-
-/// The longest body of a packet.
-const LONGEST_BODY: usize = 1_022;
+use compare::{around_the_longest, chunks, device_inputs, record, segment, v1_record, v1_segment, worst_noise};
+use reference::{v1, Rng};
 
 /// A reader's calls as a careless user makes them.
 pub fn reader(rng: &mut Rng) -> Vec<Operation> {
@@ -65,30 +62,6 @@ pub fn line(rng: &mut Rng) -> Vec<u8> {
     segment(rng, parts, longest)
 }
 
-/// A packet about as long as one can be, good or damaged, and what may stand beside it.
-fn around_the_longest(rng: &mut Rng) -> Vec<u8> {
-    let (before, stuffed) = (rng.between(0, 9), rng.between(1_018, 1_024));
-    let mut packet = packet_of(rng.pick(&[0, 1, 252, 254]), &body_of_stuffed_length(rng, stuffed));
-    if rng.one_in(3) {
-        let place = rng.between(0, packet.len() - 1);
-        packet[place] ^= 1 << rng.between(0, 7);
-    }
-    [noise(rng, before), packet, segment(rng, 1, 12)].concat()
-}
-
-/// The line in chunks of any size, empty ones too, cut anywhere.
-fn chunks<'a>(rng: &mut Rng, line: &'a [u8]) -> Vec<&'a [u8]> {
-    let largest = rng.pick(&[1, 3, 9, 40, 300, 3_000]);
-    let mut chunks = Vec::new();
-    let mut at = 0;
-    while at < line.len() {
-        let end = line.len().min(at + rng.between(0, largest));
-        chunks.push(&line[at..end]);
-        at = end;
-    }
-    chunks
-}
-
 /// Gaps in odd places and not finished, fed on after such a gap, rests dropped or fed twice, empty chunks, bytes past the count.
 fn calls(rng: &mut Rng, line: &[u8], operations: &mut Vec<Operation>) {
     let between_gaps = rng.pick(&[2, 6, 30, 200]);
@@ -128,7 +101,7 @@ pub fn exchange(rng: &mut Rng) -> Vec<Operation> {
         board.meanwhile(rng, &mut operations);
         let mut line = Vec::new();
         for _ in 0..rng.between(1, 5) {
-            let part = part(rng, &board);
+            let part = device_inputs::part(rng, &board.known());
             board.follow_line(&part);
             line.extend(part);
         }
@@ -143,32 +116,4 @@ pub fn exchange(rng: &mut Rng) -> Vec<Operation> {
         }
     }
     operations
-}
-
-/// Mostly a packet with an instruction; or a damaged one, one inside a damaged one, another device's status, noise.
-fn part(rng: &mut Rng, board: &Board) -> Vec<u8> {
-    let (id, body) = board.instruction(rng);
-    let mut packet = if stuff(&body).len() <= LONGEST_BODY { packet_of(id, &body) } else { packet_of(id, &body[..500]) };
-    match rng.between(0, 19) {
-        0 => {
-            let length = rng.between(1, 30);
-            noise(rng, length)
-        }
-        1 => segment(rng, 1, 60),
-        2 | 3 => {
-            let place = rng.between(0, packet.len() - 1);
-            packet[place] ^= 1 << rng.between(0, 7);
-            packet
-        }
-        4 | 5 => {
-            let mut outer = framed(id, &[&[rng.byte()], &packet[..], &[rng.byte()]].concat());
-            *outer.last_mut().expect("no packet is empty") ^= rng.pick(&[0, 1, 0x80]);
-            outer
-        }
-        6 => {
-            let count = rng.between(0, 8);
-            packet_of(id, &[&[0x55, 0], &rng.bytes(count)[..]].concat())
-        }
-        _ => packet,
-    }
 }

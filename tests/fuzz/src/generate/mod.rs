@@ -5,6 +5,7 @@ mod device;
 mod line;
 mod log;
 mod single;
+mod whole;
 
 use crate::{Case, Operation};
 use reference::Rng;
@@ -33,7 +34,8 @@ fn operations(rng: &mut Rng) -> Vec<Operation> {
         42..=48 => line::reader(rng),
         49..=54 => line::reader_v1(rng),
         55..=59 => device::table(rng),
-        60..=77 => device::life(rng),
+        60..=73 => device::life(rng),
+        74..=77 | 88..=89 => whole::life(rng),
         78..=80 => single::several(rng, log::write),
         81..=84 => single::several(rng, log::ask),
         85..=87 => single::several(rng, log::salvage),

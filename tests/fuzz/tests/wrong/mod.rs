@@ -1,7 +1,7 @@
 //! Exports that are wrong in one thing each.
 
 use compare::{Calls, PROVED};
-use exports::{Answer, Carried, Event, Found, Reader, Registered, Reply, Salvaged, Step};
+use exports::{Answer, BoardStep, Carried, Event, Found, Reader, Registered, Reply, Salvaged, Step};
 use std::hint::black_box;
 
 pub struct Wrong {
@@ -79,6 +79,13 @@ pub fn all() -> Vec<Wrong> {
         wrong("dxl_device", "the bytes around the table", Calls { device: before_the_table, ..PROVED }),
         wrong("dxl_device", "the answer", Calls { device: bulk_slot_of_the_id, ..PROVED }),
         wrong("dxl_device", "the table", Calls { device: cut_entry_left_out, ..PROVED }),
+        wrong("dxl_board_feed_parts", "the answer", Calls { board_feed: state_before_held, ..PROVED }),
+        wrong("dxl_board_feed_parts", "the answer", Calls { board_feed: checksum_error_of_all, ..PROVED }),
+        wrong("dxl_board_feed_parts", "the answer", Calls { board_feed: instruction_by_the_new_id, ..PROVED }),
+        wrong("dxl_board_feed_parts", "the held bytes", Calls { board_feed: clears_further_bytes, ..PROVED }),
+        wrong("dxl_board_feed_parts", "the packet buffer", Calls { board_feed: leaves_the_stuffing, ..PROVED }),
+        wrong("dxl_board_gap_parts", "the answer", Calls { board_gap: bad_checksum_drops, ..PROVED }),
+        wrong("dxl_board_gap_parts", "the packet buffer", Calls { board_gap: clears_the_packet, ..PROVED }),
     ]
 }
 
@@ -656,4 +663,104 @@ fn keeps_the_old_index(log: &[u8], out: &mut [u8], report: &mut [u32]) -> Salvag
         out[at..at + 1_016].copy_from_slice(&log[at..at + 1_016]);
     }
     salvaged
+}
+
+type Held = [u8; 1030];
+type Packet = [u8; 1031];
+type Table = [u8; 136];
+
+/// Table and registered write are looked at before the count of held bytes.
+fn state_before_held(
+    held: &mut Held,
+    n: &mut usize,
+    chunk: &[u8],
+    packet: &mut Packet,
+    table: &mut Table,
+    write: Registered,
+) -> BoardStep {
+    let step = exports::board_feed(held, n, chunk, packet, table, write);
+    match step.kind {
+        25 if table[7] > 252 => BoardStep { kind: 22, ..step },
+        25 if write.count > 8 => BoardStep { kind: 23, ..step },
+        _ => step,
+    }
+}
+
+/// A bad checksum with 254 counts as one with the own ID.
+fn checksum_error_of_all(
+    held: &mut Held,
+    n: &mut usize,
+    chunk: &[u8],
+    packet: &mut Packet,
+    table: &mut Table,
+    write: Registered,
+) -> BoardStep {
+    let step = exports::board_feed(held, n, chunk, packet, table, write);
+    if step.kind == 2 && step.id == 254 {
+        return BoardStep { error: 3, ..step };
+    }
+    step
+}
+
+fn instruction_by_the_new_id(
+    held: &mut Held,
+    n: &mut usize,
+    chunk: &[u8],
+    packet: &mut Packet,
+    table: &mut Table,
+    write: Registered,
+) -> BoardStep {
+    let step = exports::board_feed(held, n, chunk, packet, table, write);
+    if step.id != table[7] && step.id != 254 {
+        return BoardStep { instruction: 0, ..step };
+    }
+    step
+}
+
+/// All of the record past the count becomes 0.
+fn clears_further_bytes(
+    held: &mut Held,
+    n: &mut usize,
+    chunk: &[u8],
+    packet: &mut Packet,
+    table: &mut Table,
+    write: Registered,
+) -> BoardStep {
+    let step = exports::board_feed(held, n, chunk, packet, table, write);
+    if step.kind < 3 {
+        held[*n..].fill(0);
+    }
+    step
+}
+
+fn leaves_the_stuffing(
+    held: &mut Held,
+    n: &mut usize,
+    chunk: &[u8],
+    packet: &mut Packet,
+    table: &mut Table,
+    write: Registered,
+) -> BoardStep {
+    let mut received = [0; 1031];
+    exports::feed(&mut held.clone(), &mut n.clone(), chunk, &mut received);
+    let step = exports::board_feed(held, n, chunk, packet, table, write);
+    packet[..step.count].copy_from_slice(&received[..step.count]);
+    step
+}
+
+fn bad_checksum_drops(held: &mut Held, n: &mut usize, packet: &mut Packet, table: &mut Table, write: Registered) -> BoardStep {
+    let step = exports::board_gap(held, n, packet, table, write);
+    if step.kind == 2 && step.error == 3 {
+        return BoardStep { registered: Registered::default(), ..step };
+    }
+    step
+}
+
+/// Where there is no packet.
+fn clears_the_packet(held: &mut Held, n: &mut usize, packet: &mut Packet, table: &mut Table, write: Registered) -> BoardStep {
+    let step = exports::board_gap(held, n, packet, table, write);
+    if step.kind == 0 || step.kind == 2 {
+        packet.fill(0);
+    }
+    step
 }

@@ -10,7 +10,7 @@ use Rattle.items.specs.Items.{valueOf}
 use Rattle.table_rules.specs.Rules.{goalInside}
 use Rattle.reactions.specs.Reactions.{ownId}
 use Rattle.reactions.specs.declared.Heard.the-variants.{Packet}
-use Rattle.exchange.specs.Calls.{State, DeviceCall, fresh, carry, afterAll, refusalIn}
+use Rattle.device_calls.specs.Calls.{State, DeviceCall, fresh, carry, afterAll, refusalIn}
 
 -- a Reboot that the device hears
 abbrev pub rebootOf : State → DeviceCall

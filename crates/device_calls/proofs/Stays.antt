@@ -1,5 +1,5 @@
 -- Every list of calls leaves an accepted table, and a registered write whose count is as good as the one that was lent last.
-use mathlib.Core.Path.{_≡_, refl, ap, _∙_}
+use mathlib.Core.Path.{_≡_, refl, sym, ap, _∙_}
 use mathlib.Core.Bool.{Bool}
 use mathlib.Core.List.{List, [], _∷_, List·Memᴰ, List·Memᴰ·head, List·Memᴰ·tail}
 use mathlib.Core.Option.{Option, none, some}
@@ -12,17 +12,23 @@ use Rattle.registers.specs.Registers.{tableSize}
 use Rattle.reactions.specs.Reactions.{ownId}
 use Rattle.instructions.proofs.Fit.{FitTable, fit-kept}
 use Rattle.stuffing.specs.Answers.{removalRefusal}
+use Rattle.reading.specs.Calls.{Call, call}
 use Rattle.packet.specs.Packet.{bodyOf}
+use Rattle.packet.specs.Verdict.{protocol2}
+use Rattle.reader.specs.declared.Reader.{Reader}
+use Rattle.reader.specs.Records.{heldIn}
 use Rattle.instructions.specs.Registered.{keptBy}
 use Rattle.device.specs.Answers.{stateRefusal}
 use Rattle.device.proofs.Calls.{state-accepted}
 use Rattle.device.proofs.Stays.{carry-count, call-count}
 use Rattle.instructions.specs.declared.RegisteredWrite.{RegisteredWrite}
 use Rattle.reactions.specs.declared.Heard.the-variants.{Packet}
 use Rattle.exchange.specs.Exchange.{heardOf, bodyRefusal}
-use Rattle.exchange.specs.Calls.{State, DeviceCall, fresh, measurement, device, exchange, carry, carryPacket, lend, afterCall, afterAll, refusalIn}
-use Rattle.exchange.specs.Stays.{lentBy, lastLent, StaysAccepted}
-use Rattle.exchange.proofs.Kept.{after-keeps}
+use Rattle.board.specs.Board.{boardOf, boardRefusal, outcomeUnless, outcome}
+use Rattle.board.proofs.Refusals.{accepted, any-accepted}
+use Rattle.device_calls.specs.Calls.{State, DeviceCall, fresh, measurement, device, exchange, carry, carryPacket, onBoard, lend, afterCall, afterAll, refusalIn}
+use Rattle.device_calls.specs.Stays.{lentBy, lastLent, StaysAccepted}
+use Rattle.device_calls.proofs.Kept.{after-keeps}
 
 -- ---- one call
 
@@ -30,6 +36,19 @@ use Rattle.exchange.proofs.Kept.{after-keeps}
 unless-count : (r : Option ℕ) (old new : RegisteredWrite) → leb (new .count) 8 ≡ leb (old .count) 8 → leb (keptBy r old new .count) 8 ≡ leb (old .count) 8
 unless-count none old new e = e
 unless-count (some number) old new e = refl
+
+-- of a board's call, by its refusal: a registered write with a count above 8 stays
+board-count : (reader : Reader) (table : List ℕ) (w : RegisteredWrite) (c : Call)
+    → leb (outcome (boardOf reader table w) c .board .registered .count) 8 ≡ leb (w .count) 8
+unfolding outcome
+board-count reader table w c = by (boardRefusal (boardOf reader table w)) refl
+  where
+    by : (r : Option ℕ) → boardRefusal (boardOf reader table w) ≡ r → leb (outcomeUnless r (boardOf reader table w) c .board .registered .count) 8 ≡ leb (w .count) 8
+    by none f =
+        let e = accepted (boardOf reader table w) f .state in
+        le-leb _ 8 (state-accepted _ _ (any-accepted table w e (call protocol2 (heldIn reader) c .answer)) .short)
+        ∙ sym (le-leb (w .count) 8 (state-accepted table w e .short))
+    by (some number) f = refl
 
 -- the count is as good as that of the registered write that was lent last
 after-count : (s : State) (w : RegisteredWrite) → leb (s .registered .count) 8 ≡ leb (w .count) 8 → (call : DeviceCall)
@@ -46,6 +65,7 @@ after-count s w e (carryPacket packet body) =
     unless-count (removalRefusal (bodyOf packet) body) (s .registered) _
     (carry-count (s .table) (s .registered) Packet (heardOf packet .id) (heardOf packet .body))
     ∙ e
+after-count s w e (onBoard reader c) = board-count reader (s .table) (s .registered) c ∙ e
 after-count s w e (lend new) = refl
 
 -- ---- a list of calls
@@ -73,6 +93,7 @@ last-short (call ∷ calls) w short each = last-short calls (lentBy w call) (by-
     by-call (exchange packet body out) each = short
     by-call (carry heard id body) each = short
     by-call (carryPacket packet body) each = short
+    by-call (onBoard reader c) each = short
     by-call (lend new) each = each new (List·Memᴰ·head refl)
 
 by-lent : (s : State) (calls : List DeviceCall) → refusalIn s ≡ none

@@ -12,9 +12,9 @@ use Rattle.instructions.proofs.Inside.{Inside, fresh-inside, inside-kept}
 use Rattle.reactions.specs.Reactions.{ownId, heardInstruction}
 use Rattle.device.specs.Device.{executed}
 use Rattle.device.proofs.Calls.{state-accepted}
-use Rattle.exchange.specs.Calls.{State, fresh, afterCall, refusalIn}
-use Rattle.exchange.specs.GoalWithinLimits.{rebootOf, GoalWithinLimits}
-use Rattle.exchange.proofs.Kept.{all-keep}
+use Rattle.device_calls.specs.Calls.{State, fresh, afterCall, refusalIn}
+use Rattle.device_calls.specs.GoalWithinLimits.{rebootOf, GoalWithinLimits}
+use Rattle.device_calls.proofs.Kept.{all-keep}
 
 -- a fresh call leaves the fresh table, in which it is between them
 made : (s : State) → length (s .table) ≡ tableSize → Inside (afterCall s fresh .table)

@@ -6,7 +6,7 @@ use Prim.Native.Nat.{_≤_}
 use lib.Dec.{leb}
 use Rattle.lists.specs.Answer.{firstFailing}
 use Rattle.instructions.specs.declared.RegisteredWrite.{RegisteredWrite}
-use Rattle.exchange.specs.Calls.{State, DeviceCall, fresh, measurement, device, exchange, carry, carryPacket, lend, afterAll, refusalIn}
+use Rattle.device_calls.specs.Calls.{State, DeviceCall, fresh, measurement, device, exchange, carry, carryPacket, onBoard, lend, afterAll, refusalIn}
 
 -- the registered write that the caller lent last
 abbrev pub lentBy : RegisteredWrite → DeviceCall → RegisteredWrite
@@ -16,6 +16,7 @@ lentBy w (device heard id body out) = w
 lentBy w (exchange packet body out) = w
 lentBy w (carry heard id body) = w
 lentBy w (carryPacket packet body) = w
+lentBy w (onBoard reader c) = w
 lentBy w (lend new) = new
 
 abbrev pub lastLent : RegisteredWrite → List DeviceCall → RegisteredWrite

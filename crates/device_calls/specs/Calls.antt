@@ -3,11 +3,14 @@ use mathlib.Core.List.{List, [], _∷_}
 use mathlib.Core.Option.{Option}
 use Prim.Native.Nat.{ℕ}
 use lib.IntN.{ℤ}
+use Rattle.reading.specs.Calls.{Call}
+use Rattle.reader.specs.declared.Reader.{Reader}
 use Rattle.control_table.specs.Answers.{freshOut, measureOut}
 use Rattle.device.specs.Answers.{stateRefusal, carriedTable, carriedRegistered, callTable, callRegistered}
 use Rattle.instructions.specs.declared.RegisteredWrite.{RegisteredWrite}
 use Rattle.reactions.specs.declared.Heard.{Heard}
 use Rattle.exchange.specs.Exchange.{packetTable, packetRegistered, exchangeTable, exchangeRegistered}
+use Rattle.board.specs.Board.{boardOf, outcome}
 
 pub record State : Type 0 where
   pub table : List ℕ
@@ -25,6 +28,8 @@ pub data DeviceCall : Type 0 where
   -- the first calls of the two in two
   carry : Heard → ℕ → List ℕ → DeviceCall
   carryPacket : List ℕ → List ℕ → DeviceCall
+  -- a board's call, with the reader that is lent to it
+  onBoard : Reader → Call → DeviceCall
   -- no call of ours: from here on the caller lends another registered write
   lend : RegisteredWrite → DeviceCall
 
@@ -42,6 +47,9 @@ afterCall s (carry heard id body) =
     stateOf (carriedTable (s .table) (s .registered) heard id body) (carriedRegistered (s .table) (s .registered) heard id body)
 afterCall s (carryPacket packet body) =
     stateOf (packetTable (s .table) (s .registered) packet body) (packetRegistered (s .table) (s .registered) packet body)
+afterCall s (onBoard reader c) =
+    let b = outcome (boardOf reader (s .table) (s .registered)) c .board in
+    stateOf (b .table) (b .registered)
 afterCall s (lend w) = stateOf (s .table) w
 
 abbrev pub afterAll : State → List DeviceCall → State

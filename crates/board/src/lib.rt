@@ -50,7 +50,7 @@ const MAX_HELD: usize = 1030;
 // The numbers of the refusals.
 const BAD_READER: u8 = 25;
 
-const BAD_ID: u8 = 22;
+const BAD_TABLE_ID: u8 = 22;
 
 const BAD_REGISTERED: u8 = 23;
 
@@ -69,7 +69,7 @@ fn refusal(held: usize, table: &[u8], registered: RegisteredWrite) -> u8
         return BAD_READER;
     }
     if MAX_ID < table[REG_ID] {
-        return BAD_ID;
+        return BAD_TABLE_ID;
     }
     if MAX_REGISTERED < registered.count {
         return BAD_REGISTERED;

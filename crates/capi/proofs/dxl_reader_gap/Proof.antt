@@ -220,5 +220,5 @@ dxl-reader-gap-spec 𝓤 H 𝓜 𝓖 𝓡 =
     entered 𝓤 H (tripleOf 𝓤 H (𝓖 .A) f.signature (f.spec 𝓤 H (𝓖 .A) (𝓜 .mem) (𝓡 .run)))
     (tables 𝓤 H 𝓜 𝓡 code.env .C) (tables 𝓤 H 𝓜 𝓡 code.env .Λ) #capi·dxl-reader-gap code.function (code.unfolded 𝓤 H 𝓜 𝓡)
     (gap-meets 𝓤 H (𝓖 .A) (givenOf 𝓤 H 𝓜 𝓖) (𝓜 .mem) (𝓡 .run) (tablesOf 𝓤 H 𝓜 (tables 𝓤 H 𝓜 𝓡 code.env))
-    (cited 𝓤 H (GapIn 𝓤 H (𝓖 .A) (𝓜 .mem) (𝓡 .run)) 𝓜 𝓡 code.env #framer·gap-in gap-in-def.routine code.calls-framer·gap-in (gap-in-thm.met 𝓤 H 𝓜 𝓖 𝓡))
+    (cited 𝓤 H (GapIn 𝓤 H (𝓖 .A) (𝓜 .mem) (𝓡 .run)) 𝓜 𝓡 code.env #framer·gap-in gap-in-def.routine code.calls-reader-core·gap-in (gap-in-thm.met 𝓤 H 𝓜 𝓖 𝓡))
     (cited 𝓤 H (Turned 𝓤 H (𝓖 .A) (𝓜 .mem) (𝓡 .run)) 𝓜 𝓡 code.env #numbers·step step-def.routine code.calls-numbers·step (step-thm.met 𝓤 H 𝓜 𝓖 𝓡)))

@@ -1,9 +1,9 @@
 """Holds the names for numbers in the header to the definitions, and the constants of the code to the header: usage
 check_constants.py HEADER, in the repository's root
 
-Registers, with area, access and range in their comments: crates/registers/specs/Registers.antt. Instructions and the errors 02 and
-03: crates/reactions/specs/Reactions.antt. Errors 04 to 07: crates/table_rules/specs/Outcomes.antt. The alert:
-crates/status/specs/Status.antt. A definition may write a number or the name of one that is defined elsewhere under specs/.
+Registers, with area, access and range in their comments: crates/table_registers/specs/Registers.antt. Instructions and the errors 02 and
+03: crates/device_dispatch/specs/Reactions.antt. Errors 04 to 07: crates/table_rules/specs/Outcomes.antt. The alert:
+crates/device_status/specs/Status.antt. A definition may write a number or the name of one that is defined elsewhere under specs/.
 
 A constant of the code has the header's name without DXL_, and its number, and is said once.
 """
@@ -13,10 +13,10 @@ from pathlib import Path
 
 from faults import report
 
-REGISTERS = Path("crates/registers/specs/Registers.antt")
-REACTIONS = Path("crates/reactions/specs/Reactions.antt")
+REGISTERS = Path("crates/table_registers/specs/Registers.antt")
+REACTIONS = Path("crates/device_dispatch/specs/Reactions.antt")
 OUTCOMES = Path("crates/table_rules/specs/Outcomes.antt")
-STATUS = Path("crates/status/specs/Status.antt")
+STATUS = Path("crates/device_status/specs/Status.antt")
 # Where a definition has another word than the header.
 WORDS = {"DEVICE_ID": "ID", "NO_ACCESS": "ACCESS"}
 # Names of the header for which the code may have no constant: it gives these numbers in one place, or has them as the length of an

@@ -330,7 +330,7 @@ From each rule of [RULES.md](RULES.md) to its definition, the functions that pro
 | Written | Means |
 |---|---|
 | Definition `packet_front/Front`: `goodId` | the name `goodId` in `crates/packet_front/specs/Front.antt` |
-| Promise `protocols::judge` | the contract of `judge` in `crates/protocols/src/lib.rt`. Its proof is `crates/protocols/proofs/judge/Proof.antt`, where the checker does not find one by itself |
+| Promise `packet_protocols::judge` | the contract of `judge` in `crates/packet_protocols/src/lib.rt`. Its proof is `crates/packet_protocols/proofs/judge/Proof.antt`, where the checker does not find one by itself |
 | Edit `packet_front/id_253` | `crates/packet_front/must-fail/id_253.edit`: a change that the checker has to refuse |
 | Test `verdict.rs`: `every_id` | that function in a file of this name under `tests/` |
 """

@@ -12,9 +12,9 @@ use Rattle.reading.specs.Calls.{CallResult, Call, call}
 use Rattle.reading.proofs.Held.{held-bound}
 use Rattle.packet.specs.Verdict.{protocol2}
 use Rattle.packet.proofs.Laws.{laws}
-use Rattle.framer.proofs.Spared.{call-shorter}
-use Rattle.reader.specs.declared.Reader.{Reader}
-use Rattle.reader.specs.Records.{heldIn, stepIn, leftIn, leftBy}
+use Rattle.reader_core.proofs.Spared.{call-shorter}
+use Rattle.reader_records.specs.declared.Reader.{Reader}
+use Rattle.reader_records.specs.Records.{heldIn, stepIn, leftIn, leftBy}
 use Rattle.board.specs.Board.{readerLeft}
 
 drop-zeros : (k n : ℕ) → drop {A = ℕ} k (replicate n 0) ≡ replicate (n - k) 0

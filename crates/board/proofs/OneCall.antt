@@ -17,13 +17,13 @@ use Rattle.packet_front.specs.Front.{idOf}
 use Rattle.packet.specs.Packet.{WellFormed, bodyOf}
 use Rattle.packet.specs.Verdict.{protocol2}
 use Rattle.packet.proofs.Laws.{laws}
-use Rattle.protocols.specs.declared.Protocol.the-variants.{Two}
-use Rattle.framer.specs.declared.Step.{Step}
-use Rattle.framer.specs.declared.StepEvent.{StepEvent}
-use Rattle.framer.specs.Results.{eventFor, packetBytes, stepFor, leanHeld, leanPacket, leanHeldFor, leanPacketFor}
-use Rattle.reader.specs.declared.Reader.{Reader}
-use Rattle.reader.specs.Records.{heldIn, lent}
-use Rattle.instructions.specs.declared.RegisteredWrite.{RegisteredWrite}
+use Rattle.packet_protocols.specs.declared.Protocol.the-variants.{Two}
+use Rattle.reader_core.specs.declared.Step.{Step}
+use Rattle.reader_core.specs.declared.StepEvent.{StepEvent}
+use Rattle.reader_core.specs.Results.{eventFor, packetBytes, stepFor, leanHeld, leanPacket, leanHeldFor, leanPacketFor}
+use Rattle.reader_records.specs.declared.Reader.{Reader}
+use Rattle.reader_records.specs.Records.{heldIn, lent}
+use Rattle.device_instructions.specs.declared.RegisteredWrite.{RegisteredWrite}
 use Rattle.board.specs.declared.BoardStep.{BoardStep}
 use Rattle.board.specs.Board.{Board, Outcome, readerLeft, carriedIfAny, reportOf, boardRefusal, outcomeUnless, outcome}
 use Rattle.board.specs.Numbers.{stepWith, refusedStep, stepUnless, boardStep, bufferFor, bufferUnless, bufferLeft}

@@ -13,15 +13,15 @@ use Rattle.reading.specs.Calls.{Call, call}
 use Rattle.packet_front.specs.Front.{idOf}
 use Rattle.packet.specs.Packet.{bodyOf}
 use Rattle.packet.specs.Verdict.{protocol2}
-use Rattle.reader.specs.declared.Reader.{Reader}
-use Rattle.protocols.specs.declared.Protocol.the-variants.{Two}
-use Rattle.framer.specs.Results.{leanHeld}
-use Rattle.reader.specs.Records.{heldIn}
-use Rattle.instructions.specs.declared.RegisteredWrite.{RegisteredWrite}
-use Rattle.reactions.specs.Reactions.{ownId}
-use Rattle.reactions.specs.declared.Heard.the-variants.{Packet, BadChecksum}
-use Rattle.status.specs.declared.Reply.{Reply}
-use Rattle.status.specs.Status.{silence}
+use Rattle.reader_records.specs.declared.Reader.{Reader}
+use Rattle.packet_protocols.specs.declared.Protocol.the-variants.{Two}
+use Rattle.reader_core.specs.Results.{leanHeld}
+use Rattle.reader_records.specs.Records.{heldIn}
+use Rattle.device_instructions.specs.declared.RegisteredWrite.{RegisteredWrite}
+use Rattle.device_dispatch.specs.Reactions.{ownId}
+use Rattle.device_dispatch.specs.declared.Heard.the-variants.{Packet, BadChecksum}
+use Rattle.device_status.specs.declared.Reply.{Reply}
+use Rattle.device_status.specs.Status.{silence}
 use Rattle.device.specs.Device.{Carried, carryOut}
 use Rattle.device.specs.Answers.{stateRefusal, orElse}
 use Rattle.device.specs.Demand1.{errorNumber}

@@ -10,11 +10,11 @@ use Rattle.reading.specs.Calls.{Call, call}
 use Rattle.packet_front.specs.Front.{idOf}
 use Rattle.packet.specs.Packet.{bodyOf}
 use Rattle.packet.specs.Verdict.{protocol2}
-use Rattle.protocols.specs.declared.Protocol.the-variants.{Two}
-use Rattle.framer.specs.Results.{leanPacket}
-use Rattle.reader.specs.Records.{heldIn}
-use Rattle.instructions.specs.declared.RegisteredWrite.{RegisteredWrite}
-use Rattle.status.specs.Status.{silence}
+use Rattle.packet_protocols.specs.declared.Protocol.the-variants.{Two}
+use Rattle.reader_core.specs.Results.{leanPacket}
+use Rattle.reader_records.specs.Records.{heldIn}
+use Rattle.device_instructions.specs.declared.RegisteredWrite.{RegisteredWrite}
+use Rattle.device_status.specs.Status.{silence}
 use Rattle.board.specs.Board.{Board, Report, Outcome, boardRefusal, outcome}
 use Rattle.board.specs.declared.BoardStep.{BoardStep}
 

@@ -1,15 +1,15 @@
 // From the line to the table: a call takes bytes up to the next event and carries it out at once.
-use codes::ERROR_CHECKSUM;
 use device::CarriedOut;
-use framer::Step;
-use framer::StepEvent;
-use instructions::MAX_REGISTERED;
-use instructions::RegisteredWrite;
+use device_codes::ERROR_CHECKSUM;
+use device_dispatch::Heard;
+use device_instructions::MAX_REGISTERED;
+use device_instructions::RegisteredWrite;
+use device_status::Reply;
 use packet_front::BROADCAST_ID;
 use packet_front::MAX_ID;
-use reactions::Heard;
-use registers::REG_ID;
-use status::Reply;
+use reader_core::Step;
+use reader_core::StepEvent;
+use table_registers::REG_ID;
 ghost use mathlib.Core.Path.{_≡_};
 ghost use mathlib.Core.Bool.{cond};
 ghost use mathlib.Core.Option.{none};
@@ -20,11 +20,11 @@ ghost use Rattle.lists.specs.Write.{placed};
 ghost use Rattle.stuffing.specs.Stuffing.{unstuff};
 ghost use Rattle.reading.specs.Calls.{feed as Call·feed, gap as Call·gap};
 ghost use Rattle.packet.specs.Packet.{bodyOf};
-ghost use Rattle.reader.specs.Records.{lent};
-ghost use Rattle.registers.specs.Registers.{tableSize};
-ghost use Rattle.reactions.specs.Reactions.{ownId};
-ghost use Rattle.reactions.specs.declared.Heard.the-variants.{Packet as Heard·Packet};
-ghost use Rattle.status.specs.Status.{silence as Status·silence};
+ghost use Rattle.reader_records.specs.Records.{lent};
+ghost use Rattle.table_registers.specs.Registers.{tableSize};
+ghost use Rattle.device_dispatch.specs.Reactions.{ownId};
+ghost use Rattle.device_dispatch.specs.declared.Heard.the-variants.{Packet as Heard·Packet};
+ghost use Rattle.device_status.specs.Status.{silence as Status·silence};
 ghost use Rattle.device.specs.Answers.{stateRefusal, carriedReply, carriedRegistered, carriedError, carriedTable};
 ghost use Rattle.board.specs.Board.{addressed, lentRefusal, boardOf, carriedIfAny, reportOf, outcome};
 ghost use Rattle.board.specs.Numbers.{stepWith, boardStep, bufferLeft};
@@ -118,7 +118,7 @@ fn carry_packet(
     ensures { λ _. ⌜ now (packet .exit) ≡ placed (now (packet .entry)) 7 (unstuff (bodyOf (take size (now (packet .entry))))) ⌝ }
 {
     let end = size - 2;
-    let n = unstuff_in_place::unstuff_in_place(&mut packet[7..end]);
+    let n = stuffing_in_place::unstuff_in_place(&mut packet[7..end]);
     let stop = 7 + n;
     let heard = Heard::Packet;
     device::carry_out(table, registered, heard, id, &packet[7..stop])
@@ -135,7 +135,7 @@ fn idle_step(taken: usize, kind: u8, registered: RegisteredWrite) -> BoardStep
         id: 0,
         instruction: 0,
         error: 0,
-        reply: status::silence(),
+        reply: device_status::silence(),
         registered,
     }
 }
@@ -217,7 +217,7 @@ pub fn feed(
     if number != 0 {
         return idle_step(0, number, registered);
     }
-    let step = framer::feed_lean(held, n, chunk, packet);
+    let step = reader_core::feed_lean(held, n, chunk, packet);
     *count = step.held;
     let event = step.event;
     if let StepEvent::Silent = event {
@@ -247,7 +247,7 @@ pub fn gap(
     if number != 0 {
         return idle_step(0, number, registered);
     }
-    let step = framer::gap_lean(held, n, packet);
+    let step = reader_core::gap_lean(held, n, packet);
     *count = step.held;
     let event = step.event;
     if let StepEvent::Silent = event {

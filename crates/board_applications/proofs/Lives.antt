@@ -26,21 +26,21 @@ use Rattle.packet.specs.Packet.{bodyOf, checksumRight}
 use Rattle.packet.specs.Verdict.{protocol2}
 use Rattle.packet.proofs.Laws.{laws}
 use Rattle.packet_rules.specs.Shape.{verdict as shapeVerdict}
-use Rattle.reader.specs.Records.{lent, leftIn, stepIn}
-use Rattle.registers.specs.Registers.{deviceId, goalPosition, registers, permitsBy, everyByte}
-use Rattle.items.specs.Items.{valueAt, put}
-use Rattle.control_table.specs.Fresh.{freshened, freshTable, measured}
+use Rattle.reader_records.specs.Records.{lent, leftIn, stepIn}
+use Rattle.table_registers.specs.Registers.{deviceId, goalPosition, registers, permitsBy, everyByte}
+use Rattle.table_items.specs.Items.{valueAt, put}
+use Rattle.table_access.specs.Fresh.{freshened, freshTable, measured}
 use Rattle.table_rules.specs.Rules.{everyTouched, goalInside, limitsKept, writeRule}
-use Rattle.instructions.specs.Instructions.{write}
-use Rattle.instructions.specs.declared.RegisteredWrite.{RegisteredWrite}
-use Rattle.reactions.specs.Reactions.{ownId, heardInstruction}
-use Rattle.status.specs.Status.{status}
+use Rattle.device_instructions.specs.Instructions.{write}
+use Rattle.device_instructions.specs.declared.RegisteredWrite.{RegisteredWrite}
+use Rattle.device_dispatch.specs.Reactions.{ownId, heardInstruction}
+use Rattle.device_status.specs.Status.{status}
 use Rattle.device.specs.Device.{executed}
 use Rattle.device.specs.Answers.{stateRefusal}
 use Rattle.board.specs.Board.{Board, readerLeft, lentRefusal, boardRefusal, outcome}
-use Rattle.in_step.specs.InStep.{Shown, hearing, boards, repliesOf, shownAfter, idOfEvent, NoneFor, NoPacketFor, CaughtUp, NotBehind, InStep}
-use Rattle.in_step.specs.Measured.{hears, measures, eventsIn, doing, takenIn, jobsOf, InStepMeasured}
-use Rattle.in_step.proofs.Proved.{parts}
+use Rattle.board_in_step.specs.InStep.{Shown, hearing, boards, repliesOf, shownAfter, idOfEvent, NoneFor, NoPacketFor, CaughtUp, NotBehind, InStep}
+use Rattle.board_in_step.specs.Measured.{hears, measures, eventsIn, doing, takenIn, jobsOf, InStepMeasured}
+use Rattle.board_in_step.proofs.Proved.{parts}
 use Rattle.reader_applications.specs.Demand3.{earlier, badPing, pingTo1, longFront, followed}
 use Rattle.board_applications.specs.Lives.{writeGoal, badPingTo2, rest, longest, fresh, begun, chunks, answers, found, Noisy, ForAnother, pingTo2, writeId, pingTo9, filled, pieces, cleanPieces, Renamed, holding, ByFeed, AsReader, Lives, InStepApplied, steps, Measuring, InStepMeasuredApplied}
 

@@ -11,16 +11,16 @@ use Rattle.reading.specs.Calls.{Call, feed, gap}
 use Rattle.reading.specs.Lists.{model, after, took, given}
 use Rattle.reading.specs.Promise.{since, givenAt}
 use Rattle.packet.specs.Verdict.{protocol2}
-use Rattle.reader.specs.Records.{lent, leftBy}
-use Rattle.registers.specs.Registers.{deviceId, goalPosition}
-use Rattle.items.specs.Items.{put}
-use Rattle.control_table.specs.Fresh.{freshTable, measured}
-use Rattle.instructions.specs.declared.RegisteredWrite.{RegisteredWrite}
-use Rattle.status.specs.declared.Reply.{Reply}
-use Rattle.status.specs.Status.{status}
+use Rattle.reader_records.specs.Records.{lent, leftBy}
+use Rattle.table_registers.specs.Registers.{deviceId, goalPosition}
+use Rattle.table_items.specs.Items.{put}
+use Rattle.table_access.specs.Fresh.{freshTable, measured}
+use Rattle.device_instructions.specs.declared.RegisteredWrite.{RegisteredWrite}
+use Rattle.device_status.specs.declared.Reply.{Reply}
+use Rattle.device_status.specs.Status.{status}
 use Rattle.board.specs.Board.{Board, boardOf, boardRefusal, outcome}
-use Rattle.in_step.specs.InStep.{boards, repliesOf, hearing, shownAfter, InStep}
-use Rattle.in_step.specs.Measured.{LoopStep, line, measured as LoopStep·measured, hears, measures, eventsIn, boardAfter, repliesIn, jobsOf, InStepMeasured}
+use Rattle.board_in_step.specs.InStep.{boards, repliesOf, hearing, shownAfter, InStep}
+use Rattle.board_in_step.specs.Measured.{LoopStep, line, measured as LoopStep·measured, hears, measures, eventsIn, boardAfter, repliesIn, jobsOf, InStepMeasured}
 use Rattle.reader_applications.specs.Demand3.{earlier, badPing, pingTo1, longFront, cut, followed}
 
 -- Write of 512 at 116, and a Ping to 2 with a wrong checksum

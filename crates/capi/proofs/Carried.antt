@@ -1,7 +1,7 @@
 -- What a first call returns, by its three parts.
 use mathlib.Core.Path.{_≡_, refl, ap, ap₂, _∙_}
-use Rattle.instructions.specs.declared.RegisteredWrite.{RegisteredWrite}
-use Rattle.status.specs.declared.Reply.{Reply}
+use Rattle.device_instructions.specs.declared.RegisteredWrite.{RegisteredWrite}
+use Rattle.device_status.specs.declared.Reply.{Reply}
 use Rattle.device.specs.Answers.{DeviceAnswer, sent, refused}
 use Rattle.numbers.specs.declared.DeviceNumbers.{DeviceNumbers}
 use Rattle.numbers.specs.Exported.{deviceNumbers, carriedNumbers}

@@ -25,12 +25,12 @@ use denote.Triple.Entry.{onEntry}
 use denote.Triple.Spec.{tripleOf}
 use borrow.Struct.Lend.{kept-record-as, record-apart-as, record-fill-as}
 use borrow.Struct.Items.{list-same}
-use Rattle.reader.specs.declared.Reader.{Reader}
-use Rattle.framer.specs.declared.Step.{Step}
-use Rattle.reader.proofs.Reader as T
-use Rattle.reader.proofs.Reader.Laws as T′
-use Rattle.framer.proofs.Step as R
-use Rattle.framer.proofs.Step.Laws as R′
+use Rattle.reader_records.specs.declared.Reader.{Reader}
+use Rattle.reader_core.specs.declared.Step.{Step}
+use Rattle.reader_records.proofs.Reader as T
+use Rattle.reader_records.proofs.Reader.Laws as T′
+use Rattle.reader_core.proofs.Step as R
+use Rattle.reader_core.proofs.Step.Laws as R′
 use Rattle.numbers.specs.declared.StepNumbers.{StepNumbers}
 use Rattle.numbers.proofs.StepNumbers as N
 use Rattle.numbers.proofs.StepNumbers.Laws as N′

@@ -2,8 +2,8 @@
 use mathlib.Core.Bool.{cond, _||_}
 use Prim.Native.Nat.{ℕ}
 use lib.Dec.{eqb}
-use Rattle.reactions.specs.declared.Heard.{Heard}
-use Rattle.reactions.specs.declared.Heard.the-variants.{Packet, BadChecksum}
+use Rattle.device_dispatch.specs.declared.Heard.{Heard}
+use Rattle.device_dispatch.specs.declared.Heard.the-variants.{Packet, BadChecksum}
 
 -- 1 is a packet, and a bad checksum has no body
 abbrev pub heardBy : ℕ → Heard

@@ -1,15 +1,15 @@
 // The functions that C calls. Each passes its arguments on to a crate beneath and makes that crate's promise in numbers and byte
 // slices; include/mednukals.h declares and documents them. A `&[u8]` is a pointer and a length in C.
-use instructions::RegisteredWrite;
+use device_dispatch::Heard;
+use device_instructions::RegisteredWrite;
+use device_status::Reply;
 use numbers::CarriedNumbers;
 use numbers::DeviceNumbers;
 use numbers::EventNumbers;
 use numbers::FoundNumbers;
 use numbers::SalvagedNumbers;
 use numbers::StepNumbers;
-use reactions::Heard;
-use reader::Reader;
-use status::Reply;
+use reader_records::Reader;
 ghost use mathlib.Core.Path.{_≡_};
 ghost use mathlib.Core.List.{_∷_};
 ghost use mathlib.Core.Option.{none};
@@ -17,34 +17,34 @@ ghost use Rattle.crc.specs.Crc.{crcFrom};
 ghost use Rattle.crc.specs.Laws.{SumLaws};
 ghost use Rattle.crc.specs.Flips.{flippedSum, Flipped};
 ghost use Rattle.stuffing.specs.Answers.{removalAnswer, removalOut};
-ghost use Rattle.encoder.specs.Encoding.{encodeAnswer, encodeOut};
-ghost use Rattle.encoder.specs.RoundTrip.{RoundTrip};
+ghost use Rattle.packet_encoder.specs.Encoding.{encodeAnswer, encodeOut};
+ghost use Rattle.packet_encoder.specs.RoundTrip.{RoundTrip};
 ghost use Rattle.table_rules.specs.Outcomes.{inTable};
 ghost use Rattle.table_rules.specs.Fence.{Fence};
-ghost use Rattle.control_table.specs.Answers.{freshOut, measureOut};
+ghost use Rattle.table_access.specs.Answers.{freshOut, measureOut};
 ghost use Rattle.reading.specs.Calls.{feed as Call·feed, gap as Call·gap};
 ghost use Rattle.packet.specs.Burst.{BurstDetected};
-ghost use Rattle.reader.specs.Records.{stepOn, leftBy, lent, packetOn, records, EveryProtocol};
-ghost use Rattle.plain_reader.specs.Next.{nextEvent};
-ghost use Rattle.plain_reader.specs.Plain.{PlainPromises};
+ghost use Rattle.reader_records.specs.Records.{stepOn, leftBy, lent, packetOn, records, EveryProtocol};
+ghost use Rattle.reader_plain.specs.Next.{nextEvent};
+ghost use Rattle.reader_plain.specs.Plain.{PlainPromises};
 ghost use Rattle.log_writer.specs.Writing.{writeAnswer, writeOut, WritesSound};
 ghost use Rattle.log.specs.Soundness.{checkRefusal, SoundExactly};
 ghost use Rattle.log.specs.Question.{question, LogPromises};
 ghost use Rattle.log_salvage.specs.Salvage.{salvageAnswer, salvageOut, salvageReport, Salvage};
 ghost use Rattle.log_cases.specs.Cases.{SalvageCases};
-ghost use Rattle.status.specs.Sending.{statusAnswer, statusOut};
-ghost use Rattle.status.specs.Sent.{ReplyWritten};
+ghost use Rattle.device_status.specs.Sending.{statusAnswer, statusOut};
+ghost use Rattle.device_status.specs.Sent.{ReplyWritten};
 ghost use Rattle.device.specs.Answers.{carriedAnswer, carriedReply, carriedRegistered, carriedTable, callAnswer, callRegistered, callTable, callOut};
 ghost use Rattle.device.specs.Split.{Split};
 ghost use Rattle.device.specs.Promises.{DevicePromises};
-ghost use Rattle.exchange.specs.Exchange.{packetAnswer, packetReply, packetRegistered, packetTable, packetBody, exchangeAnswer, exchangeRegistered, exchangeTable, exchangeBody, exchangeOut};
+ghost use Rattle.device_packet.specs.Exchange.{packetAnswer, packetReply, packetRegistered, packetTable, packetBody, exchangeAnswer, exchangeRegistered, exchangeTable, exchangeBody, exchangeOut};
 ghost use Rattle.device_calls.specs.Calls.{stateOf, afterCall};
 ghost use Rattle.device_calls.specs.Calls.{fresh as Call·fresh, measurement as Call·measurement, device as Call·device, exchange as Call·exchange};
 ghost use Rattle.device_calls.specs.Calls.{carry as Call·carry, carryPacket as Call·carryPacket};
-ghost use Rattle.instructions.specs.declared.RegisteredWrite.{RegisteredWrite as Ghost·RegisteredWrite};
+ghost use Rattle.device_instructions.specs.declared.RegisteredWrite.{RegisteredWrite as Ghost·RegisteredWrite};
 ghost use Rattle.device_calls.specs.Stays.{StaysAccepted};
 ghost use Rattle.device_calls.specs.GoalWithinLimits.{GoalWithinLimits};
-ghost use Rattle.exchange.specs.Promises.{ExchangePromises};
+ghost use Rattle.device_packet.specs.Promises.{ExchangePromises};
 ghost use Rattle.plan.specs.Planner.{planAnswer, planOut};
 ghost use Rattle.plan_laws.specs.Planned.{Planned};
 ghost use Rattle.plan_heard.specs.PlanCarriedOut.{PlanCarriedOut};
@@ -85,7 +85,7 @@ pub extern "C" fn dxl_encode(
     ensures { λ _. ⌜ now (out .exit) ≡ encodeOut id (instruction ∷ now (params .entry)) (now (out .entry)) at ⌝ }
     ensures { λ _. ⌜ RoundTrip ⌝ }
 {
-    numbers::encoded(encoder::encode(id, instruction, params, out, at))
+    numbers::encoded(packet_encoder::encode(id, instruction, params, out, at))
 }
 
 // Removal of stuffing: the count of the unstuffed bytes, or minus a refusal number. [G5 N3 N4 S8-S11]
@@ -106,7 +106,7 @@ pub extern "C" fn dxl_fresh(table: &mut [u8]) -> i64
     ensures { λ _. ⌜ ((w : Ghost·RegisteredWrite) → stateOf (now (table .exit)) w ≡ afterCall (stateOf (now (table .entry)) w) Call·fresh) ⌝ }
     ensures { λ _. ⌜ StaysAccepted × GoalWithinLimits ⌝ }
 {
-    numbers::change(control_table::fresh(table))
+    numbers::change(table_access::fresh(table))
 }
 
 // Present position and hardware error: 0, or minus 21. [D42 G5 N5 N13 T5 T20]
@@ -117,7 +117,7 @@ pub extern "C" fn dxl_measure(table: &mut [u8], position: i32, hardware_error: u
     ensures { λ _. ⌜ ((w : Ghost·RegisteredWrite) → stateOf (now (table .exit)) w ≡ afterCall (stateOf (now (table .entry)) w) (Call·measurement position «hardware_error»)) ⌝ }
     ensures { λ _. ⌜ StaysAccepted × GoalWithinLimits ⌝ }
 {
-    numbers::change(control_table::measure(table, position, hardware_error))
+    numbers::change(table_access::measure(table, position, hardware_error))
 }
 
 // A feeding call on a reader's record in parts, the held bytes and their count. It promises demand 3, and that a packet in which
@@ -137,7 +137,7 @@ pub extern "C" fn dxl_feed(
     ensures { λ _. ⌜ BurstDetected ⌝ }
 {
     let n = *count;
-    let step = framer::feed_in(held, n, chunk, packet);
+    let step = reader_core::feed_in(held, n, chunk, packet);
     *count = step.held;
     numbers::step(step)
 }
@@ -155,7 +155,7 @@ pub extern "C" fn dxl_gap(
     ensures { λ _. ⌜ EveryProtocol ⌝ }
 {
     let n = *count;
-    let step = framer::gap_in(held, n, packet);
+    let step = reader_core::gap_in(held, n, packet);
     *count = step.held;
     numbers::step(step)
 }
@@ -173,7 +173,7 @@ pub extern "C" fn dxl_reader_feed<'r, 'c, 'p>(
         × EveryProtocol ⌝ }
 {
     let n = reader.count;
-    let step = framer::feed_in(&mut reader.bytes, n, chunk, packet);
+    let step = reader_core::feed_in(&mut reader.bytes, n, chunk, packet);
     reader.count = step.held;
     numbers::step(step)
 }
@@ -190,7 +190,7 @@ pub extern "C" fn dxl_reader_gap<'r, 'p>(
         × EveryProtocol ⌝ }
 {
     let n = reader.count;
-    let step = framer::gap_in(&mut reader.bytes, n, packet);
+    let step = reader_core::gap_in(&mut reader.bytes, n, packet);
     reader.count = step.held;
     numbers::step(step)
 }
@@ -203,7 +203,7 @@ pub extern "C" fn dxl_next_event(segment: &[u8], from: usize) -> EventNumbers
     ensures { λ _. ⌜ PlainPromises records ⌝ }
     ensures { λ _. ⌜ BurstDetected ⌝ }
 {
-    numbers::next(plain_reader::next_event(segment, from))
+    numbers::next(reader_plain::next_event(segment, from))
 }
 
 // The writer of a log: its byte count, or minus a refusal number. That what is written is sound is promised too.
@@ -321,7 +321,7 @@ pub extern "C" fn dxl_exchange(
     ensures { λ r. ⌜ stateOf (now (table .exit)) (r .registered)
         ≡ afterCall (stateOf (now (table .entry)) registered) (Call·exchange (now (packet .entry)) (now (body .entry)) (now (reply .entry))) ⌝ }
 {
-    numbers::answered(exchange::answer(table, registered, packet, body, reply))
+    numbers::answered(device_packet::answer(table, registered, packet, body, reply))
 }
 
 // The first of two calls: what was heard is carried out, and its reply waits for its slot. Kinds as of `dxl_device`, whose theorems
@@ -365,7 +365,7 @@ pub extern "C" fn dxl_carry_out_packet(
     ensures { λ r. ⌜ stateOf (now (table .exit)) (r .registered)
         ≡ afterCall (stateOf (now (table .entry)) registered) (Call·carryPacket (now (packet .entry)) (now (body .entry))) ⌝ }
 {
-    numbers::carried_packet(exchange::carry_out(table, registered, packet, body))
+    numbers::carried_packet(device_packet::carry_out(table, registered, packet, body))
 }
 
 // The second: the status of a reply that has waited. Any reply is accepted but for its refusals. [D52-D54 G5 N1 N2 N8 N10-N12 N14]
@@ -375,7 +375,7 @@ pub extern "C" fn dxl_status(reply: Reply, out: &mut [u8]) -> i64
     ensures { λ _. ⌜ now (out .exit) ≡ statusOut reply (now (out .entry)) ⌝ }
     ensures { λ _. ⌜ Split × ReplyWritten ⌝ }
 {
-    numbers::written(status::send(reply, out))
+    numbers::written(device_status::send(reply, out))
 }
 
 // The planner: the plan's byte count, or minus a refusal number. That its plans are accepted, that no accepted plan has fewer

@@ -1,8 +1,8 @@
 // Exports that only the comparison tests and the benchmark call: parts that firmware does not need by themselves.
 use numbers::StepNumbers;
+use packet_protocols::Protocol;
 use packet_rules::Judgement;
-use protocols::Protocol;
-use reader::Reader;
+use reader_records::Reader;
 use stuffing::Checked;
 ghost use mathlib.Core.Path.{_≡_};
 ghost use mathlib.Core.List.{_∷_};
@@ -20,8 +20,8 @@ ghost use Rattle.packet.specs.Verdict.{shape, protocol2};
 ghost use Rattle.packet_v1.specs.Packet.{lastOfP1, lastOfMercury};
 ghost use Rattle.packet_v1.specs.Verdict.{protocol1, mercury};
 ghost use Rattle.packet_v1.specs.Kept.{RulesKept};
-ghost use Rattle.protocols.specs.Protocols.{rulesOf};
-ghost use Rattle.reader.specs.Records.{stepOn, leftBy, lent, packetOn, EveryProtocol};
+ghost use Rattle.packet_protocols.specs.Protocols.{rulesOf};
+ghost use Rattle.reader_records.specs.Records.{stepOn, leftBy, lent, packetOn, EveryProtocol};
 ghost use Rattle.numbers.specs.Exported.{stepNumbers};
 ghost use Rattle.capi_test.specs.Numbers.{testNumber, verdictNumbers};
 
@@ -74,7 +74,7 @@ pub extern "C" fn dxl_test_stuff(first: u8, rest: &[u8], out: &mut [u8]) -> usiz
 fn verdict_of(protocol: Protocol, segment: &[u8], offset: usize) -> VerdictNumbers
     ensures { λ r. ⌜ r ≡ verdictNumbers (answerBy (rulesOf protocol) (drop offset (now (segment .entry)))) ⌝ }
 {
-    match protocols::judge(protocol, segment, offset) {
+    match packet_protocols::judge(protocol, segment, offset) {
         Judgement::Nothing => VerdictNumbers {
             kind: 0,
             id: 0,
@@ -141,7 +141,7 @@ pub extern "C" fn dxl_test_feed_value(held: &[u8; 1030], count: usize, chunk: &[
     ensures { λ _. ⌜ EveryProtocol ⌝ }
 {
     let bytes = *held;
-    let fed = reader::feed(Reader { bytes, count }, chunk);
+    let fed = reader_records::feed(Reader { bytes, count }, chunk);
     let step = fed.step;
     let packet = fed.packet;
     let reader = fed.reader;

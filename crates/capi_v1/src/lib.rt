@@ -5,10 +5,10 @@ ghost use mathlib.Core.Path.{_≡_};
 ghost use mathlib.Core.List.{_∷_};
 ghost use Rattle.reading.specs.Calls.{feed as Call·feed, gap as Call·gap};
 ghost use Rattle.packet_v1.specs.Packet.{upTo, lastOfP1, lastOfMercury};
-ghost use Rattle.encoder_v1.specs.Encoding.{encodeAnswer, encodeOut};
-ghost use Rattle.encoder_v1.specs.RoundTrip.{RoundTrip};
-ghost use Rattle.protocols.specs.declared.Protocol.the-variants.{One, Mercury};
-ghost use Rattle.reader.specs.Records.{lent, stepIn, leftIn, packetIn, EveryProtocol};
+ghost use Rattle.packet_encoder_v1.specs.Encoding.{encodeAnswer, encodeOut};
+ghost use Rattle.packet_encoder_v1.specs.RoundTrip.{RoundTrip};
+ghost use Rattle.packet_protocols.specs.declared.Protocol.the-variants.{One, Mercury};
+ghost use Rattle.reader_records.specs.Records.{lent, stepIn, leftIn, packetIn, EveryProtocol};
 ghost use Rattle.numbers.specs.Exported.{exported, stepNumbers};
 
 // The encoder of Protocol 1.0: the packet's byte count, or minus a refusal number. [G5 N1 N2 N4 O9-O11]
@@ -24,7 +24,14 @@ pub extern "C" fn dxl_p1_encode(
     ensures { λ _. ⌜ now (out .exit) ≡ encodeOut (upTo lastOfP1) id (instruction ∷ now (params .entry)) (now (out .entry)) at ⌝ }
     ensures { λ _. ⌜ RoundTrip (upTo lastOfP1) ⌝ }
 {
-    numbers::encoded(encoder_v1::encode(packet_v1::LAST_OF_P1, id, instruction, params, out, at))
+    numbers::encoded(packet_encoder_v1::encode(
+        packet_v1::LAST_OF_P1,
+        id,
+        instruction,
+        params,
+        out,
+        at,
+    ))
 }
 
 // The encoder of Mercury, likewise. [G5 N1 N2 N4 O9-O11]
@@ -40,7 +47,7 @@ pub extern "C" fn dxl_mercury_encode(
     ensures { λ _. ⌜ now (out .exit) ≡ encodeOut (upTo lastOfMercury) id (instruction ∷ now (params .entry)) (now (out .entry)) at ⌝ }
     ensures { λ _. ⌜ RoundTrip (upTo lastOfMercury) ⌝ }
 {
-    numbers::encoded(encoder_v1::encode(
+    numbers::encoded(packet_encoder_v1::encode(
         packet_v1::LAST_OF_MERCURY,
         id,
         instruction,
@@ -64,7 +71,7 @@ pub extern "C" fn dxl_p1_feed(
     ensures { λ _. ⌜ EveryProtocol ⌝ }
 {
     let n = *count;
-    let step = framer::feed_p1(held, n, chunk, packet);
+    let step = reader_core::feed_p1(held, n, chunk, packet);
     *count = step.held;
     numbers::step(step)
 }
@@ -82,7 +89,7 @@ pub extern "C" fn dxl_p1_gap(
     ensures { λ _. ⌜ EveryProtocol ⌝ }
 {
     let n = *count;
-    let step = framer::gap_p1(held, n, packet);
+    let step = reader_core::gap_p1(held, n, packet);
     *count = step.held;
     numbers::step(step)
 }
@@ -101,7 +108,7 @@ pub extern "C" fn dxl_mercury_feed(
     ensures { λ _. ⌜ EveryProtocol ⌝ }
 {
     let n = *count;
-    let step = framer::feed_mercury(held, n, chunk, packet);
+    let step = reader_core::feed_mercury(held, n, chunk, packet);
     *count = step.held;
     numbers::step(step)
 }
@@ -119,7 +126,7 @@ pub extern "C" fn dxl_mercury_gap(
     ensures { λ _. ⌜ EveryProtocol ⌝ }
 {
     let n = *count;
-    let step = framer::gap_mercury(held, n, packet);
+    let step = reader_core::gap_mercury(held, n, packet);
     *count = step.held;
     numbers::step(step)
 }

@@ -26,33 +26,33 @@ use Rattle.packet.specs.Packet.{bodyOf, checksumRight, WellFormed}
 use Rattle.packet_front.specs.Begun.{frontAgrees, lengthAgrees}
 use Rattle.packet.specs.Verdict.{verdict, protocol2}
 use Rattle.packet.proofs.Laws.{laws}
-use Rattle.encoder.specs.Writing.{withChecksum, packetOf}
+use Rattle.packet_encoder.specs.Writing.{withChecksum, packetOf}
 use Rattle.packet_rules.specs.Shape.{verdict as shapeVerdict}
 use Rattle.packet_v1.specs.Packet.{sum, checksumRight as sumRight}
 use Rattle.packet_v1.specs.Verdict.{protocol1, mercury, frontAgrees as frontAgreesV1, lengthAgrees as lengthAgreesV1}
-use Rattle.encoder_v1.specs.Writing.{packetOf as packetV1Of}
+use Rattle.packet_encoder_v1.specs.Writing.{packetOf as packetV1Of}
 use Rattle.log_index.specs.Last.{lastPacket, lastFrom, indexFrom}
 use Rattle.log_layout.specs.Log.{laid, directory, logOf}
-use Rattle.registers.specs.Registers.{registers, permitsBy}
+use Rattle.table_registers.specs.Registers.{registers, permitsBy}
 use Rattle.lists.specs.Numbers.{numberAt, bytesOf}
-use Rattle.items.specs.Items.{same as sameNumber, valueAt, put}
-use Rattle.items.proofs.Same.{same-equal}
-use Rattle.control_table.specs.Fresh.{freshened}
-use Rattle.registers.specs.Registers.{everyByte}
+use Rattle.table_items.specs.Items.{same as sameNumber, valueAt, put}
+use Rattle.table_items.proofs.Same.{same-equal}
+use Rattle.table_access.specs.Fresh.{freshened}
+use Rattle.table_registers.specs.Registers.{everyByte}
 use Rattle.table_rules.specs.Rules.{everyTouched, goalInside, limitsKept, writeRule, readRule}
-use Rattle.resets.specs.Resets.{rebooted, resetRom}
-use Rattle.instructions.specs.Instructions.{read, write, regWrite, action, factoryReset}
-use Rattle.instructions.specs.Registered.{sameLimits}
-use Rattle.parameters.specs.Entries.{occurs, searchFrom}
-use Rattle.reactions.specs.Reactions.{heardInstruction}
+use Rattle.table_resets.specs.Resets.{rebooted, resetRom}
+use Rattle.device_instructions.specs.Instructions.{read, write, regWrite, action, factoryReset}
+use Rattle.device_instructions.specs.Registered.{sameLimits}
+use Rattle.device_parameters.specs.Entries.{occurs, searchFrom}
+use Rattle.device_dispatch.specs.Reactions.{heardInstruction}
 use Rattle.device.specs.Device.{executed}
 use Rattle.device.specs.Answers.{DeviceAnswer, sent, refused, stateRefusal, roomRefusal, callRefusal, callAnswer, callTable, callRegistered, callOut}
-use Rattle.reactions.specs.declared.Heard.the-variants.{Packet, BadChecksum}
-use Rattle.exchange.specs.Exchange.{idHeard, heardOf}
+use Rattle.device_dispatch.specs.declared.Heard.the-variants.{Packet, BadChecksum}
+use Rattle.device_packet.specs.Exchange.{idHeard, heardOf}
 use Rattle.device.specs.Demand1.{errorNumber}
 use Rattle.plan.specs.Goals.{goalsWithin, goalsRefusal}
 use Rattle.plan.specs.Planner.{entriesFrom, listBytes, packetsFrom, planOf}
-use Rattle.instructions.specs.declared.RegisteredWrite.{RegisteredWrite}
+use Rattle.device_instructions.specs.declared.RegisteredWrite.{RegisteredWrite}
 use Rattle.cases.specs.Exchanges.{Lent, answerTo, leftAfter, goalRegistered}
 use Rattle.cases.specs.Cases.{Case, packet, stuffing, exchange, refusal, badChecksum, log, plan, apart, across, packetV1, onlyP1, Claim, table, CasesHold}
 

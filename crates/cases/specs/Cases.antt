@@ -11,18 +11,18 @@ use Rattle.reading.specs.Promise.{joined, NoneAcross}
 use Rattle.stuffing.specs.Stuffing.{stuff, wellStuffed, unstuff}
 use Rattle.packet.specs.Packet.{WellFormed}
 use Rattle.packet.specs.Verdict.{verdict, protocol2}
-use Rattle.encoder.specs.Writing.{packetOf}
+use Rattle.packet_encoder.specs.Writing.{packetOf}
 use Rattle.packet_v1.specs.Verdict.{protocol1, mercury}
-use Rattle.encoder_v1.specs.Writing.{packetOf as packetV1Of}
+use Rattle.packet_encoder_v1.specs.Writing.{packetOf as packetV1Of}
 use Rattle.log_layout.specs.Log.{laid, logOf}
-use Rattle.registers.specs.Registers.{baudCode, maxPosition, minPosition, torqueEnable, lamp, goalPosition}
-use Rattle.items.specs.Items.{put}
-use Rattle.control_table.specs.Fresh.{freshTable}
-use Rattle.instructions.specs.Registered.{dropped}
-use Rattle.reactions.specs.declared.Heard.the-variants.{Packet, BadChecksum}
+use Rattle.table_registers.specs.Registers.{baudCode, maxPosition, minPosition, torqueEnable, lamp, goalPosition}
+use Rattle.table_items.specs.Items.{put}
+use Rattle.table_access.specs.Fresh.{freshTable}
+use Rattle.device_instructions.specs.Registered.{dropped}
+use Rattle.device_dispatch.specs.declared.Heard.the-variants.{Packet, BadChecksum}
 use Rattle.device.specs.Answers.{DeviceAnswer, sent, refused, callAnswer, callTable, callRegistered, callOut}
 use Rattle.device.specs.Demand1.{errorNumber}
-use Rattle.exchange.specs.Exchange.{heardOf}
+use Rattle.device_packet.specs.Exchange.{heardOf}
 use Rattle.plan.specs.Goals.{goalsRefusal}
 use Rattle.plan.specs.Planner.{planOf}
 use Rattle.plan.specs.Samples.{twoGoals, planOfTwo}

@@ -3,12 +3,12 @@ use mathlib.Core.List.{List, [], _∷_, _++_}
 use Prim.Native.Nat.{ℕ, _-_}
 use lib.IntN.{pos}
 use lib.ListN.{length, replicate}
-use Rattle.registers.specs.Registers.{deviceId, baudCode, torqueEnable, statusReturnLevel, hardwareError, maxPosition, minPosition, goalPosition, registeredInstruction}
-use Rattle.items.specs.Items.{put}
-use Rattle.control_table.specs.Fresh.{freshTable, measured}
+use Rattle.table_registers.specs.Registers.{deviceId, baudCode, torqueEnable, statusReturnLevel, hardwareError, maxPosition, minPosition, goalPosition, registeredInstruction}
+use Rattle.table_items.specs.Items.{put}
+use Rattle.table_access.specs.Fresh.{freshTable, measured}
 use Rattle.device.specs.Answers.{DeviceAnswer}
-use Rattle.exchange.specs.Exchange.{exchangeAnswer, exchangeTable, exchangeRegistered, exchangeBody, exchangeOut}
-use Rattle.instructions.specs.declared.RegisteredWrite.{RegisteredWrite}
+use Rattle.device_packet.specs.Exchange.{exchangeAnswer, exchangeTable, exchangeRegistered, exchangeBody, exchangeOut}
+use Rattle.device_instructions.specs.declared.RegisteredWrite.{RegisteredWrite}
 
 -- control table, registered write, body buffer and reply buffer
 pub record Lent : Type 0 where

@@ -8,20 +8,20 @@ use lib.Dec.{eqb}
 use lib.ListN.{length}
 use borrow.Author.Tests.{eqb-false}
 use Rattle.lists.proofs.Bools.{and-left, and-right}
-use Rattle.registers.specs.Registers.{tableSize}
-use Rattle.instructions.specs.Registered.{LimitsOf}
-use Rattle.instructions.specs.Instructions.{Effect, action}
-use Rattle.instructions.proofs.Acting.{limits-of, not-limits, not-acted, acts-on-same}
-use Rattle.reactions.specs.Reactions.{ownId, reacting, unchanged, silent, reaction}
-use Rattle.reaction_laws.specs.Refused.{isAction, actsOn}
-use Rattle.reaction_laws.proofs.Theorems.{acting}
+use Rattle.table_registers.specs.Registers.{tableSize}
+use Rattle.device_instructions.specs.Registered.{LimitsOf}
+use Rattle.device_instructions.specs.Instructions.{Effect, action}
+use Rattle.device_instructions.proofs.Acting.{limits-of, not-limits, not-acted, acts-on-same}
+use Rattle.device_dispatch.specs.Reactions.{ownId, reacting, unchanged, silent, reaction}
+use Rattle.device_laws.specs.Refused.{isAction, actsOn}
+use Rattle.device_laws.proofs.Theorems.{acting}
 use Rattle.device.specs.Device.{executed}
 use Rattle.device.specs.Answers.{sent, callRefusal, callAnswer}
 use Rattle.device.specs.ActionLimits.{actsHere, DroppedByLimits, ActionNeedsSameLimits}
 use Rattle.device.proofs.Calls.{accepted}
 use Rattle.device.proofs.Demand1.{sent-by}
-use Rattle.instructions.specs.declared.RegisteredWrite.{RegisteredWrite}
-use Rattle.reactions.specs.declared.Heard.{Heard}
+use Rattle.device_instructions.specs.declared.RegisteredWrite.{RegisteredWrite}
+use Rattle.device_dispatch.specs.declared.Heard.{Heard}
 
 module _ (table : List ℕ) (w : RegisteredWrite) (heard : Heard) (id : ℕ) (body : List ℕ) (here : actsHere table w heard id body ≡ true) where
   addressed : eqb id (ownId table) || eqb id 254 ≡ true

@@ -9,21 +9,21 @@ use lib.Dec.{eqb, leb}
 use lib.ListN.{length, take, drop, getD, length-append, length-take}
 use borrow.Author.Tests.{eq-eqb}
 use Rattle.lists.specs.Answer.{unlessRefused}
-use Rattle.registers.specs.Registers.{tableSize}
+use Rattle.table_registers.specs.Registers.{tableSize}
 use Rattle.table_rules.specs.Rules.{readRule}
-use Rattle.control_table.proofs.Theorems.{read-short}
-use Rattle.instructions.proofs.Options.{each-option, each-action}
-use Rattle.instructions.proofs.Errors.{read-number, write-number}
-use Rattle.reaction_laws.proofs.Every.{every}
-use Rattle.reaction_laws.proofs.Slots.{Early, reaction-early}
+use Rattle.table_access.proofs.Theorems.{read-short}
+use Rattle.device_instructions.proofs.Options.{each-option, each-action}
+use Rattle.device_instructions.proofs.Errors.{read-number, write-number}
+use Rattle.device_laws.proofs.Every.{every}
+use Rattle.device_laws.proofs.Slots.{Early, reaction-early}
 use Rattle.device.proofs.Replies.{to-whomever}
-use Rattle.instructions.specs.Instructions.{Effect, ping, read, write, regWrite, action}
-use Rattle.reactions.specs.Reactions.{ReplyRule, silent, speaks, ownId, Reaction, reaction}
+use Rattle.device_instructions.specs.Instructions.{Effect, ping, read, write, regWrite, action}
+use Rattle.device_dispatch.specs.Reactions.{ReplyRule, silent, speaks, ownId, Reaction, reaction}
 use Rattle.device.specs.Device.{hardwareErrorIn, replyBy, executed, carryOut}
-use Rattle.status.specs.Status.{silence}
-use Rattle.instructions.specs.declared.RegisteredWrite.{RegisteredWrite}
-use Rattle.status.specs.declared.Reply.{Reply}
-use Rattle.reactions.specs.declared.Heard.{Heard}
+use Rattle.device_status.specs.Status.{silence}
+use Rattle.device_instructions.specs.declared.RegisteredWrite.{RegisteredWrite}
+use Rattle.device_status.specs.declared.Reply.{Reply}
+use Rattle.device_dispatch.specs.declared.Heard.{Heard}
 
 pub record Sendable (own : ℕ) (r : Reply) : Type 0 where
   pub known : r .id ≤ 252

@@ -8,17 +8,17 @@ use native.Mathlib.Omega.{arith}
 use lib.Dec.{eqb, leb}
 use lib.ListN.{length}
 use borrow.Author.Tests.{eq-eqb, ne-eqb, le-leb, lt-leb, eqb-true, leb-true}
-use Rattle.registers.specs.Registers.{tableSize}
-use Rattle.reactions.specs.Reactions.{ownId}
+use Rattle.table_registers.specs.Registers.{tableSize}
+use Rattle.device_dispatch.specs.Reactions.{ownId}
 use Rattle.device.specs.Answers.{sent, refused, replyUnless, errorUnless, stateRefusal, roomRefusal, orElse, callRefusal, repliedAnswer, answeredBy}
 use Rattle.device.specs.Split.{answerOfBoth}
-use Rattle.status.specs.Status.{silence}
-use Rattle.instructions.specs.Registered.{keptBy}
-use Rattle.status.specs.declared.Reply.{Reply}
+use Rattle.device_status.specs.Status.{silence}
+use Rattle.device_instructions.specs.Registered.{keptBy}
+use Rattle.device_status.specs.declared.Reply.{Reply}
 use Rattle.lists.specs.Answer.{unlessRefused}
 use Rattle.device.specs.declared.Replied.{Replied}
 use Rattle.device.specs.declared.Replied.the-variants.{Sent, NotTable, BadId, BadRegistered, NoRoom, BadReplyId, LongReply}
-use Rattle.instructions.specs.declared.RegisteredWrite.{RegisteredWrite}
+use Rattle.device_instructions.specs.declared.RegisteredWrite.{RegisteredWrite}
 
 module _ (table : List ℕ) (w : RegisteredWrite) where
   pub refuses-table : (length table ≡ tableSize → ⊥) → stateRefusal table w ≡ some 21

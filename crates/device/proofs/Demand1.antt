@@ -9,20 +9,20 @@ use lib.Dec.{leb}
 use lib.ListN.{length, getD}
 use Rattle.lists.specs.Write.{overwritten}
 use Rattle.stuffing.specs.Stuffing.{stuffAfter}
-use Rattle.encoder.specs.Writing.{withChecksum, packetOf}
-use Rattle.status.specs.Status.{silence, errorByte, status, replyBytes}
-use Rattle.instructions.specs.Instructions.{Effect}
-use Rattle.reactions.specs.Reactions.{ReplyRule, silent, speaks, Reaction, ownId}
-use Rattle.reaction_laws.specs.Refused.{tableIfRefused, registeredIfRefused}
-use Rattle.reaction_laws.proofs.Theorems.{refused as reaction-refused}
+use Rattle.packet_encoder.specs.Writing.{withChecksum, packetOf}
+use Rattle.device_status.specs.Status.{silence, errorByte, status, replyBytes}
+use Rattle.device_instructions.specs.Instructions.{Effect}
+use Rattle.device_dispatch.specs.Reactions.{ReplyRule, silent, speaks, Reaction, ownId}
+use Rattle.device_laws.specs.Refused.{tableIfRefused, registeredIfRefused}
+use Rattle.device_laws.proofs.Theorems.{refused as reaction-refused}
 use Rattle.device.specs.Device.{hardwareErrorIn, replyBy, executed, carryOut}
 use Rattle.device.specs.Answers.{sent, refused, answeredBy, callRefusal, callAnswer}
 use Rattle.device.specs.Demand1.{LeftAlone, LeftByRefusal, Demand1}
 use Rattle.device.proofs.Calls.{accepted}
 use Rattle.device.proofs.Replies.{to-whomever}
-use Rattle.status.specs.declared.Reply.{Reply}
-use Rattle.instructions.specs.declared.RegisteredWrite.{RegisteredWrite}
-use Rattle.reactions.specs.declared.Heard.{Heard}
+use Rattle.device_status.specs.declared.Reply.{Reply}
+use Rattle.device_instructions.specs.declared.RegisteredWrite.{RegisteredWrite}
+use Rattle.device_dispatch.specs.declared.Heard.{Heard}
 
 -- ---- by the answer: refused by a number, or not
 

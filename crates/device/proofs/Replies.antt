@@ -6,14 +6,14 @@ use Prim.Native.Nat.{ℕ, _-_}
 use lib.Dec.{eqb}
 use lib.ListN.{getD}
 use borrow.Author.Tests.{eq-eqb, ne-eqb}
-use Rattle.reactions.specs.Reactions.{ownId, ReplyRule, silent, speaks, reaction, Reaction, reacting, unchanged}
+use Rattle.device_dispatch.specs.Reactions.{ownId, ReplyRule, silent, speaks, reaction, Reaction, reacting, unchanged}
 use Rattle.device.specs.Device.{replyBy, Carried, carried, executed, carryOut}
-use Rattle.reactions.specs.declared.Heard.{Heard}
-use Rattle.instructions.specs.Results.{doneOf}
-use Rattle.reply_rules.specs.Results.{reactedBy, reactedOf}
+use Rattle.device_dispatch.specs.declared.Heard.{Heard}
+use Rattle.device_instructions.specs.Results.{doneOf}
+use Rattle.device_replies.specs.Results.{reactedBy, reactedOf}
 use Rattle.device.specs.Results.{replyTo}
-use Rattle.status.specs.Status.{silence}
-use Rattle.instructions.specs.declared.RegisteredWrite.{RegisteredWrite}
+use Rattle.device_status.specs.Status.{silence}
+use Rattle.device_instructions.specs.declared.RegisteredWrite.{RegisteredWrite}
 
 pub reply-of : (table : List ℕ) (q : Reaction)
     → replyTo (q .effect .table) (getD table 7 0) (getD table 68 0) (reactedOf q) ≡ replyBy (q .replying) table (q .effect)

@@ -8,14 +8,14 @@ use native.Mathlib.Omega.{arith}
 use lib.Dec.{leb}
 use lib.ListN.{length}
 use borrow.Author.Tests.{leb-true, leb-false}
-use Rattle.status.proofs.Sending.{accepts as sends}
+use Rattle.device_status.proofs.Sending.{accepts as sends}
 use Rattle.device.specs.Device.{carryOut}
 use Rattle.device.specs.Answers.{refused, stateRefusal, callRefusal, callAnswer}
 use Rattle.device.specs.Split.{SameAsOne, Split}
 use Rattle.device.proofs.Calls.{state-accepted, then-room, refuses-room, accepts}
 use Rattle.device.proofs.Bounds.{sendable}
-use Rattle.instructions.specs.declared.RegisteredWrite.{RegisteredWrite}
-use Rattle.reactions.specs.declared.Heard.{Heard}
+use Rattle.device_instructions.specs.declared.RegisteredWrite.{RegisteredWrite}
+use Rattle.device_dispatch.specs.declared.Heard.{Heard}
 
 module _ (table : List ℕ) (w : RegisteredWrite) (heard : Heard) (id : ℕ) (body out : List ℕ) where
   -- the same, and that the first call refuses what the one call refuses

@@ -9,20 +9,20 @@ use lib.Dec.{leb}
 use lib.ListN.{length}
 use borrow.Author.Tests.{le-leb}
 use Rattle.lists.specs.Answer.{unlessRefused}
-use Rattle.registers.specs.Registers.{tableSize}
-use Rattle.instructions.specs.Instructions.{Effect, read, write}
-use Rattle.instructions.proofs.Options.{each-option, each-action}
-use Rattle.instructions.proofs.Kept.{Kept, write-keeps, reg-write-keeps, action-keeps, factory-reset-keeps}
-use Rattle.instructions.proofs.Fit.{FitTable, fit-kept, reg-write-short}
-use Rattle.reactions.specs.Reactions.{Reaction}
-use Rattle.reaction_laws.proofs.Every.{every}
+use Rattle.table_registers.specs.Registers.{tableSize}
+use Rattle.device_instructions.specs.Instructions.{Effect, read, write}
+use Rattle.device_instructions.proofs.Options.{each-option, each-action}
+use Rattle.device_instructions.proofs.Kept.{Kept, write-keeps, reg-write-keeps, action-keeps, factory-reset-keeps}
+use Rattle.device_instructions.proofs.Fit.{FitTable, fit-kept, reg-write-short}
+use Rattle.device_dispatch.specs.Reactions.{Reaction}
+use Rattle.device_laws.proofs.Every.{every}
 use Rattle.device.specs.Device.{executed, carryOut}
 use Rattle.device.specs.Answers.{stateRefusal, carriedTable, carriedRegistered, callRefusal, callTable, callRegistered}
-use Rattle.instructions.specs.Registered.{keptBy}
+use Rattle.device_instructions.specs.Registered.{keptBy}
 use Rattle.device.proofs.Calls.{AcceptedState, accepts-state, state-accepted, accepted}
 use Rattle.device.proofs.Replies.{to-whomever}
-use Rattle.instructions.specs.declared.RegisteredWrite.{RegisteredWrite}
-use Rattle.reactions.specs.declared.Heard.{Heard}
+use Rattle.device_instructions.specs.declared.RegisteredWrite.{RegisteredWrite}
+use Rattle.device_dispatch.specs.declared.Heard.{Heard}
 
 module _ (P : List ℕ → Type 0) (kept : Kept P) (table : List ℕ) (p : P table) (w : RegisteredWrite) (heard : Heard) (id : ℕ) (body : List ℕ) where
   pub executed-keeps : P (carryOut table w heard id body .table)

@@ -5,14 +5,14 @@ use mathlib.Core.Option.{Option, none, some}
 use Prim.Native.Nat.{ℕ, _≤_}
 use native.Mathlib.Omega.{arith}
 use Rattle.lists.specs.Write.{overwritten}
-use Rattle.status.specs.Status.{silence, replyBytes}
-use Rattle.reactions.specs.Reactions.{ownId}
+use Rattle.device_status.specs.Status.{silence, replyBytes}
+use Rattle.device_dispatch.specs.Reactions.{ownId}
 use Rattle.device.specs.Device.{Carried, carryOut}
 use Rattle.device.specs.Answers.{stateRefusal, carriedReply, carriedTable, carriedRegistered, callRefusal, answeredBy, callAnswer, callTable, callRegistered, callOut}
 use Rattle.device.proofs.Calls.{state-accepted, accepted}
 use Rattle.device.proofs.Replies.{to-another}
-use Rattle.instructions.specs.declared.RegisteredWrite.{RegisteredWrite}
-use Rattle.reactions.specs.declared.Heard.{Heard}
+use Rattle.device_instructions.specs.declared.RegisteredWrite.{RegisteredWrite}
+use Rattle.device_dispatch.specs.declared.Heard.{Heard}
 
 module _ (table : List ℕ) (w : RegisteredWrite) (heard : Heard) (body out : List ℕ) where
   -- an accepted table has another ID

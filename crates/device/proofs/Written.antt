@@ -8,19 +8,19 @@ use lib.ListN.{length, take}
 use borrow.Author.Tests.{ne-eqb}
 use Rattle.lists.specs.Write.{overwritten}
 use Rattle.lists.proofs.Write.{overwritten-take}
-use Rattle.status.specs.Status.{replyBytes}
-use Rattle.status.proofs.Sent.{speaking}
-use Rattle.status.proofs.Packets.{status-id, status-formed, status-length}
-use Rattle.reactions.specs.Reactions.{ownId}
+use Rattle.device_status.specs.Status.{replyBytes}
+use Rattle.device_status.proofs.Sent.{speaking}
+use Rattle.device_status.proofs.Packets.{status-id, status-formed, status-length}
+use Rattle.device_dispatch.specs.Reactions.{ownId}
 use Rattle.device.specs.Device.{carryOut}
 use Rattle.device.specs.Answers.{stateRefusal, carriedReply, callRefusal, callOut}
 use Rattle.device.specs.Written.{IsStatus, StatusWritten, SlotWithin}
 use Rattle.device.proofs.Bounds.{Sendable, sendable}
 use Rattle.device.proofs.Calls.{state-accepted, accepted}
 use Rattle.device.proofs.Demand1.{sent-by}
-use Rattle.instructions.specs.declared.RegisteredWrite.{RegisteredWrite}
-use Rattle.status.specs.declared.Reply.{Reply}
-use Rattle.reactions.specs.declared.Heard.{Heard}
+use Rattle.device_instructions.specs.declared.RegisteredWrite.{RegisteredWrite}
+use Rattle.device_status.specs.declared.Reply.{Reply}
+use Rattle.device_dispatch.specs.declared.Heard.{Heard}
 
 is-status : (own : ℕ) (r : Reply) → Sendable own r → 0 < length (replyBytes r) → IsStatus own (length (replyBytes r)) (replyBytes r)
 is-status own r g h =

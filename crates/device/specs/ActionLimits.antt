@@ -5,13 +5,13 @@ use mathlib.Core.List.{List}
 use Prim.Native.Nat.{ℕ}
 use lib.Dec.{eqb}
 use lib.ListN.{set}
-use Rattle.instructions.specs.Registered.{dropped, LimitsOf}
-use Rattle.reactions.specs.Reactions.{ownId}
-use Rattle.reaction_laws.specs.Refused.{actsOn}
+use Rattle.device_instructions.specs.Registered.{dropped, LimitsOf}
+use Rattle.device_dispatch.specs.Reactions.{ownId}
+use Rattle.device_laws.specs.Refused.{actsOn}
 use Rattle.device.specs.Answers.{sent, callAnswer, callTable, callRegistered}
 use Rattle.device.specs.Demand1.{errorNumber}
-use Rattle.instructions.specs.declared.RegisteredWrite.{RegisteredWrite}
-use Rattle.reactions.specs.declared.Heard.{Heard}
+use Rattle.device_instructions.specs.declared.RegisteredWrite.{RegisteredWrite}
+use Rattle.device_dispatch.specs.declared.Heard.{Heard}
 
 -- an Action without parameters, to the device or to all, that finds a registered write [D49]
 abbrev pub actsHere : List ℕ → RegisteredWrite → Heard → ℕ → List ℕ → Bool

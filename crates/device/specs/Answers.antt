@@ -7,15 +7,15 @@ use lib.ListN.{length}
 use Rattle.lists.specs.Answer.{Answer, count, refused as Lists·refused, firstFailing, unlessRefused}
 use Rattle.lists.specs.Write.{overwritten}
 use Rattle.table_rules.specs.Outcomes.{inTable}
-use Rattle.instructions.specs.Registered.{keptBy}
-use Rattle.reactions.specs.Reactions.{ownId}
+use Rattle.device_instructions.specs.Registered.{keptBy}
+use Rattle.device_dispatch.specs.Reactions.{ownId}
 use Rattle.device.specs.Device.{carryOut}
-use Rattle.instructions.specs.declared.RegisteredWrite.{RegisteredWrite}
-use Rattle.status.specs.declared.Reply.{Reply}
-use Rattle.reactions.specs.declared.Heard.{Heard}
+use Rattle.device_instructions.specs.declared.RegisteredWrite.{RegisteredWrite}
+use Rattle.device_status.specs.declared.Reply.{Reply}
+use Rattle.device_dispatch.specs.declared.Heard.{Heard}
 use Rattle.device.specs.declared.Replied.{Replied}
 use Rattle.device.specs.declared.Replied.the-variants.{Sent, NotTable, BadId, BadRegistered, NoRoom, BadReplyId, LongReply}
-use Rattle.status.specs.Status.{silence, replyBytes}
+use Rattle.device_status.specs.Status.{silence, replyBytes}
 
 -- of table and registered write [N5-N7]
 unfoldable pub stateRefusal : List ℕ → RegisteredWrite → Option ℕ

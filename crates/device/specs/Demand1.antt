@@ -3,12 +3,12 @@ use mathlib.Core.Path.{_≡_}
 use mathlib.Core.List.{List}
 use Prim.Native.Nat.{ℕ, _<_}
 use lib.ListN.{getD}
-use Rattle.status.specs.Status.{errorByte}
-use Rattle.reaction_laws.specs.Refused.{tableIfRefused, registeredIfRefused}
+use Rattle.device_status.specs.Status.{errorByte}
+use Rattle.device_laws.specs.Refused.{tableIfRefused, registeredIfRefused}
 use Rattle.device.specs.Device.{hardwareErrorIn, carryOut}
 use Rattle.device.specs.Answers.{sent, refused, callAnswer, callTable, callRegistered, callOut}
-use Rattle.instructions.specs.declared.RegisteredWrite.{RegisteredWrite}
-use Rattle.reactions.specs.declared.Heard.{Heard}
+use Rattle.device_instructions.specs.declared.RegisteredWrite.{RegisteredWrite}
+use Rattle.device_dispatch.specs.declared.Heard.{Heard}
 
 -- the error number of an instruction, 0 for none: that of its status, or of the status that it would have where it is not answered
 -- [D40]

@@ -5,13 +5,13 @@ use mathlib.Core.List.{List}
 use Prim.Native.Nat.{ℕ}
 use lib.Dec.{leb, eqb}
 use lib.ListN.{getD}
-use Rattle.registers.specs.Registers.{statusReturnLevel, hardwareError}
-use Rattle.status.specs.Status.{status, silence, errorByte}
-use Rattle.instructions.specs.Instructions.{Effect}
-use Rattle.instructions.specs.declared.RegisteredWrite.{RegisteredWrite}
-use Rattle.status.specs.declared.Reply.{Reply}
-use Rattle.reactions.specs.declared.Heard.{Heard}
-use Rattle.reactions.specs.Reactions.{ownId, ReplyRule, silent, speaks, Reaction, reacting, unchanged, reaction}
+use Rattle.table_registers.specs.Registers.{statusReturnLevel, hardwareError}
+use Rattle.device_status.specs.Status.{status, silence, errorByte}
+use Rattle.device_instructions.specs.Instructions.{Effect}
+use Rattle.device_instructions.specs.declared.RegisteredWrite.{RegisteredWrite}
+use Rattle.device_status.specs.declared.Reply.{Reply}
+use Rattle.device_dispatch.specs.declared.Heard.{Heard}
+use Rattle.device_dispatch.specs.Reactions.{ownId, ReplyRule, silent, speaks, Reaction, reacting, unchanged, reaction}
 
 abbrev pub hardwareErrorIn : List ℕ → ℕ
 hardwareErrorIn table = getD table (hardwareError .address) 0

@@ -3,12 +3,12 @@ use mathlib.Core.Bool.{cond, _&&_}
 use mathlib.Core.List.{List}
 use Prim.Native.Nat.{ℕ}
 use lib.Dec.{leb}
-use Rattle.status.specs.Status.{silence, errorByte}
-use Rattle.reply_rules.specs.declared.Reacted.{Reacted}
+use Rattle.device_status.specs.Status.{silence, errorByte}
+use Rattle.device_replies.specs.declared.Reacted.{Reacted}
 use Rattle.device.specs.Device.{Carried, hardwareErrorIn}
 use Rattle.device.specs.declared.CarriedOut.{CarriedOut}
 use Rattle.device.specs.declared.Replied.the-variants.{Sent}
-use Rattle.status.specs.declared.Reply.{Reply}
+use Rattle.device_status.specs.declared.Reply.{Reply}
 
 -- the reply of a reaction, by the table that it left
 abbrev pub replyTo : List ℕ → ℕ → ℕ → Reacted → Reply

@@ -4,11 +4,11 @@ use mathlib.Core.List.{List}
 use mathlib.Core.Option.{Option, none, some}
 use Prim.Native.Nat.{ℕ}
 use Rattle.lists.specs.Answer.{unlessRefused}
-use Rattle.status.specs.Sending.{statusAnswer, statusOut}
+use Rattle.device_status.specs.Sending.{statusAnswer, statusOut}
 use Rattle.device.specs.Answers.{DeviceAnswer, refused, withSlot, stateRefusal, carriedReply, carriedTable, carriedRegistered, callAnswer, callTable, callRegistered, callOut}
-use Rattle.instructions.specs.declared.RegisteredWrite.{RegisteredWrite}
-use Rattle.status.specs.declared.Reply.{Reply}
-use Rattle.reactions.specs.declared.Heard.{Heard}
+use Rattle.device_instructions.specs.declared.RegisteredWrite.{RegisteredWrite}
+use Rattle.device_status.specs.declared.Reply.{Reply}
+use Rattle.device_dispatch.specs.declared.Heard.{Heard}
 
 -- the second call straight after the first, unless that was refused: what both answer [D54]
 abbrev pub answerOfBoth : Option ℕ → Reply → List ℕ → DeviceAnswer

@@ -5,10 +5,10 @@ use Prim.Native.Nat.{ℕ, _≤_, _<_}
 use lib.ListN.{take}
 use Rattle.packet_front.specs.Front.{idOf}
 use Rattle.packet.specs.Packet.{WellFormed}
-use Rattle.reactions.specs.Reactions.{ownId}
+use Rattle.device_dispatch.specs.Reactions.{ownId}
 use Rattle.device.specs.Answers.{sent, carriedReply, callAnswer, callOut}
-use Rattle.instructions.specs.declared.RegisteredWrite.{RegisteredWrite}
-use Rattle.reactions.specs.declared.Heard.{Heard}
+use Rattle.device_instructions.specs.declared.RegisteredWrite.{RegisteredWrite}
+use Rattle.device_dispatch.specs.declared.Heard.{Heard}
 
 -- the n bytes are a status of the device whose ID, before the instruction, is `own` [D41]
 pub record IsStatus (own n : ℕ) (bytes : List ℕ) : Type 0 where

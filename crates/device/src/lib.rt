@@ -1,25 +1,25 @@
 // The device on the bus: what it hears is carried out, and answered in the caller's buffer.
-use instructions::MAX_REGISTERED;
-use instructions::RegisteredWrite;
+use device_dispatch::Heard;
+use device_instructions::MAX_REGISTERED;
+use device_instructions::RegisteredWrite;
+use device_replies::Reacted;
+use device_status::MIN_REPLY;
+use device_status::Reply;
+use device_status::Written;
 use packet_front::BROADCAST_ID;
 use packet_front::MAX_ID;
-use reactions::Heard;
-use registers::REG_HARDWARE_ERROR;
-use registers::REG_ID;
-use registers::REG_STATUS_RETURN_LEVEL;
-use registers::TABLE_BYTES;
-use reply_rules::Reacted;
-use status::MIN_REPLY;
-use status::Reply;
-use status::Written;
+use table_registers::REG_HARDWARE_ERROR;
+use table_registers::REG_ID;
+use table_registers::REG_STATUS_RETURN_LEVEL;
+use table_registers::TABLE_BYTES;
 ghost use mathlib.Core.Path.{_≡_};
 ghost use Prim.Native.Nat.{_≤_};
 ghost use lib.ListN.{length};
-ghost use Rattle.registers.specs.Registers.{tableSize};
-ghost use Rattle.status.specs.Status.{silence as Status·silence};
-ghost use Rattle.status.specs.Sending.{writtenAnswer, statusAnswer, statusOut};
+ghost use Rattle.table_registers.specs.Registers.{tableSize};
+ghost use Rattle.device_status.specs.Status.{silence as Status·silence};
+ghost use Rattle.device_status.specs.Sending.{writtenAnswer, statusAnswer, statusOut};
 ghost use Rattle.device.specs.Device.{carried, carryOut};
-ghost use Rattle.reactions.specs.Reactions.{reaction as Reactions·reaction};
+ghost use Rattle.device_dispatch.specs.Reactions.{reaction as Reactions·reaction};
 ghost use Rattle.device.specs.Answers.{repliedAnswer, withSlot, stateRefusal, carriedAnswer, carriedReply, carriedRegistered, carriedError, carriedTable, callRefusal, answeredBy, callAnswer, callRegistered, callTable, callOut};
 ghost use Rattle.device.specs.Results.{replyTo, carriedOf};
 
@@ -29,17 +29,17 @@ fn reply_to(table: &[u8], own: u8, level: u8, reacted: Reacted) -> Reply
     ensures { λ r. ⌜ r ≡ replyTo (now (table .entry)) own level reacted ⌝ }
 {
     if !reacted.speaks {
-        return status::silence();
+        return device_status::silence();
     }
     if level < reacted.level {
-        return status::silence();
+        return device_status::silence();
     }
     let done = reacted.done;
     let bytes = done.bytes;
     Reply {
         speaks: 1,
         id: own,
-        error: status::error_byte(done.error, table[REG_HARDWARE_ERROR]),
+        error: device_status::error_byte(done.error, table[REG_HARDWARE_ERROR]),
         count: done.count as u8,
         bytes,
         slot: reacted.slot,
@@ -81,7 +81,7 @@ fn execute(
 {
     let own = table[REG_ID];
     let level = table[REG_STATUS_RETURN_LEVEL];
-    let reacted = reactions::reaction(table, registered, heard, all, body);
+    let reacted = device_dispatch::reaction(table, registered, heard, all, body);
     let done = reacted.done;
     let kept = done.registered;
     CarriedOut {
@@ -109,7 +109,7 @@ fn dispatch(
         if id != BROADCAST_ID {
             return CarriedOut {
                 refused: Replied::Sent(0, 0),
-                reply: status::silence(),
+                reply: device_status::silence(),
                 registered,
                 error: 0,
             };
@@ -159,7 +159,7 @@ pub fn carry_out(
     let Replied::Sent(_, _) = refused else {
         return CarriedOut {
             refused,
-            reply: status::silence(),
+            reply: device_status::silence(),
             registered,
             error: 0,
         };
@@ -193,13 +193,13 @@ fn with_slot(written: Written, slot: usize) -> Replied
     }
 }
 
-// The second: the reply is sent. Its count of bytes, with the reply slot, or a refusal; those of `status::send`. [D35 D52]
+// The second: the reply is sent. Its count of bytes, with the reply slot, or a refusal; those of `device_status::send`. [D35 D52]
 pub fn send(reply: Reply, out: &mut [u8]) -> Replied
     ensures { λ r. ⌜ repliedAnswer r ≡ withSlot (statusAnswer reply (now (out .entry))) (reply .slot) ⌝ }
     ensures { λ _. ⌜ now (out .exit) ≡ statusOut reply (now (out .entry)) ⌝ }
 {
     let slot = reply.slot;
-    with_slot(status::send(reply, out), slot)
+    with_slot(device_status::send(reply, out), slot)
 }
 
 // The device call: the test of the reply buffer, the first call and the second. Faults of the caller come first, whatever was heard,

@@ -22,21 +22,21 @@ use Rattle.packet_rules.specs.Shape.{verdict as shapeVerdict}
 use Rattle.packet.specs.Packet.{bodyOf, checksumRight, WellFormed}
 use Rattle.packet.specs.Verdict.{protocol2}
 use Rattle.packet.proofs.Laws.{laws}
-use Rattle.encoder.specs.Writing.{withChecksum, packetOf}
-use Rattle.encoder.specs.Encoding.{encodeRefusal}
-use Rattle.registers.specs.Registers.{registers, permitsBy, everyByte, deviceId}
-use Rattle.items.specs.Items.{valueAt, put}
+use Rattle.packet_encoder.specs.Writing.{withChecksum, packetOf}
+use Rattle.packet_encoder.specs.Encoding.{encodeRefusal}
+use Rattle.table_registers.specs.Registers.{registers, permitsBy, everyByte, deviceId}
+use Rattle.table_items.specs.Items.{valueAt, put}
 use Rattle.table_rules.specs.Rules.{everyTouched, goalInside, limitsKept, writeRule, readRule}
-use Rattle.control_table.specs.Fresh.{freshened, freshTable}
-use Rattle.parameters.specs.Entries.{occurs, searchFrom}
-use Rattle.instructions.specs.Instructions.{read, write, regWrite, action}
-use Rattle.instructions.specs.Registered.{sameLimits, LimitsOf}
-use Rattle.instructions.specs.declared.RegisteredWrite.{RegisteredWrite}
-use Rattle.reactions.specs.Reactions.{heardInstruction}
-use Rattle.reactions.specs.declared.Heard.the-variants.{Packet, BadChecksum}
+use Rattle.table_access.specs.Fresh.{freshened, freshTable}
+use Rattle.device_parameters.specs.Entries.{occurs, searchFrom}
+use Rattle.device_instructions.specs.Instructions.{read, write, regWrite, action}
+use Rattle.device_instructions.specs.Registered.{sameLimits, LimitsOf}
+use Rattle.device_instructions.specs.declared.RegisteredWrite.{RegisteredWrite}
+use Rattle.device_dispatch.specs.Reactions.{heardInstruction}
+use Rattle.device_dispatch.specs.declared.Heard.the-variants.{Packet, BadChecksum}
 use Rattle.device.specs.Device.{executed}
 use Rattle.device.specs.Answers.{DeviceAnswer, sent, refused, stateRefusal, roomRefusal, callRefusal}
-use Rattle.exchange.specs.Exchange.{idHeard}
+use Rattle.device_packet.specs.Exchange.{idHeard}
 use Rattle.board.specs.Board.{lentRefusal, outcome}
 use Rattle.device_calls.specs.Calls.{State, DeviceCall, fresh, measurement, device, exchange, carry, carryPacket, onBoard, lend, stateOf, afterAll, refusalIn}
 use Rattle.cases.specs.Exchanges.{goalAt512, registeredTable, goalTooLarge, goalRegistered, pingWrongSum}

@@ -9,24 +9,24 @@ use lib.ListN.{take, replicate, getD}
 use Rattle.reading.specs.Calls.{feed}
 use Rattle.packet_front.specs.Front.{idOf}
 use Rattle.packet.specs.Packet.{WellFormed}
-use Rattle.reader.specs.Records.{lent}
-use Rattle.registers.specs.Registers.{firmwareVersion, deviceId, maxPosition, minPosition, lamp, statusReturnLevel, registeredInstruction, hardwareError, goalVelocity, goalPosition}
-use Rattle.items.specs.Items.{put, valueOf}
+use Rattle.reader_records.specs.Records.{lent}
+use Rattle.table_registers.specs.Registers.{firmwareVersion, deviceId, maxPosition, minPosition, lamp, statusReturnLevel, registeredInstruction, hardwareError, goalVelocity, goalPosition}
+use Rattle.table_items.specs.Items.{put, valueOf}
 use Rattle.table_rules.specs.Rules.{goalInside}
-use Rattle.control_table.specs.Fresh.{freshTable, measured}
-use Rattle.instructions.specs.Registered.{dropped}
-use Rattle.instructions.specs.declared.RegisteredWrite.{RegisteredWrite}
-use Rattle.reactions.specs.declared.Heard.the-variants.{Packet, BadChecksum}
-use Rattle.status.specs.Status.{status, silence}
+use Rattle.table_access.specs.Fresh.{freshTable, measured}
+use Rattle.device_instructions.specs.Registered.{dropped}
+use Rattle.device_instructions.specs.declared.RegisteredWrite.{RegisteredWrite}
+use Rattle.device_dispatch.specs.declared.Heard.the-variants.{Packet, BadChecksum}
+use Rattle.device_status.specs.Status.{status, silence}
 use Rattle.device.specs.Answers.{sent, refused, stateRefusal, carriedTable, carriedRegistered, carriedReply, callTable, callRegistered, callOut}
 use Rattle.device.specs.Demand1.{errorNumber}
 use Rattle.device.specs.Promises.{DevicePromises}
 use Rattle.device.specs.Split.{Split, answerOfBoth, outOfBoth}
-use Rattle.exchange.specs.Exchange.{heardOf, packetRefusal, packetAnswer, packetReply, packetTable, packetRegistered, packetBody, exchangeRefusal, exchangeAnswer, exchangeTable, exchangeRegistered, exchangeBody, exchangeOut}
+use Rattle.device_packet.specs.Exchange.{heardOf, packetRefusal, packetAnswer, packetReply, packetTable, packetRegistered, packetBody, exchangeRefusal, exchangeAnswer, exchangeTable, exchangeRegistered, exchangeBody, exchangeOut}
 use Rattle.device_calls.specs.Calls.{State, DeviceCall, fresh, measurement, device, exchange, carry, carryPacket, onBoard, lend, stateOf, afterAll, refusalIn}
 use Rattle.device_calls.specs.Stays.{StaysAccepted}
 use Rattle.device_calls.specs.GoalWithinLimits.{GoalWithinLimits}
-use Rattle.exchange.specs.Promises.{ExchangePromises}
+use Rattle.device_packet.specs.Promises.{ExchangePromises}
 use Rattle.cases.specs.Cases.{pingToAll, pingStatus, writeGoal, writeStatus}
 use Rattle.cases.specs.Exchanges.{goalAt512, registeredTable, markedLimits, goalTooLarge, goalRegistered, pingWrongSum, registerGoal, rangeStatus}
 

@@ -5,11 +5,11 @@ use mathlib.Core.Option.{none}
 use lib.ListN.{length}
 use lib.Signed.{leZ}
 use borrow.Author.Tests.{eq-eqb}
-use Rattle.registers.specs.Registers.{tableSize, minPosition, maxPosition}
-use Rattle.items.specs.Items.{valueOf}
-use Rattle.resets.proofs.Values.{rebooted-length, rebooted-inside}
-use Rattle.instructions.proofs.Inside.{Inside, fresh-inside, inside-kept}
-use Rattle.reactions.specs.Reactions.{ownId, heardInstruction}
+use Rattle.table_registers.specs.Registers.{tableSize, minPosition, maxPosition}
+use Rattle.table_items.specs.Items.{valueOf}
+use Rattle.table_resets.proofs.Values.{rebooted-length, rebooted-inside}
+use Rattle.device_instructions.proofs.Inside.{Inside, fresh-inside, inside-kept}
+use Rattle.device_dispatch.specs.Reactions.{ownId, heardInstruction}
 use Rattle.device.specs.Device.{executed}
 use Rattle.device.proofs.Calls.{state-accepted}
 use Rattle.device_calls.specs.Calls.{State, fresh, afterCall, refusalIn}

@@ -3,7 +3,7 @@ use mathlib.Core.List.{List, [], _∷_}
 use mathlib.Core.Option.{Option, none, some}
 use Prim.Native.Nat.{ℕ}
 use Rattle.lists.specs.Answer.{unlessRefused}
-use Rattle.instructions.proofs.Kept.{Kept}
+use Rattle.device_instructions.proofs.Kept.{Kept}
 use Rattle.stuffing.specs.Stuffing.{unstuff}
 use Rattle.stuffing.specs.Answers.{removalRefusal}
 use Rattle.reading.specs.Reading.{Event, packet, badChecksum}
@@ -11,12 +11,12 @@ use Rattle.reading.specs.Calls.{Call, call}
 use Rattle.packet_front.specs.Front.{idOf}
 use Rattle.packet.specs.Packet.{bodyOf}
 use Rattle.packet.specs.Verdict.{protocol2}
-use Rattle.reader.specs.declared.Reader.{Reader}
-use Rattle.reader.specs.Records.{heldIn}
+use Rattle.reader_records.specs.declared.Reader.{Reader}
+use Rattle.reader_records.specs.Records.{heldIn}
 use Rattle.device.proofs.Stays.{executed-keeps, carry-keeps, call-keeps}
-use Rattle.instructions.specs.declared.RegisteredWrite.{RegisteredWrite}
-use Rattle.reactions.specs.declared.Heard.the-variants.{Packet, BadChecksum}
-use Rattle.exchange.specs.Exchange.{heardOf, bodyRefusal}
+use Rattle.device_instructions.specs.declared.RegisteredWrite.{RegisteredWrite}
+use Rattle.device_dispatch.specs.declared.Heard.the-variants.{Packet, BadChecksum}
+use Rattle.device_packet.specs.Exchange.{heardOf, bodyRefusal}
 use Rattle.board.specs.Board.{boardOf, carriedIfAny, boardRefusal, outcomeUnless, outcome}
 use Rattle.device_calls.specs.Calls.{State, DeviceCall, fresh, measurement, device, exchange, carry, carryPacket, onBoard, lend, afterCall, afterAll}
 

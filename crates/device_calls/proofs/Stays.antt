@@ -8,22 +8,22 @@ use lib.Dec.{leb}
 use lib.ListN.{length}
 use borrow.Author.Tests.{le-leb, eq-eqb}
 use Rattle.lists.specs.Answer.{firstFailing}
-use Rattle.registers.specs.Registers.{tableSize}
-use Rattle.reactions.specs.Reactions.{ownId}
-use Rattle.instructions.proofs.Fit.{FitTable, fit-kept}
+use Rattle.table_registers.specs.Registers.{tableSize}
+use Rattle.device_dispatch.specs.Reactions.{ownId}
+use Rattle.device_instructions.proofs.Fit.{FitTable, fit-kept}
 use Rattle.stuffing.specs.Answers.{removalRefusal}
 use Rattle.reading.specs.Calls.{Call, call}
 use Rattle.packet.specs.Packet.{bodyOf}
 use Rattle.packet.specs.Verdict.{protocol2}
-use Rattle.reader.specs.declared.Reader.{Reader}
-use Rattle.reader.specs.Records.{heldIn}
-use Rattle.instructions.specs.Registered.{keptBy}
+use Rattle.reader_records.specs.declared.Reader.{Reader}
+use Rattle.reader_records.specs.Records.{heldIn}
+use Rattle.device_instructions.specs.Registered.{keptBy}
 use Rattle.device.specs.Answers.{stateRefusal}
 use Rattle.device.proofs.Calls.{state-accepted}
 use Rattle.device.proofs.Stays.{carry-count, call-count}
-use Rattle.instructions.specs.declared.RegisteredWrite.{RegisteredWrite}
-use Rattle.reactions.specs.declared.Heard.the-variants.{Packet}
-use Rattle.exchange.specs.Exchange.{heardOf, bodyRefusal}
+use Rattle.device_instructions.specs.declared.RegisteredWrite.{RegisteredWrite}
+use Rattle.device_dispatch.specs.declared.Heard.the-variants.{Packet}
+use Rattle.device_packet.specs.Exchange.{heardOf, bodyRefusal}
 use Rattle.board.specs.Board.{boardOf, boardRefusal, outcomeUnless, outcome}
 use Rattle.board.proofs.Refusals.{accepted, any-accepted}
 use Rattle.device_calls.specs.Calls.{State, DeviceCall, fresh, measurement, device, exchange, carry, carryPacket, onBoard, lend, afterCall, afterAll, refusalIn}

@@ -4,12 +4,12 @@ use mathlib.Core.Option.{Option}
 use Prim.Native.Nat.{ℕ}
 use lib.IntN.{ℤ}
 use Rattle.reading.specs.Calls.{Call}
-use Rattle.reader.specs.declared.Reader.{Reader}
-use Rattle.control_table.specs.Answers.{freshOut, measureOut}
+use Rattle.reader_records.specs.declared.Reader.{Reader}
+use Rattle.table_access.specs.Answers.{freshOut, measureOut}
 use Rattle.device.specs.Answers.{stateRefusal, carriedTable, carriedRegistered, callTable, callRegistered}
-use Rattle.instructions.specs.declared.RegisteredWrite.{RegisteredWrite}
-use Rattle.reactions.specs.declared.Heard.{Heard}
-use Rattle.exchange.specs.Exchange.{packetTable, packetRegistered, exchangeTable, exchangeRegistered}
+use Rattle.device_instructions.specs.declared.RegisteredWrite.{RegisteredWrite}
+use Rattle.device_dispatch.specs.declared.Heard.{Heard}
+use Rattle.device_packet.specs.Exchange.{packetTable, packetRegistered, exchangeTable, exchangeRegistered}
 use Rattle.board.specs.Board.{boardOf, outcome}
 
 pub record State : Type 0 where

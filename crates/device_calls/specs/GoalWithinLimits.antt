@@ -5,11 +5,11 @@ use mathlib.Core.List.{List, [], _∷_}
 use mathlib.Core.Option.{none}
 use lib.ListN.{length}
 use lib.Signed.{leZ}
-use Rattle.registers.specs.Registers.{tableSize, minPosition, maxPosition}
-use Rattle.items.specs.Items.{valueOf}
+use Rattle.table_registers.specs.Registers.{tableSize, minPosition, maxPosition}
+use Rattle.table_items.specs.Items.{valueOf}
 use Rattle.table_rules.specs.Rules.{goalInside}
-use Rattle.reactions.specs.Reactions.{ownId}
-use Rattle.reactions.specs.declared.Heard.the-variants.{Packet}
+use Rattle.device_dispatch.specs.Reactions.{ownId}
+use Rattle.device_dispatch.specs.declared.Heard.the-variants.{Packet}
 use Rattle.device_calls.specs.Calls.{State, DeviceCall, fresh, carry, afterAll, refusalIn}
 
 -- a Reboot that the device hears

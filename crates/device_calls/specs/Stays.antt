@@ -5,7 +5,7 @@ use mathlib.Core.Option.{none}
 use Prim.Native.Nat.{_≤_}
 use lib.Dec.{leb}
 use Rattle.lists.specs.Answer.{firstFailing}
-use Rattle.instructions.specs.declared.RegisteredWrite.{RegisteredWrite}
+use Rattle.device_instructions.specs.declared.RegisteredWrite.{RegisteredWrite}
 use Rattle.device_calls.specs.Calls.{State, DeviceCall, fresh, measurement, device, exchange, carry, carryPacket, onBoard, lend, afterAll, refusalIn}
 
 -- the registered write that the caller lent last

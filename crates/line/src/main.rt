@@ -3,7 +3,7 @@
 // If a read or a write fails, it says so on standard error and does not print `end BYTES`.
 use libc::STDERR_FILENO;
 use libc::STDOUT_FILENO;
-use plain_reader::Next;
+use reader_plain::Next;
 use stuffing::Unstuffed;
 
 fn wide(x: u8) -> u64 {
@@ -51,7 +51,7 @@ fn packet_line(id: u8, found: &[u8]) -> bool {
 fn print_segment(segment: &[u8]) -> bool {
     let mut from = 0;
     loop {
-        match plain_reader::next_event(segment, from) {
+        match reader_plain::next_event(segment, from) {
             Next::Packet {
                 offset,
                 count: _,

@@ -13,7 +13,7 @@ use Rattle.lists.proofs.Bools.{or-right}
 use Rattle.reading.specs.Reading.{Found, packet, badChecksum, reading, readFrom}
 use Rattle.packet_front.specs.Front.{idOf, goodId}
 use Rattle.packet.specs.Verdict.{protocol2}
-use Rattle.plain_reader.proofs.Left.{GoodIds, good-ids}
+use Rattle.reader_plain.proofs.Left.{GoodIds, good-ids}
 use Rattle.log_index.specs.Last.{Last, at, nowhere, later, lastPacket, lastIn, orIn, lastFrom, lastOf, indexNumber, indexSize, idAt, placeOf, indexFrom, index}
 use Rattle.log_index.proofs.Index.{index-length}
 use Rattle.log_index.specs.Marks.{marked}

@@ -10,10 +10,10 @@ use Rattle.packet_rules.specs.Starts.{beforeStart}
 use Rattle.packet_rules.proofs.Starts.{before-fits}
 use Rattle.packet_front.specs.Begun.{mayBegin}
 use Rattle.packet.specs.Verdict.{protocol2}
-use Rattle.protocols.specs.declared.Protocol.the-variants.{Two}
-use Rattle.protocols.proofs.Shapes.{none-before-start}
-use Rattle.plain_reader.specs.Next.{nextEvent}
-use Rattle.plain_reader.proofs.Turns.{by-verdict}
+use Rattle.packet_protocols.specs.declared.Protocol.the-variants.{Two}
+use Rattle.packet_protocols.proofs.Shapes.{none-before-start}
+use Rattle.reader_plain.specs.Next.{nextEvent}
+use Rattle.reader_plain.proofs.Turns.{by-verdict}
 
 -- k offsets at which no packet begins are passed
 passes : (s : List ℕ) (p k : ℕ) → ((q : ℕ) → q < k → protocol2 .verdict (drop q (drop p s)) ≡ isNothing) → k ≤ length (drop p s)

@@ -11,12 +11,12 @@ use borrow.Author.Tests.{eq-eqb, ne-eqb}
 use Rattle.reading.specs.Reading.{Found, packet, badChecksum, reading, readFrom}
 use Rattle.packet_front.specs.Front.{idOf}
 use Rattle.packet.specs.Verdict.{protocol2}
-use Rattle.plain_reader.specs.declared.Next.{Next}
-use Rattle.plain_reader.specs.declared.Next.the-variants.{Packet, BadChecksum, Nothing}
-use Rattle.plain_reader.specs.Next.{nextEvent}
-use Rattle.plain_reader.specs.Plain.{Within}
-use Rattle.plain_reader.proofs.Plain.{within}
-use Rattle.plain_reader.proofs.Left.{left, Left, left-is}
+use Rattle.reader_plain.specs.declared.Next.{Next}
+use Rattle.reader_plain.specs.declared.Next.the-variants.{Packet, BadChecksum, Nothing}
+use Rattle.reader_plain.specs.Next.{nextEvent}
+use Rattle.reader_plain.specs.Plain.{Within}
+use Rattle.reader_plain.proofs.Plain.{within}
+use Rattle.reader_plain.proofs.Left.{left, Left, left-is}
 use Rattle.log_index.specs.Last.{later, lastPacket, placeOf}
 use Rattle.log_index.specs.declared.Offset.{Offset}
 use Rattle.log_index.specs.declared.Offset.the-variants.{At, Nothing as Offset·Nothing}

@@ -1,10 +1,10 @@
 // The packets of a segment by their IDs: marks in an index of all IDs, and the last packet for one ID.
-use plain_reader::Next;
-use protocols::Protocol;
+use packet_protocols::Protocol;
+use reader_plain::Next;
 ghost use mathlib.Core.Path.{_≡_};
 ghost use Rattle.reading.specs.Reading.{reading};
 ghost use Rattle.packet.specs.Verdict.{protocol2};
-ghost use Rattle.plain_reader.specs.Next.{nextEvent};
+ghost use Rattle.reader_plain.specs.Next.{nextEvent};
 ghost use Rattle.log_index.specs.Last.{placeOf, lastIn};
 ghost use Rattle.log_index.specs.Marks.{marked, offsetOf};
 
@@ -26,8 +26,8 @@ pub fn place_of(id: u8) -> usize
 fn next_event(segment: &[u8], from: usize) -> Next
     ensures { λ r. ⌜ r ≡ nextEvent (now (segment .entry)) from ⌝ }
 {
-    let start = protocols::next_start(Protocol::Two, segment, from);
-    plain_reader::next_event(segment, start)
+    let start = packet_protocols::next_start(Protocol::Two, segment, from);
+    reader_plain::next_event(segment, start)
 }
 
 // Writes the number of a segment for each ID that has a packet in it. A bad checksum is no packet. [I5 I8]

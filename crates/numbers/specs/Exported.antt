@@ -4,22 +4,22 @@ use mathlib.Core.Option.{Option, none, some}
 use Prim.Native.Nat.{ℕ, _-_, _^_, min}
 use lib.IntN.{ℤ, pos, negℤ}
 use Rattle.lists.specs.Answer.{Answer, count, refused}
-use Rattle.framer.specs.declared.Step.{Step}
-use Rattle.framer.specs.declared.StepEvent.{StepEvent}
-use Rattle.framer.specs.declared.StepEvent.the-variants.{Packet, BadChecksum, Silent, Refused}
-use Rattle.plain_reader.specs.declared.Next.{Next}
-use Rattle.plain_reader.specs.declared.Next.the-variants.{Packet as Next·Packet, BadChecksum as Next·BadChecksum, Nothing}
+use Rattle.reader_core.specs.declared.Step.{Step}
+use Rattle.reader_core.specs.declared.StepEvent.{StepEvent}
+use Rattle.reader_core.specs.declared.StepEvent.the-variants.{Packet, BadChecksum, Silent, Refused}
+use Rattle.reader_plain.specs.declared.Next.{Next}
+use Rattle.reader_plain.specs.declared.Next.the-variants.{Packet as Next·Packet, BadChecksum as Next·BadChecksum, Nothing}
 use Rattle.plan_check.specs.declared.Tested.{Tested}
 use Rattle.plan_check.specs.declared.Tested.the-variants.{Accepted, NotPlan, BadCount, BadGoal}
 use Rattle.device.specs.Answers.{sent, DeviceAnswer, refused as Device·refused}
-use Rattle.instructions.specs.declared.RegisteredWrite.{RegisteredWrite}
+use Rattle.device_instructions.specs.declared.RegisteredWrite.{RegisteredWrite}
 use Rattle.numbers.specs.declared.StepNumbers.{StepNumbers}
 use Rattle.numbers.specs.declared.EventNumbers.{EventNumbers}
 use Rattle.log_index.specs.Last.{at, nowhere}
 use Rattle.log.specs.Question.{Answer as Log·Answer, found, refused as Log·refused}
 use Rattle.numbers.specs.declared.DeviceNumbers.{DeviceNumbers}
 use Rattle.numbers.specs.declared.CarriedNumbers.{CarriedNumbers}
-use Rattle.status.specs.declared.Reply.{Reply}
+use Rattle.device_status.specs.declared.Reply.{Reply}
 use Rattle.numbers.specs.declared.FoundNumbers.{FoundNumbers}
 use Rattle.log_salvage.specs.Salvage.{Answer as Salvage·Answer, wrote, refused as Salvage·refused}
 use Rattle.numbers.specs.declared.SalvagedNumbers.{SalvagedNumbers}

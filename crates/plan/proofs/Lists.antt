@@ -8,9 +8,9 @@ use lib.Dec.{leb, eqb}
 use lib.ListN.{length, drop, getD}
 use borrow.Author.Tests.{leb-true, le-leb, lt-leb, eq-eqb, eqb-false, ne-eqb}
 use Rattle.lists.proofs.Bools.{and-left, and-right, both-ways}
-use Rattle.parameters.specs.Entries.{Entry, occurs, entryGood, searchFrom, search}
-use Rattle.parameters.specs.declared.Found.{Found}
-use Rattle.parameters.specs.declared.Found.the-variants.{At, Nothing}
+use Rattle.device_parameters.specs.Entries.{Entry, occurs, entryGood, searchFrom, search}
+use Rattle.device_parameters.specs.declared.Found.{Found}
+use Rattle.device_parameters.specs.declared.Found.the-variants.{At, Nothing}
 
 module _ (e : Entry) (params : List ℕ) where
   -- the entries from `at` on are good to the end, where those before it have the IDs `passed`

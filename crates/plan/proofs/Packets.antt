@@ -15,8 +15,8 @@ use Rattle.lists.proofs.Numbers.{bytes-length}
 use Rattle.stuffing.specs.Stuffing.{marksAfter, marks, stuff, unstuff}
 use Rattle.stuffing.proofs.Laws.{length-stuff}
 use Rattle.reading.specs.Promise.{joined}
-use Rattle.encoder.proofs.Writing.{packet-length}
-use Rattle.encoder.proofs.RoundTrip.{round-trip}
+use Rattle.packet_encoder.proofs.Writing.{packet-length}
+use Rattle.packet_encoder.proofs.RoundTrip.{round-trip}
 use Rattle.packet.specs.Packet.{bodyOf, WellFormed}
 use Rattle.plan.specs.Goals.{unwanted, goalWithin, goalsWithin}
 use Rattle.plan.specs.Plan.{planHead}

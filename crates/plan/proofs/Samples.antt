@@ -19,7 +19,7 @@ use Rattle.packet_rules.specs.Shape.{verdict as shapeVerdict}
 use Rattle.packet.specs.Packet.{bodyOf, checksumRight, WellFormed}
 use Rattle.packet.specs.Verdict.{protocol2}
 use Rattle.packet.proofs.Laws.{laws}
-use Rattle.parameters.specs.Entries.{occurs, searchFrom}
+use Rattle.device_parameters.specs.Entries.{occurs, searchFrom}
 use Rattle.plan.specs.Goals.{wanted, goalsWithin, goalsRefusal}
 use Rattle.plan.specs.Plan.{GoalWrite, goalsIn, Plan}
 use Rattle.plan.specs.Samples.{twoGoals, planOfTwo, goalOf3, goalOf9, planInTwo}

@@ -9,9 +9,9 @@ use Rattle.stuffing.specs.Stuffing.{unstuff}
 use Rattle.reading.specs.Promise.{joined}
 use Rattle.packet_front.specs.Front.{idOf}
 use Rattle.packet.specs.Packet.{bodyOf, WellFormed}
-use Rattle.parameters.specs.Parameters.{syncSearch}
-use Rattle.parameters.specs.declared.Found.{Found}
-use Rattle.parameters.specs.declared.Found.the-variants.{At, Nothing}
+use Rattle.device_parameters.specs.Parameters.{syncSearch}
+use Rattle.device_parameters.specs.declared.Found.{Found}
+use Rattle.device_parameters.specs.declared.Found.the-variants.{At, Nothing}
 use Rattle.plan.specs.Goals.{wanted}
 
 -- Sync Write, address 116, length 4 [W3]

@@ -9,7 +9,7 @@ use Rattle.lists.specs.Answer.{Answer, firstFailing, answered, unlessRefused}
 use Rattle.lists.specs.Numbers.{bytesOf}
 use Rattle.lists.specs.Write.{overwritten}
 use Rattle.reading.specs.Promise.{joined}
-use Rattle.encoder.specs.Writing.{packetOf}
+use Rattle.packet_encoder.specs.Writing.{packetOf}
 use Rattle.plan.specs.Goals.{goalsRefusal}
 use Rattle.plan.specs.Plan.{planHead}
 

@@ -27,7 +27,7 @@ fn goals_within(goals: &[i32]) -> bool
 {
     let mut i = 0;
     while i < goals.len() {
-        if !items::within(goals[i], UNWANTED, MAX_GOAL) {
+        if !table_items::within(goals[i], UNWANTED, MAX_GOAL) {
             return false;
         }
         i += 1;

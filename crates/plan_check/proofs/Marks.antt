@@ -10,11 +10,11 @@ use lib.ListN.{length, getD, set, length-set}
 use lib.Seq.{getD-set-same, getD-set-other}
 use borrow.Author.Tests.{eqb-true, eqb-false}
 use Rattle.lists.specs.Numbers.{numberAt}
-use Rattle.parameters.specs.Entries.{search}
-use Rattle.parameters.specs.Parameters.{wordAt, plain, syncSearch}
-use Rattle.parameters.specs.declared.Found.{Found}
-use Rattle.parameters.specs.declared.Found.the-variants.{At, Nothing}
-use Rattle.parameters.proofs.Searching.{past-end}
+use Rattle.device_parameters.specs.Entries.{search}
+use Rattle.device_parameters.specs.Parameters.{wordAt, plain, syncSearch}
+use Rattle.device_parameters.specs.declared.Found.{Found}
+use Rattle.device_parameters.specs.declared.Found.the-variants.{At, Nothing}
+use Rattle.device_parameters.proofs.Searching.{past-end}
 use Rattle.plan.proofs.Lists.{listGood, any-found, Walk, walk-start, entry-good, foundNext, walk-next, found-here, walk-end}
 use Rattle.plan.specs.Goals.{unwanted}
 use Rattle.plan.specs.Plan.{goalAt, goalFound}

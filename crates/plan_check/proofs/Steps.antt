@@ -14,7 +14,7 @@ use lib.Seq.{getD-take}
 use lib.Signed.{leZ, ltZ, mag}
 use borrow.Author.Tests.{eqb-true, eqb-false, eq-eqb, ne-eqb, leb-false, ltb-true, lt-ltb}
 use Rattle.lists.proofs.Bools.{both-ways}
-use Rattle.items.specs.Items.{signed}
+use Rattle.table_items.specs.Items.{signed}
 use Rattle.plan.specs.Goals.{unwanted, goalOf, wanted}
 use Rattle.plan.specs.Plan.{planHead}
 use Rattle.plan.proofs.Wanted.{goal-there}

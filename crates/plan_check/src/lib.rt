@@ -1,15 +1,15 @@
 // The test of a plan: whether bytes are Sync Writes end to end that set the wanted goals, each once, and nothing else.
+use device_parameters::Found;
+use packet_protocols::Protocol;
 use packet_rules::Judgement;
-use parameters::Found;
 use plan::Goals;
-use protocols::Protocol;
 use stuffing::Unstuffed;
 ghost use mathlib.Core.Path.{_≡_};
 ghost use mathlib.Core.Option.{none};
 ghost use Prim.Native.Nat.{ℕ, _+_, _≤_, _<_};
 ghost use lib.ListN.{length, take, getD};
 ghost use Rattle.lists.specs.Numbers.{numberAt};
-ghost use Rattle.items.specs.Items.{signed};
+ghost use Rattle.table_items.specs.Items.{signed};
 ghost use Rattle.packet.specs.Packet.{WellFormed};
 ghost use Rattle.plan.specs.Goals.{wanted, goalsRefusal};
 ghost use Rattle.plan.specs.Plan.{planHead, Plan};
@@ -33,7 +33,7 @@ fn goal_at(params: &[u8], k: usize) -> i32
     requires { ⌜ k + 4 ≤ length (now params) ⌝ }
     ensures { λ r. ⌜ r ≡ signed (numberAt (now (params .entry)) k 4) ⌝ }
 {
-    items::signed_of(params[k], params[k + 1], params[k + 2], params[k + 3])
+    table_items::signed_of(params[k], params[k + 1], params[k + 2], params[k + 3])
 }
 
 // Whether an entry may stand: its goal is the wanted one, and nothing has stood of its ID.
@@ -79,7 +79,7 @@ fn mark_entries(goals: &[i32], params: &[u8], stood: &mut [u8]) -> bool
     if params.len() <= LIST {
         return false;
     }
-    let Found::At(_, _) = parameters::sync_search(params, 4, params[LIST]) else {
+    let Found::At(_, _) = device_parameters::sync_search(params, 4, params[LIST]) else {
         return false;
     };
     mark_list(goals, params, stood)
@@ -92,7 +92,7 @@ fn has_head(body: &[u8]) -> bool
     if body.len() < 5 {
         return false;
     }
-    if body[0] != codes::INST_SYNC_WRITE {
+    if body[0] != device_codes::INST_SYNC_WRITE {
         return false;
     }
     if body[1] != plan::ADDRESS {
@@ -162,7 +162,7 @@ fn is_plan(goals: &[i32], plan: &[u8]) -> bool
     let mut stood = [0u8; 253];
     let mut at = 0;
     while at < plan.len() {
-        let Judgement::Packet(n) = protocols::judge(Protocol::Two, plan, at) else {
+        let Judgement::Packet(n) = packet_protocols::judge(Protocol::Two, plan, at) else {
             return false;
         };
         if !mark_packet(goals, &plan[at..at + n], &mut stood) {

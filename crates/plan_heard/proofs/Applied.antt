@@ -16,13 +16,13 @@ use Rattle.packet_front.specs.Begun.{frontAgrees, lengthAgrees}
 use Rattle.packet_rules.specs.Shape.{verdict as shapeVerdict}
 use Rattle.packet.specs.Packet.{bodyOf, checksumRight}
 use Rattle.packet.specs.Verdict.{protocol2}
-use Rattle.registers.specs.Registers.{registers, maxPosition}
-use Rattle.items.specs.Items.{valueAt, put}
-use Rattle.control_table.specs.Fresh.{freshened, freshTable}
+use Rattle.table_registers.specs.Registers.{registers, maxPosition}
+use Rattle.table_items.specs.Items.{valueAt, put}
+use Rattle.table_access.specs.Fresh.{freshened, freshTable}
 use Rattle.device.specs.Answers.{stateRefusal, roomRefusal, callRefusal}
 use Rattle.board.specs.Board.{boardOf, lentRefusal, readerLeft, outcome}
 use Rattle.device_calls.specs.Calls.{State, stateOf}
-use Rattle.in_step.specs.InStep.{boards}
+use Rattle.board_in_step.specs.InStep.{boards}
 use Rattle.plan.specs.Samples.{twoGoals, planOfTwo, goalOf3, goalOf9, planInTwo}
 use Rattle.plan.proofs.Samples.{plan-of-two, plan-in-two, two-goals-good}
 use Rattle.plan_heard.specs.Hearing.{Form, inTwo, inOne, unstuffed}

@@ -17,17 +17,17 @@ use Rattle.reading.specs.Reading.{Event, packet}
 use Rattle.reading.specs.Calls.{Call}
 use Rattle.reading.specs.Lists.{model, Follows, after, given}
 use Rattle.reading.specs.Promise.{since, AtStart}
-use Rattle.reader.specs.Records.{records}
+use Rattle.reader_records.specs.Records.{records}
 use Rattle.reading.proofs.Clean.{call-promises}
 use Rattle.packet.specs.Packet.{bodyOf}
 use Rattle.packet.specs.Verdict.{protocol2}
 use Rattle.packet.proofs.Laws.{laws}
-use Rattle.reader.proofs.Records.{every-protocol}
-use Rattle.registers.specs.Registers.{tableSize, goalPosition, endOf}
-use Rattle.items.specs.Items.{valueOf}
+use Rattle.reader_records.proofs.Records.{every-protocol}
+use Rattle.table_registers.specs.Registers.{tableSize, goalPosition, endOf}
+use Rattle.table_items.specs.Items.{valueOf}
 use Rattle.table_rules.specs.Rules.{stored}
 use Rattle.table_rules.proofs.Stored.{stored-before, stored-after, stored-length}
-use Rattle.reactions.specs.Reactions.{ownId}
+use Rattle.device_dispatch.specs.Reactions.{ownId}
 use Rattle.device.proofs.Calls.{state-accepted, accepted}
 use Rattle.plan.specs.Goals.{unwanted, goalOf, wanted, goalWithin, goalsRefusal}
 use Rattle.plan.specs.Plan.{goalFound, paramsOf, goalsIn, GoalWrite, Plan}

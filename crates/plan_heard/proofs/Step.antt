@@ -14,21 +14,21 @@ use Rattle.stuffing.specs.Stuffing.{unstuff}
 use Rattle.stuffing.specs.Answers.{removalRefusal}
 use Rattle.reading.specs.Reading.{packet}
 use Rattle.packet.specs.Packet.{bodyOf}
-use Rattle.registers.specs.Registers.{tableSize}
+use Rattle.table_registers.specs.Registers.{tableSize}
 use Rattle.table_rules.specs.Rules.{stored}
-use Rattle.parameters.specs.Parameters.{syncSearch}
-use Rattle.parameters.specs.declared.Found.{Found}
-use Rattle.parameters.specs.declared.Found.the-variants.{At, Nothing}
-use Rattle.parameters.proofs.Searching.{sync-whole}
-use Rattle.instructions.specs.Instructions.{Effect, write}
-use Rattle.instructions.specs.declared.RegisteredWrite.{RegisteredWrite}
-use Rattle.sync_reactions.specs.Sync.{byEntry, syncWriteBy}
-use Rattle.reactions.specs.Reactions.{ownId, silent, reacting, unchanged, heardInstruction}
-use Rattle.reactions.specs.declared.Heard.the-variants.{Packet}
+use Rattle.device_parameters.specs.Parameters.{syncSearch}
+use Rattle.device_parameters.specs.declared.Found.{Found}
+use Rattle.device_parameters.specs.declared.Found.the-variants.{At, Nothing}
+use Rattle.device_parameters.proofs.Searching.{sync-whole}
+use Rattle.device_instructions.specs.Instructions.{Effect, write}
+use Rattle.device_instructions.specs.declared.RegisteredWrite.{RegisteredWrite}
+use Rattle.device_sync.specs.Sync.{byEntry, syncWriteBy}
+use Rattle.device_dispatch.specs.Reactions.{ownId, silent, reacting, unchanged, heardInstruction}
+use Rattle.device_dispatch.specs.declared.Heard.the-variants.{Packet}
 use Rattle.device.specs.Device.{executed}
 use Rattle.device.proofs.Calls.{accepts-state, accepts}
-use Rattle.exchange.specs.Exchange.{idHeard}
-use Rattle.exchange.proofs.Hearing.{heard-packet}
+use Rattle.device_packet.specs.Exchange.{idHeard}
+use Rattle.device_packet.proofs.Hearing.{heard-packet}
 use Rattle.plan.specs.Plan.{planHead, goalAt, goalFound, paramsOf, GoalWrite}
 use Rattle.plan_heard.specs.Hearing.{Device, Form, inTwo, inOne, unstuffed, hears}
 use Rattle.plan_heard.specs.PlanCarriedOut.{admits}

@@ -10,9 +10,9 @@ use lib.ListN.{length, getD}
 use borrow.Author.Tests.{lt-ltb, le-leb}
 use Rattle.lists.specs.Answer.{firstFailing}
 use Rattle.lists.specs.Numbers.{numberAt}
-use Rattle.registers.specs.Registers.{registers, permitsBy, everyByte, tableSize, torqueEnable, minPosition, maxPosition, goalPosition}
-use Rattle.items.specs.Items.{valueOf, valueInRange}
-use Rattle.items.proofs.Signed.{value-word}
+use Rattle.table_registers.specs.Registers.{registers, permitsBy, everyByte, tableSize, torqueEnable, minPosition, maxPosition, goalPosition}
+use Rattle.table_items.specs.Items.{valueOf, valueInRange}
+use Rattle.table_items.proofs.Signed.{value-word}
 use Rattle.table_rules.specs.Rules.{everyTouched, covers, leastToWrite, goalInside, limitsKept, stored, writeRule}
 use Rattle.table_rules.proofs.Stored.{value-at, value-kept}
 use Rattle.plan_heard.specs.PlanCarriedOut.{admits}

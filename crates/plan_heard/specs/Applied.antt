@@ -9,15 +9,15 @@ use Rattle.reading.specs.Calls.{Call, feed, gap, call}
 use Rattle.reading.specs.Lists.{model, after, took, given}
 use Rattle.reading.specs.Promise.{since}
 use Rattle.packet.specs.Verdict.{protocol2}
-use Rattle.reader.specs.declared.Reader.{Reader}
-use Rattle.reader.specs.Records.{records, lent}
-use Rattle.registers.specs.Registers.{deviceId, maxPosition, goalPosition}
-use Rattle.items.specs.Items.{put, valueOf}
-use Rattle.control_table.specs.Fresh.{freshTable}
-use Rattle.instructions.specs.declared.RegisteredWrite.{RegisteredWrite}
+use Rattle.reader_records.specs.declared.Reader.{Reader}
+use Rattle.reader_records.specs.Records.{records, lent}
+use Rattle.table_registers.specs.Registers.{deviceId, maxPosition, goalPosition}
+use Rattle.table_items.specs.Items.{put, valueOf}
+use Rattle.table_access.specs.Fresh.{freshTable}
+use Rattle.device_instructions.specs.declared.RegisteredWrite.{RegisteredWrite}
 use Rattle.board.specs.Board.{boardOf}
 use Rattle.device_calls.specs.Calls.{State}
-use Rattle.in_step.specs.InStep.{boards}
+use Rattle.board_in_step.specs.InStep.{boards}
 use Rattle.plan.specs.Samples.{planOfTwo, goalOf3, goalOf9, planInTwo}
 use Rattle.plan_heard.specs.Hearing.{Device, Form, inTwo, inOne, unstuffed, hearsAll}
 use Rattle.plan_heard.specs.PlanCarriedOut.{ofDevice, ofBoard, PlanCarriedOut}

@@ -7,11 +7,11 @@ use Rattle.stuffing.specs.Answers.{removalRefusal, removalOut}
 use Rattle.reading.specs.Reading.{Event, packet, badChecksum}
 use Rattle.packet_front.specs.Front.{idOf}
 use Rattle.packet.specs.Packet.{bodyOf}
-use Rattle.instructions.specs.Registered.{keptBy}
-use Rattle.instructions.specs.declared.RegisteredWrite.{RegisteredWrite}
-use Rattle.reactions.specs.declared.Heard.the-variants.{Packet, BadChecksum}
+use Rattle.device_instructions.specs.Registered.{keptBy}
+use Rattle.device_instructions.specs.declared.RegisteredWrite.{RegisteredWrite}
+use Rattle.device_dispatch.specs.declared.Heard.the-variants.{Packet, BadChecksum}
 use Rattle.device.specs.Answers.{carriedTable, carriedRegistered, callTable, callRegistered, callOut}
-use Rattle.exchange.specs.Exchange.{packetTable, packetRegistered, packetBody, exchangeTable, exchangeRegistered, exchangeBody, exchangeOut}
+use Rattle.device_packet.specs.Exchange.{packetTable, packetRegistered, packetBody, exchangeTable, exchangeRegistered, exchangeBody, exchangeOut}
 
 pub record Device : Type 0 where
   pub table : List ℕ

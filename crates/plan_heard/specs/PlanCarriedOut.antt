@@ -14,14 +14,14 @@ use Rattle.reading.specs.Lists.{model, after, took, given}
 use Rattle.reading.specs.Promise.{since, AtStart, Finished}
 use Rattle.packet.specs.Packet.{bodyOf}
 use Rattle.packet.specs.Verdict.{protocol2}
-use Rattle.reader.specs.Records.{records}
-use Rattle.registers.specs.Registers.{minPosition, maxPosition, goalPosition, endOf}
-use Rattle.items.specs.Items.{valueOf}
-use Rattle.reactions.specs.Reactions.{ownId}
+use Rattle.reader_records.specs.Records.{records}
+use Rattle.table_registers.specs.Registers.{minPosition, maxPosition, goalPosition, endOf}
+use Rattle.table_items.specs.Items.{valueOf}
+use Rattle.device_dispatch.specs.Reactions.{ownId}
 use Rattle.device.specs.Answers.{stateRefusal, callRefusal}
 use Rattle.board.specs.Board.{Board}
 use Rattle.device_calls.specs.Calls.{State, stateOf}
-use Rattle.in_step.specs.InStep.{boards}
+use Rattle.board_in_step.specs.InStep.{boards}
 use Rattle.plan.specs.Goals.{wanted, goalsRefusal}
 use Rattle.plan.specs.Plan.{Plan}
 use Rattle.plan_heard.specs.Hearing.{Device, Form, inTwo, inOne, unstuffed, hearsAll}

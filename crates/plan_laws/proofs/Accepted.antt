@@ -16,11 +16,11 @@ use Rattle.lists.proofs.Bools.{and-right}
 use Rattle.lists.proofs.Numbers.{bytes-length, same-number}
 use Rattle.stuffing.specs.Stuffing.{unstuff}
 use Rattle.packet.specs.Packet.{bodyOf}
-use Rattle.encoder.proofs.RoundTrip.{round-trip}
-use Rattle.parameters.specs.Entries.{occurs, entryGood, searchFrom}
-use Rattle.parameters.specs.Parameters.{plain}
-use Rattle.parameters.specs.declared.Found.{Found}
-use Rattle.parameters.specs.declared.Found.the-variants.{At, Nothing}
+use Rattle.packet_encoder.proofs.RoundTrip.{round-trip}
+use Rattle.device_parameters.specs.Entries.{occurs, entryGood, searchFrom}
+use Rattle.device_parameters.specs.Parameters.{plain}
+use Rattle.device_parameters.specs.declared.Found.{Found}
+use Rattle.device_parameters.specs.declared.Found.the-variants.{At, Nothing}
 use Rattle.plan.specs.Goals.{unwanted, goalOf, goalWithin, goalsWithin, goalsRefusal, wanted}
 use Rattle.plan.specs.Plan.{planHead, goalAt, goalFound, paramsOf, goalsIn, GoalWrite, Plan}
 use Rattle.plan.specs.Planner.{Entry, entriesFrom, entryBytes, listBytes, goalPacket, packetsFrom, planOf}

@@ -1,7 +1,7 @@
 use Rattle.lists.specs.Numbers.{bytesOf}
 use Rattle.crc.specs.Crc.{reduceIf, shift, shifts, crcByte, crcFrom}
 use Rattle.stuffing.specs.Stuffing.{stuffAfter}
-use Rattle.encoder.specs.Writing.{withChecksum, packetOf}
+use Rattle.packet_encoder.specs.Writing.{withChecksum, packetOf}
 use Rattle.plan.specs.Planner.{entriesFrom, listBytes, packetsFrom}
 use Rattle.plan.specs.Samples.{twoGoals, planOfTwo, planInTwo}
 use Rattle.plan.proofs.Samples.{plan-of-two, plan-in-two, two-goals-good}

@@ -12,10 +12,10 @@ use borrow.Author.Tests.{eqb-true, ne-eqb, leb-true}
 use Rattle.lists.proofs.Bools.{and-left}
 use Rattle.stuffing.specs.Stuffing.{unstuff}
 use Rattle.packet.specs.Packet.{bodyOf}
-use Rattle.parameters.specs.Entries.{entryGood, searchFrom}
-use Rattle.parameters.specs.Parameters.{wordAt, plain}
-use Rattle.parameters.specs.declared.Found.{Found}
-use Rattle.parameters.specs.declared.Found.the-variants.{At, Nothing}
+use Rattle.device_parameters.specs.Entries.{entryGood, searchFrom}
+use Rattle.device_parameters.specs.Parameters.{wordAt, plain}
+use Rattle.device_parameters.specs.declared.Found.{Found}
+use Rattle.device_parameters.specs.declared.Found.the-variants.{At, Nothing}
 use Rattle.plan.specs.Goals.{unwanted, goalOf, goalsRefusal, wanted}
 use Rattle.plan.specs.Plan.{goalAt, goalFound, paramsOf, goalsIn, GoalWrite, Plan}
 use Rattle.plan.specs.Planner.{entriesFrom, planPackets}

@@ -13,7 +13,7 @@ use borrow.Author.Tests.{le-leb, leb-true, leb-false}
 use Rattle.lists.specs.Write.{overwritten, placed}
 use Rattle.stuffing.specs.Stuffing.{stuff}
 use Rattle.reading.specs.Promise.{joined}
-use Rattle.encoder.specs.Encoding.{encodeRefusal, encodeOut}
+use Rattle.packet_encoder.specs.Encoding.{encodeRefusal, encodeOut}
 use Rattle.plan.specs.Goals.{goalsRefusal}
 use Rattle.plan.specs.Plan.{planHead}
 use Rattle.plan.specs.Planner.{Entry, entriesFrom, listBytes, goalPacket, packetsFrom, planOf}

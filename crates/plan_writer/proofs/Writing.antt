@@ -13,7 +13,7 @@ use lib.Signed.{leZ}
 use borrow.Author.Tests.{leb-false, ltb-true, ltb-false}
 use Rattle.lists.specs.Write.{overwritten, placed}
 use Rattle.lists.proofs.Write.{overwritten-take, overwritten-parts}
-use Rattle.items.specs.Items.{unsigned}
+use Rattle.table_items.specs.Items.{unsigned}
 use Rattle.plan.specs.Planner.{Entry, entriesFrom, entryBytes, listBytes}
 use Rattle.plan.proofs.Packets.{list-length}
 use Rattle.plan_writer.specs.Filling.{entriesAt}

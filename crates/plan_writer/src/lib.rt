@@ -5,7 +5,7 @@ ghost use mathlib.Core.List.{[], _∷_, _++_};
 ghost use Prim.Native.Nat.{_+_, _*_, _/_, _≤_, _<_, min};
 ghost use lib.ListN.{length, take, drop};
 ghost use Rattle.lists.specs.Write.{overwritten, placed};
-ghost use Rattle.items.specs.Items.{unsigned};
+ghost use Rattle.table_items.specs.Items.{unsigned};
 ghost use Rattle.plan.specs.Planner.{entriesFrom, entryBytes, listBytes, goalPacket, packetsOf, planOf, planAnswer, planOut};
 ghost use Rattle.plan.proofs.Packets.{Rising};
 ghost use Rattle.plan_writer.specs.Filling.{planWrittenAnswer, entriesAt};
@@ -40,7 +40,7 @@ fn write_entry(id: u8, goal: i32, out: &mut [u8])
     requires { ⌜ 5 ≤ length (now out) ⌝ }
     ensures { λ _. ⌜ now (out .exit) ≡ overwritten (now (out .entry)) (entryBytes (id, unsigned goal)) ⌝ }
 {
-    let u = items::unsigned_of(goal);
+    let u = table_items::unsigned_of(goal);
     out[0] = id;
     out[1] = (u % 256) as u8;
     out[2] = (u / 256 % 256) as u8;
@@ -95,9 +95,9 @@ fn write_packet(goals: &[i32], from: usize, k: usize, out: &mut [u8], at: usize)
     let mut params = [0u8; 1019];
     let next = write_params(goals, from, k, &mut params);
     let written: &[u8] = &params;
-    encoder::encode(
+    packet_encoder::encode(
         packet_front::BROADCAST_ID,
-        codes::INST_SYNC_WRITE,
+        device_codes::INST_SYNC_WRITE,
         &written[..4 + 5 * k],
         out,
         at,

@@ -23,10 +23,10 @@ use Rattle.packet.specs.Packet.{bodyOf, checksumRight}
 use Rattle.packet_rules.specs.Shape.{verdict as shapeVerdict}
 use Rattle.packet_v1.specs.Packet.{sum, checksumRight as sumRight}
 use Rattle.packet_v1.specs.Verdict.{frontAgrees as frontAgreesV1, lengthAgrees as lengthAgreesV1}
-use Rattle.protocols.specs.declared.Protocol.{Protocol}
-use Rattle.protocols.specs.declared.Protocol.the-variants.{Two, One, Mercury}
-use Rattle.protocols.specs.Protocols.{rulesOf}
-use Rattle.reader.specs.Records.{stepIn, leftIn, packetIn, recordsOf, ProtocolPromises}
+use Rattle.packet_protocols.specs.declared.Protocol.{Protocol}
+use Rattle.packet_protocols.specs.declared.Protocol.the-variants.{Two, One, Mercury}
+use Rattle.packet_protocols.specs.Protocols.{rulesOf}
+use Rattle.reader_records.specs.Records.{stepIn, leftIn, packetIn, recordsOf, ProtocolPromises}
 use Rattle.reader_applications.specs.Demand3.{badPing, pingTo1, writeStatus, badRead, readTo1, pingTo252, longFront, longFrontV1, full, used, earlier, begun, cut, heldBack, lastLacks, followed}
 use Rattle.reader_applications.specs.Demand3.{Out, ComesOut, Arriving, ByFeed, Promises, Demand3Applied, IdTold}
 

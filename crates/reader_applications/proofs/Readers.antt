@@ -23,12 +23,12 @@ use Rattle.packet.specs.Verdict.{protocol2}
 use Rattle.packet_rules.specs.Shape.{verdict as shapeVerdict}
 use Rattle.packet_v1.specs.Packet.{sum, checksumRight as sumRight}
 use Rattle.packet_v1.specs.Verdict.{frontAgrees as frontAgreesV1, lengthAgrees as lengthAgreesV1}
-use Rattle.protocols.specs.declared.Protocol.{Protocol}
-use Rattle.protocols.specs.declared.Protocol.the-variants.{Two, One, Mercury}
-use Rattle.protocols.specs.Protocols.{rulesOf}
-use Rattle.reader.specs.Records.{heldIn, stepIn, leftIn, packetIn, recordsOf, records, lent, ProtocolPromises}
-use Rattle.plain_reader.specs.Next.{nextEvent}
-use Rattle.plain_reader.specs.Plain.{plain, PlainPromises}
+use Rattle.packet_protocols.specs.declared.Protocol.{Protocol}
+use Rattle.packet_protocols.specs.declared.Protocol.the-variants.{Two, One, Mercury}
+use Rattle.packet_protocols.specs.Protocols.{rulesOf}
+use Rattle.reader_records.specs.Records.{heldIn, stepIn, leftIn, packetIn, recordsOf, records, lent, ProtocolPromises}
+use Rattle.reader_plain.specs.Next.{nextEvent}
+use Rattle.reader_plain.specs.Plain.{plain, PlainPromises}
 use Rattle.reading.proofs.Decided.{EachPacket, well, all-well}
 use Rattle.reader_applications.specs.Demand3.{pingTo1, writeStatus, readTo1, pingTo252, full, used, earlier, begun}
 use Rattle.reader_applications.specs.Readers.{halves, lacking, quiet, InWords, ReaderApplied, ProtocolPromisesApplied, segment, PlainPromisesApplied}

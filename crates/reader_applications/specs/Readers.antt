@@ -11,12 +11,12 @@ use Rattle.reading.specs.Calls.{feed, gap, event, silent, first, fed, call}
 use Rattle.reading.specs.Lists.{after, took, given}
 use Rattle.reading.specs.Promise.{since, what, EndsSilent, NoneAcross, Followed, givenAt}
 use Rattle.reading.specs.Across.{reachesAcross}
-use Rattle.framer.specs.declared.StepEvent.the-variants.{Refused}
-use Rattle.reader.specs.Records.{heldIn, stepIn, recordsOf, records, lent, ProtocolPromises}
-use Rattle.plain_reader.specs.Plain.{plain, PlainPromises}
-use Rattle.protocols.specs.declared.Protocol.{Protocol}
-use Rattle.protocols.specs.declared.Protocol.the-variants.{Two, One, Mercury}
-use Rattle.protocols.specs.Protocols.{rulesOf}
+use Rattle.reader_core.specs.declared.StepEvent.the-variants.{Refused}
+use Rattle.reader_records.specs.Records.{heldIn, stepIn, recordsOf, records, lent, ProtocolPromises}
+use Rattle.reader_plain.specs.Plain.{plain, PlainPromises}
+use Rattle.packet_protocols.specs.declared.Protocol.{Protocol}
+use Rattle.packet_protocols.specs.declared.Protocol.the-variants.{Two, One, Mercury}
+use Rattle.packet_protocols.specs.Protocols.{rulesOf}
 use Rattle.reader_applications.specs.Demand3.{badPing, pingTo1, writeStatus, readTo1, pingTo252, full, used, earlier, begun}
 
 -- two packets, each cut in two

@@ -1,5 +1,5 @@
 use Rattle.lists.specs.Numbers.{numberAt, bytesOf}
-use Rattle.items.specs.Items.{valueAt, put}
+use Rattle.table_items.specs.Items.{valueAt, put}
 use Rattle.table_rules.specs.Rules.{goalInside}
 use Rattle.table_rules.specs.Applied.{having, FenceApplied}
 

@@ -5,9 +5,9 @@ use mathlib.Core.List.{List}
 use Prim.Native.Nat.{ℕ}
 use lib.Signed.{leZ}
 use Rattle.lists.proofs.Bools.{and-left, and-right}
-use Rattle.registers.specs.Registers.{minPosition, maxPosition, goalPosition}
-use Rattle.items.specs.Items.{valueOf}
-use Rattle.items.proofs.Signed.{le-trans}
+use Rattle.table_registers.specs.Registers.{minPosition, maxPosition, goalPosition}
+use Rattle.table_items.specs.Items.{valueOf}
+use Rattle.table_items.proofs.Signed.{le-trans}
 use Rattle.table_rules.specs.Rules.{touches, goalInside, limitsKept}
 use Rattle.table_rules.specs.Fence.{limitTouched, Fence}
 

@@ -5,7 +5,7 @@ use mathlib.Core.List.{List}
 use Prim.Native.Nat.{ℕ, _+_, _≤_}
 use lib.ListN.{length}
 use Rattle.lists.proofs.Bools.{or-right, nor-left, nor-right}
-use Rattle.registers.specs.Registers.{minPosition, maxPosition, goalPosition}
+use Rattle.table_registers.specs.Registers.{minPosition, maxPosition, goalPosition}
 use Rattle.table_rules.specs.Rules.{touches, touchesLimits, goalInside, limitsKept, stored}
 use Rattle.table_rules.proofs.Stored.{value-kept}
 

@@ -5,7 +5,7 @@ use mathlib.Core.Option.{Option, some}
 use Prim.Native.Nat.{ℕ}
 use lib.ListN.{length}
 use borrow.Author.Tests.{eq-eqb, ne-eqb}
-use Rattle.registers.specs.Registers.{tableSize}
+use Rattle.table_registers.specs.Registers.{tableSize}
 use Rattle.table_rules.specs.Limits.{limitsOf, limitsIn}
 use Rattle.table_rules.specs.Outcomes.{inTable, onTable}
 

@@ -12,8 +12,8 @@ use Rattle.lists.specs.Write.{overwritten}
 use Rattle.lists.proofs.Numbers.{same-number}
 use Rattle.lists.specs.Numbers.{numberAt}
 use borrow.Author.Tests.{ltb-false}
-use Rattle.registers.specs.Registers.{Register, endOf}
-use Rattle.items.specs.Items.{signed, valueAt, valueOf}
+use Rattle.table_registers.specs.Registers.{Register, endOf}
+use Rattle.table_items.specs.Items.{signed, valueAt, valueOf}
 use Rattle.table_rules.specs.Rules.{touches, stored}
 
 module _ (table : List ℕ) (address : ℕ) (bytes : List ℕ) (fits : address + length bytes ≤ length table) where

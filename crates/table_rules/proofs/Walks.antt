@@ -9,8 +9,8 @@ use lib.Dec.{ltb, eqb}
 use lib.ListN.{length, getD}
 use borrow.Author.Tests.{leb-true, ltb-true, ltb-false, eqb-true, eqb-false, lt-ltb, le-leb, lt-leb}
 use Rattle.lists.proofs.Bools.{and-left, and-right}
-use Rattle.registers.specs.Registers.{Register, registers, endOf, permits}
-use Rattle.registers.proofs.Rows.{noRegister, count, nth, place, place-inside, starts, ends, nth-some, nth-place}
+use Rattle.table_registers.specs.Registers.{Register, registers, endOf, permits}
+use Rattle.table_registers.proofs.Rows.{noRegister, count, nth, place, place-inside, starts, ends, nth-some, nth-place}
 use Rattle.table_rules.specs.Rules.{touches, everyTouched}
 use Rattle.table_rules.specs.Stages.{whole}
 

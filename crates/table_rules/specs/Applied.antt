@@ -4,8 +4,8 @@ use mathlib.Core.Bool.{true, false}
 use mathlib.Core.List.{List}
 use Prim.Native.Nat.{ℕ}
 use lib.ListN.{replicate}
-use Rattle.registers.specs.Registers.{minPosition, maxPosition, goalPosition}
-use Rattle.items.specs.Items.{put}
+use Rattle.table_registers.specs.Registers.{minPosition, maxPosition, goalPosition}
+use Rattle.table_items.specs.Items.{put}
 use Rattle.table_rules.specs.Rules.{limitsKept}
 use Rattle.table_rules.specs.Fence.{Fence}
 

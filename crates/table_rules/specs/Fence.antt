@@ -4,8 +4,8 @@ use mathlib.Core.Bool.{Bool, not, _&&_, _||_}
 use mathlib.Core.List.{List}
 use Prim.Native.Nat.{ℕ}
 use lib.Signed.{leZ}
-use Rattle.registers.specs.Registers.{minPosition, maxPosition, goalPosition}
-use Rattle.items.specs.Items.{valueOf}
+use Rattle.table_registers.specs.Registers.{minPosition, maxPosition, goalPosition}
+use Rattle.table_items.specs.Items.{valueOf}
 use Rattle.table_rules.specs.Rules.{touches, goalInside, limitsKept}
 
 -- a limit was written

@@ -5,8 +5,8 @@ use Prim.Native.Nat.{ℕ}
 use lib.Dec.{eqb}
 use lib.IntN.{pos}
 use lib.ListN.{length}
-use Rattle.registers.specs.Registers.{tableSize, minPosition, maxPosition}
-use Rattle.items.specs.Items.{valueOf}
+use Rattle.table_registers.specs.Registers.{tableSize, minPosition, maxPosition}
+use Rattle.table_items.specs.Items.{valueOf}
 use Rattle.table_rules.specs.declared.PositionLimits.{PositionLimits}
 
 -- [D48]

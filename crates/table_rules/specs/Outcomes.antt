@@ -6,7 +6,7 @@ use Prim.Native.Nat.{ℕ}
 use lib.Dec.{eqb}
 use lib.ListN.{length}
 use Rattle.lists.specs.Answer.{unlessRefused}
-use Rattle.registers.specs.Registers.{tableSize}
+use Rattle.table_registers.specs.Registers.{tableSize}
 use Rattle.table_rules.specs.declared.Outcome.{Outcome}
 use Rattle.table_rules.specs.declared.Outcome.the-variants.{Done, DataRange, DataLength, DataLimit, NoAccess, NotTable}
 use Rattle.table_rules.specs.declared.Change.{Change}

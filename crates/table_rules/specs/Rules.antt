@@ -9,8 +9,8 @@ use lib.ListN.{length, getD}
 use lib.Signed.{leZ}
 use Rattle.lists.specs.Answer.{firstFailing}
 use Rattle.lists.specs.Write.{placed}
-use Rattle.registers.specs.Registers.{Register, registers, endOf, everyByte, torqueEnable, minPosition, maxPosition, goalPosition}
-use Rattle.items.specs.Items.{valueOf, valueInRange}
+use Rattle.table_registers.specs.Registers.{Register, registers, endOf, everyByte, torqueEnable, minPosition, maxPosition, goalPosition}
+use Rattle.table_items.specs.Items.{valueOf, valueInRange}
 
 -- the n bytes from `a` on have a byte of the register [T9]
 abbrev pub touches : ℕ → ℕ → Register → Bool

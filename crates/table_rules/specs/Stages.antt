@@ -5,8 +5,8 @@ use mathlib.Core.Option.{Option}
 use Prim.Native.Nat.{ℕ, _+_}
 use lib.Dec.{leb, ltb}
 use Rattle.lists.specs.Answer.{firstFailing}
-use Rattle.registers.specs.Registers.{registers}
-use Rattle.items.specs.Items.{valueInRange}
+use Rattle.table_registers.specs.Registers.{registers}
+use Rattle.table_items.specs.Items.{valueInRange}
 use Rattle.table_rules.specs.Rules.{covers, everyTouched}
 
 -- the n bytes from `address` on have all four bytes of the item at a, or none of them

@@ -1,26 +1,26 @@
 // The write rule: a write is judged whole, on the table as it would then stand. And what becomes of a read or a write.
-use items::SIGNED_BYTES;
-use registers::PERMITS_RAM_WRITE;
-use registers::PERMITS_ROM_WRITE;
-use registers::REG_GOAL_POSITION;
-use registers::REG_MAX_POSITION;
-use registers::REG_MIN_POSITION;
-use registers::REG_TORQUE_ENABLE;
-use registers::Row;
-use registers::SIZE_GOAL_POSITION;
-use registers::SIZE_MAX_POSITION;
-use registers::SIZE_MIN_POSITION;
-use registers::TABLE_BYTES;
+use table_items::SIGNED_BYTES;
+use table_registers::PERMITS_RAM_WRITE;
+use table_registers::PERMITS_ROM_WRITE;
+use table_registers::REG_GOAL_POSITION;
+use table_registers::REG_MAX_POSITION;
+use table_registers::REG_MIN_POSITION;
+use table_registers::REG_TORQUE_ENABLE;
+use table_registers::Row;
+use table_registers::SIZE_GOAL_POSITION;
+use table_registers::SIZE_MAX_POSITION;
+use table_registers::SIZE_MIN_POSITION;
+use table_registers::TABLE_BYTES;
 ghost use mathlib.Core.Path.{_≡_};
 ghost use mathlib.Core.Bool.{_&&_, true};
 ghost use Prim.Native.Nat.{_+_, _≤_, _<_};
 ghost use lib.Dec.{leb, ltb};
 ghost use lib.ListN.{length};
 ghost use lib.Signed.{leZ};
-ghost use Rattle.registers.specs.Registers.{registers, tableSize, everyByte};
-ghost use Rattle.registers.specs.Rows.{oneOrFour};
+ghost use Rattle.table_registers.specs.Registers.{registers, tableSize, everyByte};
+ghost use Rattle.table_registers.specs.Rows.{oneOrFour};
 ghost use Rattle.lists.specs.Numbers.{numberAt};
-ghost use Rattle.items.specs.Items.{signed, valueAt};
+ghost use Rattle.table_items.specs.Items.{signed, valueAt};
 ghost use Rattle.table_rules.specs.Rules.{covers, everyTouched, leastToWrite, touchesLimits, limitsKept, stored, writeRule};
 ghost use Rattle.table_rules.specs.Outcomes.{isDone, refusalOf, inTable};
 ghost use Rattle.table_rules.specs.Limits.{limitsIn};
@@ -60,7 +60,7 @@ fn signed_at(bytes: &[u8], k: usize) -> i32
     requires { ⌜ k + 4 ≤ length (now bytes) ⌝ }
     ensures { λ r. ⌜ r ≡ signed (numberAt (now (bytes .entry)) k 4) ⌝ }
 {
-    items::signed_of(bytes[k], bytes[k + 1], bytes[k + 2], bytes[k + 3])
+    table_items::signed_of(bytes[k], bytes[k + 1], bytes[k + 2], bytes[k + 3])
 }
 
 // The item of four bytes at `a` as the write would leave it. The write has all its bytes or none.
@@ -120,9 +120,9 @@ fn in_range(bytes: &[u8], k: usize, row: Row) -> bool
     let low = row.low;
     let high = row.high;
     if row.bytes == SIGNED_BYTES {
-        return items::within(signed_at(bytes, k), low, high);
+        return table_items::within(signed_at(bytes, k), low, high);
     }
-    items::within(bytes[k] as i32, low, high)
+    table_items::within(bytes[k] as i32, low, high)
 }
 
 // The stages that go by items, in one walk over the touched registers: an item that is covered in part comes before any value
@@ -136,7 +136,7 @@ fn judge_items(table: &[u8], address: usize, bytes: &[u8]) -> Outcome
     let mut good = true;
     let mut a = address;
     while a < end {
-        let row = registers::register_at(a);
+        let row = table_registers::register_at(a);
         if !covered(row.start, row.bytes, address, end) {
             return Outcome::DataLength;
         }
@@ -178,7 +178,7 @@ fn limits_kept(table: &[u8], address: usize, bytes: &[u8]) -> bool
     let goal = word_after(table, address, bytes, REG_GOAL_POSITION);
     let min = word_after(table, address, bytes, REG_MIN_POSITION);
     let max = word_after(table, address, bytes, REG_MAX_POSITION);
-    items::within(goal, min, max)
+    table_items::within(goal, min, max)
 }
 
 // What each touched byte has to permit: while torque is on, no byte of ROM is written.
@@ -204,7 +204,7 @@ pub fn judge(table: &[u8], address: u16, bytes: &[u8]) -> Outcome
         return Outcome::DataLength;
     }
     let at = address as usize;
-    if !registers::every_byte(least_to_write(table), at, bytes.len()) {
+    if !table_registers::every_byte(least_to_write(table), at, bytes.len()) {
         return Outcome::NoAccess;
     }
     let items = judge_items(table, at, bytes);

@@ -7,13 +7,13 @@
 // Reading stops at a record that is cut short or of another form. The last line, `end BYTES`, has the count of bytes before it.
 // Before the first device the control table is all 0.
 use device::Replied;
-use framer::Step;
-use framer::StepEvent;
-use instructions::RegisteredWrite;
+use device_instructions::RegisteredWrite;
+use device_status::Reply;
+use device_status::Written;
 use libc::STDIN_FILENO;
 use libc::STDOUT_FILENO;
-use status::Reply;
-use status::Written;
+use reader_core::Step;
+use reader_core::StepEvent;
 use stuffing::Unstuffed;
 ghost use Prim.Native.Nat.{_≤_};
 
@@ -106,7 +106,7 @@ fn print_refusal() {
 fn print_reply(reply: Reply) {
     let mut out = [0u8; 32];
     let slot = reply.slot;
-    match status::send(reply, &mut out) {
+    match device_status::send(reply, &mut out) {
         Written::Count(n) => {
             if n == 0 {
                 print_silence();
@@ -153,7 +153,7 @@ fn print_changes(before: &[u8; 136], after: &[u8; 136]) {
 fn answer(
     table: &mut [u8; 136],
     registered: RegisteredWrite,
-    heard: reactions::Heard,
+    heard: device_dispatch::Heard,
     id: u8,
     body: &[u8],
 ) -> RegisteredWrite {
@@ -186,7 +186,7 @@ fn hear_packet(
     let n = unstuffed(packet::unstuff(found, &mut body));
     let part = first(&body, n);
     print_packet(id, part);
-    let heard = reactions::Heard::Packet;
+    let heard = device_dispatch::Heard::Packet;
     answer(table, registered, heard, id, part)
 }
 
@@ -196,7 +196,7 @@ fn hear_bad_checksum(
     id: u8,
 ) -> RegisteredWrite {
     print_bad_checksum(id);
-    let heard = reactions::Heard::BadChecksum;
+    let heard = device_dispatch::Heard::BadChecksum;
     answer(table, registered, heard, id, b"")
 }
 
@@ -232,9 +232,9 @@ fn next(
     found: &mut [u8; 1031],
 ) -> Step {
     if over {
-        framer::gap_in(held, count, found)
+        reader_core::gap_in(held, count, found)
     } else {
-        framer::feed_in(held, count, rest, found)
+        reader_core::feed_in(held, count, rest, found)
     }
 }
 
@@ -271,8 +271,8 @@ fn hear_segment(
 
 fn new_device(table: &mut [u8; 136], id: u8, low: u8, high: u8) {
     let position = (low as u16) + (high as u16) * 256;
-    control_table::fresh(table);
-    control_table::measure(table, position as i32, 0);
+    table_access::fresh(table);
+    table_access::measure(table, position as i32, 0);
     table[7] = id;
     print_device(id, position as u64);
 }
@@ -295,7 +295,7 @@ fn record(
         if bytes.len() == 3 {
             new_device(table, bytes[0], bytes[1], bytes[2]);
         }
-        instructions::dropped()
+        device_instructions::dropped()
     } else {
         hear_segment(bytes, table, registered)
     }
@@ -303,7 +303,7 @@ fn record(
 
 // Returns the count of bytes in the records that were read.
 fn records(input: &[u8], table: &mut [u8; 136]) -> usize {
-    let mut registered = instructions::dropped();
+    let mut registered = device_instructions::dropped();
     let mut at = 0;
     while 2 <= input.len() - at {
         let n = size(input[at + 1]);

@@ -1,5 +1,5 @@
 use borrow.Author.Tests.{eq-eqb, ne-eqb}
-use Rattle.reactions.specs.Reactions.{ownId}
+use Rattle.device_dispatch.specs.Reactions.{ownId}
 use borrow.Author.Needs.{needs}
 use Rattle.board.proofs.checksum_error.Statement.{statement}
 use Rattle.board.proofs.checksum_error.Tie as tie

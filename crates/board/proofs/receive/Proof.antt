@@ -1,6 +1,6 @@
 use mathlib.Core.Path.{refl, subst}
 use native.Mathlib.Omega.{arith}
-use Rattle.framer.specs.declared.StepEvent.{StepEvent}
+use Rattle.reader_core.specs.declared.StepEvent.{StepEvent}
 use Rattle.device.proofs.Calls.{state-accepted}
 use Rattle.board.specs.Inside.{Fits}
 use Rattle.board.proofs.ByAnswer.{packet-received, wrong-received, none-received, refused-received}

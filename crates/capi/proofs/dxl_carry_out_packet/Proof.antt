@@ -3,7 +3,7 @@ use Rattle.numbers.specs.declared.CarriedNumbers.{CarriedNumbers}
 use Rattle.device_calls.specs.Calls.{stateOf}
 use Rattle.device.proofs.Promises.{device-promises}
 use Rattle.device.proofs.Split.{split}
-use Rattle.exchange.proofs.Promises.{exchange-promises}
+use Rattle.device_packet.proofs.Promises.{exchange-promises}
 use Rattle.device_calls.proofs.Stays.{stays-accepted}
 use Rattle.device_calls.proofs.GoalWithinLimits.{goal-within-limits}
 use Rattle.capi.proofs.Carried.{by-parts}

@@ -1,7 +1,7 @@
 use mathlib.Core.Path.{ap, _∙_}
 use mir.Facts.{toZ-ofZ}
 use mir.Syntax.{w64}
-use Rattle.encoder.proofs.RoundTrip.{round-trip}
+use Rattle.packet_encoder.proofs.RoundTrip.{round-trip}
 use Rattle.numbers.specs.Exported.{exported}
 use borrow.Author.Needs.{needs}
 use Rattle.capi.proofs.dxl_encode.Statement.{statement}

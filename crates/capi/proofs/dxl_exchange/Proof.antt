@@ -1,7 +1,7 @@
 use mathlib.Core.Path.{ap₂, _∙_}
 use Rattle.device_calls.specs.Calls.{stateOf}
 use Rattle.device.proofs.Promises.{device-promises}
-use Rattle.exchange.proofs.Promises.{exchange-promises}
+use Rattle.device_packet.proofs.Promises.{exchange-promises}
 use Rattle.device_calls.proofs.Stays.{stays-accepted}
 use Rattle.device_calls.proofs.GoalWithinLimits.{goal-within-limits}
 use Rattle.cases.proofs.Cases.{cases-hold}

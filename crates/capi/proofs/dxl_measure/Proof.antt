@@ -2,7 +2,7 @@ use mathlib.Core.Path.{ap, _∙_}
 use mir.Facts.{toZ-ofZ}
 use mir.Syntax.{w32, w64}
 use lib.IntN.{ℤ}
-use Rattle.control_table.specs.Answers.{measureOut}
+use Rattle.table_access.specs.Answers.{measureOut}
 use mathlib.Core.List.{List}
 use Prim.Native.Nat.{ℕ}
 use Rattle.device_calls.specs.Calls.{stateOf}

@@ -2,10 +2,10 @@ use mathlib.Core.Path.{ap, _∙_}
 use Prim.Native.Nat.{_≤_}
 use Rattle.numbers.specs.Exported.{nextNumbers}
 use Rattle.packet.proofs.Burst.{burst-detected}
-use Rattle.reader.specs.Records.{heldIn, records}
-use Rattle.protocols.specs.declared.Protocol.the-variants.{Two}
-use Rattle.reader.proofs.Records.{follows}
-use Rattle.plain_reader.proofs.Plain.{plain-promises}
+use Rattle.reader_records.specs.Records.{heldIn, records}
+use Rattle.packet_protocols.specs.declared.Protocol.the-variants.{Two}
+use Rattle.reader_records.proofs.Records.{follows}
+use Rattle.reader_plain.proofs.Plain.{plain-promises}
 use borrow.Author.Needs.{needs}
 use Rattle.capi.proofs.dxl_next_event.Statement.{statement}
 use Rattle.capi.proofs.dxl_next_event.Tie as tie

@@ -47,20 +47,20 @@ use denote.Exit.{yes}
 use borrow.Table.OneValue.{part-in, part-out}
 use Rattle.reading.specs.Calls.{feed, call}
 use Rattle.packet.specs.Verdict.{protocol2}
-use Rattle.protocols.specs.declared.Protocol.the-variants.{Two}
-use Rattle.framer.specs.Results.{stepFor, heldFor, packetFor}
-use Rattle.framer.specs.declared.Step.{Step}
-use Rattle.framer.proofs.Step as R
-use Rattle.framer.proofs.Step.Laws as R′
-use Rattle.framer.proofs.feed_in as feed-in
-use Rattle.framer.proofs.feed_in.Symbol as feed-in-def
-use Rattle.framer.proofs.feed_in.Symbol.{name as #framer·feed-in}
-use Rattle.framer.proofs.feed_in.Met as feed-in-thm
-use Rattle.reader.specs.Records.{stepIn, packetIn}
-use Rattle.reader.specs.declared.Reader.{Reader}
-use Rattle.reader.proofs.Reader as T
-use Rattle.reader.proofs.Reader.Laws as T′
-use Rattle.reader.proofs.Records.{record-left, every-protocol}
+use Rattle.packet_protocols.specs.declared.Protocol.the-variants.{Two}
+use Rattle.reader_core.specs.Results.{stepFor, heldFor, packetFor}
+use Rattle.reader_core.specs.declared.Step.{Step}
+use Rattle.reader_core.proofs.Step as R
+use Rattle.reader_core.proofs.Step.Laws as R′
+use Rattle.reader_core.proofs.feed_in as feed-in
+use Rattle.reader_core.proofs.feed_in.Symbol as feed-in-def
+use Rattle.reader_core.proofs.feed_in.Symbol.{name as #framer·feed-in}
+use Rattle.reader_core.proofs.feed_in.Met as feed-in-thm
+use Rattle.reader_records.specs.Records.{stepIn, packetIn}
+use Rattle.reader_records.specs.declared.Reader.{Reader}
+use Rattle.reader_records.proofs.Reader as T
+use Rattle.reader_records.proofs.Reader.Laws as T′
+use Rattle.reader_records.proofs.Records.{record-left, every-protocol}
 use Rattle.numbers.specs.Exported.{stepNumbers}
 use Rattle.numbers.specs.declared.StepNumbers.{StepNumbers}
 use Rattle.numbers.proofs.StepNumbers as N
@@ -230,5 +230,5 @@ dxl-reader-feed-spec 𝓤 H 𝓜 𝓖 𝓡 =
     entered 𝓤 H (tripleOf 𝓤 H (𝓖 .A) f.signature (f.spec 𝓤 H (𝓖 .A) (𝓜 .mem) (𝓡 .run)))
     (tables 𝓤 H 𝓜 𝓡 code.env .C) (tables 𝓤 H 𝓜 𝓡 code.env .Λ) #capi·dxl-reader-feed code.function (code.unfolded 𝓤 H 𝓜 𝓡)
     (feed-meets 𝓤 H (𝓖 .A) (givenOf 𝓤 H 𝓜 𝓖) (𝓜 .mem) (𝓡 .run) (tablesOf 𝓤 H 𝓜 (tables 𝓤 H 𝓜 𝓡 code.env))
-    (cited 𝓤 H (FeedIn 𝓤 H (𝓖 .A) (𝓜 .mem) (𝓡 .run)) 𝓜 𝓡 code.env #framer·feed-in feed-in-def.routine code.calls-framer·feed-in (feed-in-thm.met 𝓤 H 𝓜 𝓖 𝓡))
+    (cited 𝓤 H (FeedIn 𝓤 H (𝓖 .A) (𝓜 .mem) (𝓡 .run)) 𝓜 𝓡 code.env #framer·feed-in feed-in-def.routine code.calls-reader-core·feed-in (feed-in-thm.met 𝓤 H 𝓜 𝓖 𝓡))
     (cited 𝓤 H (Turned 𝓤 H (𝓖 .A) (𝓜 .mem) (𝓡 .run)) 𝓜 𝓡 code.env #numbers·step step-def.routine code.calls-numbers·step (step-thm.met 𝓤 H 𝓜 𝓖 𝓡)))

@@ -45,20 +45,20 @@ use denote.Triple.Walked.{says, Stays, stay-ref, gave-ref, walkOf, goes-ref, goe
 use borrow.Table.OneValue.{part-in, part-out}
 use Rattle.reading.specs.Calls.{gap, call}
 use Rattle.packet.specs.Verdict.{protocol2}
-use Rattle.protocols.specs.declared.Protocol.the-variants.{Two}
-use Rattle.framer.specs.Results.{stepFor, heldFor, packetFor}
-use Rattle.framer.specs.declared.Step.{Step}
-use Rattle.framer.proofs.Step as R
-use Rattle.framer.proofs.Step.Laws as R′
-use Rattle.framer.proofs.gap_in as gap-in
-use Rattle.framer.proofs.gap_in.Symbol as gap-in-def
-use Rattle.framer.proofs.gap_in.Symbol.{name as #framer·gap-in}
-use Rattle.framer.proofs.gap_in.Met as gap-in-thm
-use Rattle.reader.specs.Records.{stepIn, packetIn}
-use Rattle.reader.specs.declared.Reader.{Reader}
-use Rattle.reader.proofs.Reader as T
-use Rattle.reader.proofs.Reader.Laws as T′
-use Rattle.reader.proofs.Records.{record-left, every-protocol}
+use Rattle.packet_protocols.specs.declared.Protocol.the-variants.{Two}
+use Rattle.reader_core.specs.Results.{stepFor, heldFor, packetFor}
+use Rattle.reader_core.specs.declared.Step.{Step}
+use Rattle.reader_core.proofs.Step as R
+use Rattle.reader_core.proofs.Step.Laws as R′
+use Rattle.reader_core.proofs.gap_in as gap-in
+use Rattle.reader_core.proofs.gap_in.Symbol as gap-in-def
+use Rattle.reader_core.proofs.gap_in.Symbol.{name as #framer·gap-in}
+use Rattle.reader_core.proofs.gap_in.Met as gap-in-thm
+use Rattle.reader_records.specs.Records.{stepIn, packetIn}
+use Rattle.reader_records.specs.declared.Reader.{Reader}
+use Rattle.reader_records.proofs.Reader as T
+use Rattle.reader_records.proofs.Reader.Laws as T′
+use Rattle.reader_records.proofs.Records.{record-left, every-protocol}
 use Rattle.numbers.specs.Exported.{stepNumbers}
 use Rattle.numbers.specs.declared.StepNumbers.{StepNumbers}
 use Rattle.numbers.proofs.StepNumbers as N
@@ -220,5 +220,5 @@ dxl-reader-gap-spec 𝓤 H 𝓜 𝓖 𝓡 =
     entered 𝓤 H (tripleOf 𝓤 H (𝓖 .A) f.signature (f.spec 𝓤 H (𝓖 .A) (𝓜 .mem) (𝓡 .run)))
     (tables 𝓤 H 𝓜 𝓡 code.env .C) (tables 𝓤 H 𝓜 𝓡 code.env .Λ) #capi·dxl-reader-gap code.function (code.unfolded 𝓤 H 𝓜 𝓡)
     (gap-meets 𝓤 H (𝓖 .A) (givenOf 𝓤 H 𝓜 𝓖) (𝓜 .mem) (𝓡 .run) (tablesOf 𝓤 H 𝓜 (tables 𝓤 H 𝓜 𝓡 code.env))
-    (cited 𝓤 H (GapIn 𝓤 H (𝓖 .A) (𝓜 .mem) (𝓡 .run)) 𝓜 𝓡 code.env #framer·gap-in gap-in-def.routine code.calls-framer·gap-in (gap-in-thm.met 𝓤 H 𝓜 𝓖 𝓡))
+    (cited 𝓤 H (GapIn 𝓤 H (𝓖 .A) (𝓜 .mem) (𝓡 .run)) 𝓜 𝓡 code.env #framer·gap-in gap-in-def.routine code.calls-reader-core·gap-in (gap-in-thm.met 𝓤 H 𝓜 𝓖 𝓡))
     (cited 𝓤 H (Turned 𝓤 H (𝓖 .A) (𝓜 .mem) (𝓡 .run)) 𝓜 𝓡 code.env #numbers·step step-def.routine code.calls-numbers·step (step-thm.met 𝓤 H 𝓜 𝓖 𝓡)))

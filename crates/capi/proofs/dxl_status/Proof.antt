@@ -1,7 +1,7 @@
 use mathlib.Core.Path.{ap, _∙_}
 use mir.Facts.{toZ-ofZ}
 use mir.Syntax.{w64}
-use Rattle.status.proofs.Sent.{reply-written}
+use Rattle.device_status.proofs.Sent.{reply-written}
 use Rattle.device.proofs.Split.{split}
 use Rattle.numbers.specs.Exported.{exported}
 use borrow.Author.Needs.{needs}

@@ -1,7 +1,7 @@
 use mathlib.Core.Path.{refl, ap, _∙_}
 use mathlib.Core.Logic.{⊎-elim}
 use Rattle.lists.proofs.Bools.{both-ways}
-use Rattle.status.specs.declared.Reply.{Reply}
+use Rattle.device_status.specs.declared.Reply.{Reply}
 use Rattle.device.specs.Device.{Carried}
 use Rattle.device.specs.Results.{carriedOf}
 use Rattle.device.specs.declared.Replied.the-variants.{Sent}

@@ -3,14 +3,14 @@ use mathlib.Core.List.{List}
 use Prim.Native.Nat.{ℕ}
 use native.Mathlib.Omega.{arith}
 use lib.ListN.{getD}
-use Rattle.instructions.specs.declared.Done.{Done}
-use Rattle.reply_rules.specs.declared.Reacted.{Reacted}
-use Rattle.status.specs.declared.Reply.{Reply}
-use Rattle.reactions.specs.Reactions.{Reaction, reaction}
-use Rattle.reply_rules.specs.Results.{reactedOf}
+use Rattle.device_instructions.specs.declared.Done.{Done}
+use Rattle.device_replies.specs.declared.Reacted.{Reacted}
+use Rattle.device_status.specs.declared.Reply.{Reply}
+use Rattle.device_dispatch.specs.Reactions.{Reaction, reaction}
+use Rattle.device_replies.specs.Results.{reactedOf}
 use Rattle.device.specs.Device.{replyBy}
 use Rattle.device.specs.Results.{replyTo}
-use Rattle.reply_rules.proofs.Sized.{reaction-of-size, reacted-done}
+use Rattle.device_replies.proofs.Sized.{reaction-of-size, reacted-done}
 use Rattle.device.specs.declared.Replied.the-variants.{Sent}
 use Rattle.device.proofs.Bounds.{reaction-small}
 use Rattle.device.proofs.Replies.{reply-of}

@@ -2,8 +2,8 @@ use mathlib.Core.Path.{_≡_, ap, _∙_}
 use mathlib.Core.List.{[], _∷_}
 use native.Mathlib.Omega.{arith}
 use types.Run.{miss}
-use Rattle.status.specs.Sending.{statusAnswer, statusOut}
-use Rattle.status.specs.declared.Reply.{Reply}
+use Rattle.device_status.specs.Sending.{statusAnswer, statusOut}
+use Rattle.device_status.specs.declared.Reply.{Reply}
 use Rattle.device.specs.Answers.{withSlot, stateRefusal}
 use Rattle.device.specs.Split.{SameAsOne}
 use Rattle.device.proofs.Calls.{fault-told, no-fault, short-refused}

@@ -1,6 +1,6 @@
 use mathlib.Core.Path.{sym, ap}
-use Rattle.status.specs.Sending.{writtenAnswer}
-use Rattle.status.specs.declared.Written.{Written}
+use Rattle.device_status.specs.Sending.{writtenAnswer}
+use Rattle.device_status.specs.declared.Written.{Written}
 use Rattle.device.specs.Answers.{withSlot}
 use borrow.Author.Needs.{needs}
 use Rattle.device.proofs.with_slot.Statement.{statement}

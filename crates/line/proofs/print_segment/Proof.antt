@@ -2,10 +2,10 @@ use mathlib.Core.Path.{_≡_, sym, subst, _∙_}
 use Prim.Native.Nat.{_-_}
 use native.Mathlib.Omega.{arith}
 use lib.ListN.{length}
-use Rattle.plain_reader.specs.declared.Next.{Next}
-use Rattle.plain_reader.specs.declared.Next.the-variants.{Packet}
-use Rattle.plain_reader.specs.Plain.{Within}
-use Rattle.plain_reader.proofs.Plain.{within}
+use Rattle.reader_plain.specs.declared.Next.{Next}
+use Rattle.reader_plain.specs.declared.Next.the-variants.{Packet}
+use Rattle.reader_plain.specs.Plain.{Within}
+use Rattle.reader_plain.proofs.Plain.{within}
 use borrow.Author.Needs.{needs}
 use Rattle.line.proofs.print_segment.Statement.{statement}
 use Rattle.line.proofs.print_segment.Tie as tie

@@ -2,7 +2,7 @@ use mathlib.Core.Path.{_≡_, refl, sym, ap, _∙_}
 use Prim.Native.Nat.{_-_}
 use native.Mathlib.Omega.{arith}
 use lib.ListN.{length}
-use Rattle.plain_reader.proofs.Left.{left}
+use Rattle.reader_plain.proofs.Left.{left}
 use Rattle.log_index.specs.Last.{lastPacket}
 use Rattle.log_index.specs.Marks.{offsetOf}
 use Rattle.log_index.proofs.Turns.{orElse, last-start, packet-less, last-here, last-other, bad-less, last-bad, last-end}

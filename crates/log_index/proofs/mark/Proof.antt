@@ -2,7 +2,7 @@ use mathlib.Core.Path.{_≡_, refl, sym, ap, _∙_}
 use Prim.Native.Nat.{_-_}
 use native.Mathlib.Omega.{arith}
 use lib.ListN.{length}
-use Rattle.plain_reader.proofs.Left.{left}
+use Rattle.reader_plain.proofs.Left.{left}
 use Rattle.log_index.specs.Marks.{marked}
 use Rattle.log_index.proofs.Turns.{packet-less, mark-packet, bad-less, mark-bad, mark-end, all-left}
 use Rattle.log_index.proofs.Marks.{place-within}

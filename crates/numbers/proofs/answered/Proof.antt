@@ -1,7 +1,7 @@
 use mathlib.Core.Path.{_≡_, sym, ap, _∙_}
-use Rattle.instructions.specs.declared.RegisteredWrite.{RegisteredWrite}
-use Rattle.exchange.specs.declared.Exchanged.{Exchanged}
-use Rattle.exchange.specs.Exchange.{exchangedAnswer}
+use Rattle.device_instructions.specs.declared.RegisteredWrite.{RegisteredWrite}
+use Rattle.device_packet.specs.declared.Exchanged.{Exchanged}
+use Rattle.device_packet.specs.Exchange.{exchangedAnswer}
 use Rattle.numbers.specs.Exported.{deviceNumbers}
 use borrow.Author.Needs.{needs}
 use Rattle.numbers.proofs.answered.Statement.{statement}

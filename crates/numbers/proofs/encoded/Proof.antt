@@ -1,8 +1,8 @@
 use mathlib.Core.Path.{_≡_, sym, ap, _∙_}
 use mir.Facts.{toZ-ofZ}
 use mir.Syntax.{w64}
-use Rattle.encoder.specs.declared.Encoded.{Encoded}
-use Rattle.encoder.specs.Encoding.{encodedAnswer}
+use Rattle.packet_encoder.specs.declared.Encoded.{Encoded}
+use Rattle.packet_encoder.specs.Encoding.{encodedAnswer}
 use Rattle.numbers.specs.Exported.{exported}
 use borrow.Author.Needs.{needs}
 use Rattle.numbers.proofs.encoded.Statement.{statement}

@@ -1,8 +1,8 @@
 use mathlib.Core.Path.{_≡_, sym, ap, _∙_}
 use mir.Facts.{toZ-ofZ}
 use mir.Syntax.{w64}
-use Rattle.exchange.specs.declared.Exchanged.{Exchanged}
-use Rattle.exchange.specs.Exchange.{exchangedAnswer}
+use Rattle.device_packet.specs.declared.Exchanged.{Exchanged}
+use Rattle.device_packet.specs.Exchange.{exchangedAnswer}
 use Rattle.numbers.specs.Exported.{refusalNumber}
 use borrow.Author.Needs.{needs}
 use Rattle.numbers.proofs.exchanged_refusal.Statement.{statement}

@@ -5,7 +5,7 @@ use Prim.Native.Nat.{ℕ}
 use lib.IntN.{ℤ}
 use Rattle.numbers.specs.declared.DeviceNumbers.{DeviceNumbers}
 use Rattle.device.specs.declared.Replied.{Replied}
-use Rattle.instructions.specs.declared.RegisteredWrite.{RegisteredWrite}
+use Rattle.device_instructions.specs.declared.RegisteredWrite.{RegisteredWrite}
 use Rattle.device.specs.Answers.{repliedAnswer}
 use Rattle.numbers.specs.Exported.{deviceNumbers}
 use borrow.Author.Needs.{needs}

@@ -1,8 +1,8 @@
 use mathlib.Core.Path.{_≡_, sym, ap, _∙_}
 use mir.Facts.{toZ-ofZ}
 use mir.Syntax.{w64}
-use Rattle.status.specs.declared.Written.{Written}
-use Rattle.status.specs.Sending.{writtenAnswer}
+use Rattle.device_status.specs.declared.Written.{Written}
+use Rattle.device_status.specs.Sending.{writtenAnswer}
 use Rattle.numbers.specs.Exported.{exported}
 use borrow.Author.Needs.{needs}
 use Rattle.numbers.proofs.written.Statement.{statement}

@@ -8,7 +8,7 @@ use mir.Val.{toZ, ofZ}
 use mir.Facts.{toZ-ofZ}
 use Rattle.lists.specs.Write.{overwritten}
 use Rattle.lists.proofs.Write.{tail-placed}
-use Rattle.items.specs.Items.{unsigned}
+use Rattle.table_items.specs.Items.{unsigned}
 use Rattle.plan.specs.Planner.{entryBytes}
 use lib.ListN.{length, getD, length-take, length-drop}
 use mathlib.Core.Path.{_≡_, ap, _∙_}

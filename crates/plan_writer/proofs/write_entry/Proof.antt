@@ -4,7 +4,7 @@ use Prim.Native.Nat.{ℕ}
 use mir.Facts.{toZ-ofZ}
 use Rattle.lists.specs.Write.{overwritten}
 use Rattle.lists.specs.Numbers.{bytesOf}
-use Rattle.items.specs.Items.{unsigned}
+use Rattle.table_items.specs.Items.{unsigned}
 use native.Mathlib.Omega.{arith}
 use lib.ListN.{length-set}
 use Rattle.plan_writer.proofs.Writing.{set-five}

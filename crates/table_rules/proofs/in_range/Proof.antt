@@ -7,7 +7,7 @@ use mir.Syntax.{w32}
 use mir.Facts.{toZ-ofZ}
 use native.Mathlib.Omega.{arith}
 use borrow.Author.Needs.{needs}
-use Rattle.items.proofs.Signed.{small, value-word, value-byte, one-byte}
+use Rattle.table_items.proofs.Signed.{small, value-word, value-byte, one-byte}
 use Rattle.table_rules.proofs.in_range.Statement.{statement}
 use Rattle.table_rules.proofs.in_range.Tie as tie
 

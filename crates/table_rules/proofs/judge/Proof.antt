@@ -5,8 +5,8 @@ use Prim.Native.Nat.{ℕ, _+_, _≤_}
 use native.Mathlib.Omega.{arith}
 use lib.ListN.{length}
 use borrow.Author.Tests.{not-true, not-false}
-use Rattle.registers.specs.Registers.{registers, everyByte}
-use Rattle.registers.proofs.Permits.{every-inside, every-weaker}
+use Rattle.table_registers.specs.Registers.{registers, everyByte}
+use Rattle.table_registers.proofs.Permits.{every-inside, every-weaker}
 use Rattle.table_rules.specs.Rules.{covers, everyTouched, leastToWrite, limitsKept, stored, writeRule}
 use Rattle.table_rules.specs.Outcomes.{inTable}
 use Rattle.table_rules.proofs.Judged.{least-two, least-some, items-covered, not-table, no-data, no-access, by-items, by-limits}

@@ -10,12 +10,12 @@ use lib.Signed.{leZ}
 use borrow.Author.Needs.{needs}
 use borrow.Author.Tests.{leb-true, not-true, not-false}
 use Rattle.lists.proofs.Bools.{and-left, and-right}
-use Rattle.registers.specs.Registers.{Register, Access, readOnly, readWrite, Area, registers, endOf, grant, permits}
-use Rattle.registers.specs.Rows.{lowest, highest, rowOf, oneOrFour}
-use Rattle.registers.specs.declared.Row.{Row}
-use Rattle.registers.proofs.Rows.{nth, place, place-inside, own-grant, ends, found-row, found-inside, nth-bytes}
-use Rattle.registers.proofs.Permits.{every-at}
-use Rattle.items.specs.Items.{valueAt, inRange, valueInRange}
+use Rattle.table_registers.specs.Registers.{Register, Access, readOnly, readWrite, Area, registers, endOf, grant, permits}
+use Rattle.table_registers.specs.Rows.{lowest, highest, rowOf, oneOrFour}
+use Rattle.table_registers.specs.declared.Row.{Row}
+use Rattle.table_registers.proofs.Rows.{nth, place, place-inside, own-grant, ends, found-row, found-inside, nth-bytes}
+use Rattle.table_registers.proofs.Permits.{every-at}
+use Rattle.table_items.specs.Items.{valueAt, inRange, valueInRange}
 use Rattle.table_rules.specs.Rules.{stored, covers, everyTouched}
 use Rattle.table_rules.specs.Stages.{itemsRule}
 use Rattle.table_rules.proofs.Walks.{Border, border-done, border, walk-failed, walk-passed}

@@ -3,7 +3,7 @@ use lib.IntN.{ℤ}
 use mir.Syntax.{w32}
 use mir.Facts.{toZ-ofZ}
 use borrow.Author.Tests.{eq-eqb, ne-eqb}
-use Rattle.items.specs.Items.{valueAt}
+use Rattle.table_items.specs.Items.{valueAt}
 use Rattle.table_rules.specs.declared.PositionLimits.{PositionLimits}
 use borrow.Author.Needs.{needs}
 use Rattle.table_rules.proofs.limits_in.Statement.{statement}

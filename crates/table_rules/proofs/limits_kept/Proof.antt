@@ -3,9 +3,9 @@ use mir.Syntax.{w32}
 use mir.Facts.{toZ-ofZ}
 use borrow.Author.Tests.{not-true, not-false}
 use native.Mathlib.Omega.{arith}
-use Rattle.registers.specs.Registers.{registers, maxPosition, minPosition, goalPosition}
-use Rattle.registers.proofs.Rows.{placeIn, placeOf}
-use Rattle.items.specs.Items.{valueAt}
+use Rattle.table_registers.specs.Registers.{registers, maxPosition, minPosition, goalPosition}
+use Rattle.table_registers.proofs.Rows.{placeIn, placeOf}
+use Rattle.table_items.specs.Items.{valueAt}
 use Rattle.table_rules.specs.Rules.{covers, goalInside, limitsKept}
 use Rattle.table_rules.proofs.Walks.{each}
 use borrow.Author.Needs.{needs}

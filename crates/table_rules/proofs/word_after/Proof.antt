@@ -5,7 +5,7 @@ use mir.Facts.{toZ-ofZ}
 use native.Mathlib.Omega.{arith}
 use borrow.Author.Needs.{needs}
 use Rattle.lists.specs.Numbers.{numberAt}
-use Rattle.items.specs.Items.{signed}
+use Rattle.table_items.specs.Items.{signed}
 use Rattle.table_rules.specs.Rules.{stored}
 use Rattle.table_rules.proofs.Walks.{whole-before, whole-inside}
 use Rattle.table_rules.proofs.Stored.{number-at, number-before, number-after}

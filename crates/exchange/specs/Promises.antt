@@ -1,7 +1,0 @@
--- What the calls on a packet as received keep to, over all calls.
-use Rattle.exchange.specs.AsDevice.{AsDevice}
-use Rattle.exchange.specs.OnlyPackets.{OnlyPackets}
-
-pub record ExchangePromises : Type 0 where
-  pub as-device : AsDevice
-  pub only-packets : OnlyPackets

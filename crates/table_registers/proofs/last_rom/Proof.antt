@@ -1,0 +1,69 @@
+use mathlib.Core.Path.{_∙_}
+use native.Mathlib.Omega.{arith}
+use borrow.Author.Needs.{needs}
+use Rattle.table_registers.specs.Registers.{registers, homingOffset, maxPosition, minPosition}
+use Rattle.table_registers.proofs.Rows.{placeIn, placeOf, own-row, none-from}
+use Rattle.table_registers.proofs.last_rom.Statement.{statement}
+use Rattle.table_registers.proofs.last_rom.Tie as tie
+
+add-if1 : tie.Need-add-if1
+add-if1 c = search needs
+
+in-rom-requires : tie.Need-in-rom-requires
+in-rom-requires c κs = search needs
+
+returns : tie.Need-returns
+unfolding registers placeIn
+returns c = c .in-rom .ensures ∙ own-row (placeOf homingOffset) (omega arith) _ (omega arith) (omega arith)
+
+undefined-requires : tie.Need-undefined-requires
+undefined-requires c κs = search needs
+
+returns-2 : tie.Need-returns-2
+unfolding registers placeIn
+returns-2 c = c .undefined .ensures ∙ none-from 24 24 tt _ (omega arith) (omega arith)
+
+add-if3 : tie.Need-add-if3
+add-if3 c = search needs
+
+in-rom-requires-2 : tie.Need-in-rom-requires-2
+in-rom-requires-2 c κs = search needs
+
+returns-3 : tie.Need-returns-3
+unfolding registers placeIn
+returns-3 c = c .in-rom2 .ensures ∙ own-row (placeOf maxPosition) (omega arith) _ (omega arith) (omega arith)
+
+add-if4 : tie.Need-add-if4
+add-if4 c = search needs
+
+in-rom-requires-3 : tie.Need-in-rom-requires-3
+in-rom-requires-3 c κs = search needs
+
+returns-4 : tie.Need-returns-4
+unfolding registers placeIn
+returns-4 c = c .in-rom3 .ensures ∙ own-row (placeOf minPosition) (omega arith) _ (omega arith) (omega arith)
+
+undefined-requires-2 : tie.Need-undefined-requires-2
+undefined-requires-2 c κs = search needs
+
+returns-5 : tie.Need-returns-5
+unfolding registers placeIn
+returns-5 c = c .undefined2 .ensures ∙ none-from 56 8 tt _ (omega arith) (omega arith)
+
+pub last-rom-spec : {M : Type 1} → statement M
+last-rom-spec =
+    tie.close
+    (tie.spec
+    add-if1
+    in-rom-requires
+    returns
+    undefined-requires
+    returns-2
+    add-if3
+    in-rom-requires-2
+    returns-3
+    add-if4
+    in-rom-requires-3
+    returns-4
+    undefined-requires-2
+    returns-5)

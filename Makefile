@@ -9,6 +9,8 @@ SHELL := /bin/sh
 .PHONY: fuzz_program replay_file
 
 comma := ,
+# make TMPDIR=DIR puts temporary files elsewhere.
+export TMPDIR := $(shell sh tools/tmp.sh)
 
 # Each crate of crates.txt whose name begins with capi is an object of libmednukals.a; capi_test alone is libmednukals_test.a.
 EXPORT_CRATES := $(shell sed -n 's/^\(capi[a-z0-9_]*\):.*/\1/p' crates.txt)

@@ -8,6 +8,9 @@ Of what `rt ci` prints, a line for each crate is shown, one for each crate's edi
 all of it. Its last line, the count, comes last here too, when the tests have passed.
 
 The archives are made in a folder outside the repository, from a copy: the command's own target/ is only read.
+
+`rt` runs as many checks at a time as RT_JOBS says and waits for all of them before it starts the next ones; with two for each core
+no core waits for a long one.
 """
 import os
 import re
@@ -32,6 +35,7 @@ MADE = [f"build/lib/{archive}" for archive in (FIRMWARE, FOR_TESTS)] + [f"build/
 OTHERS = [Path(f"build/lib/libmednukals_{leaf}.a") for leaf in ("small", "fold")]  # those of an earlier run say nothing of this tree
 LINKED = Path("build/c")  # likewise, and make would not link them anew: to it the archives are old
 MOST_LINES, MOST_CHARACTERS = 40, 500  # of what a failed proof says
+CHECKS = str(2 * (os.cpu_count() or 1))  # at a time
 
 
 def say(label, seconds):
@@ -63,12 +67,12 @@ def linked(room):
 class Tests(threading.Thread):
     """The tests beside the command. `fault` is empty where they have passed; at a fault the command is ended."""
 
-    def __init__(self, command):
+    def __init__(self, command, temporary):
         super().__init__()
-        self.command, self.fault = command, "they did not run"
+        self.command, self.temporary, self.fault = command, temporary, "they did not run"
 
     def run(self):
-        with tempfile.TemporaryDirectory(prefix="mednukals-") as room:
+        with tempfile.TemporaryDirectory(dir=self.temporary) as room:
             self.fault = linked(Path(room))
         if not self.fault:
             self.fault = self.targets()
@@ -82,7 +86,7 @@ class Tests(threading.Thread):
             archive.unlink(missing_ok=True)
         shutil.rmtree(LINKED, ignore_errors=True)
         make = subprocess.Popen(["make", "--no-print-directory", *old, *TESTS], stdout=subprocess.PIPE, stderr=subprocess.STDOUT,
-                                text=True, env={**os.environ, "RT_JOBS": "1"})  # leaf_test proves crates
+                                text=True, env={**os.environ, "RT_JOBS": "1", "TMPDIR": self.temporary})  # leaf_test proves crates
         for line in make.stdout:
             print(line, end="", flush=True)
         return "a test" if make.wait() != 0 else ""
@@ -151,10 +155,12 @@ def hand_on(command, tests):
     return held
 
 
-def main():
+def gate(temporary):
+    """Command and tests, whose temporary files lie in that folder."""
     began = time.monotonic()
-    command = subprocess.Popen(sys.argv[1:], stdout=subprocess.PIPE, stderr=subprocess.STDOUT, text=True, start_new_session=True)
-    tests = Tests(command)
+    command = subprocess.Popen(sys.argv[1:], stdout=subprocess.PIPE, stderr=subprocess.STDOUT, text=True, start_new_session=True,
+                               env={"RT_JOBS": CHECKS, **os.environ, "TMPDIR": temporary})
+    tests = Tests(command, temporary)
     try:
         last = hand_on(command, tests)
     finally:
@@ -170,6 +176,11 @@ def main():
     say("proofs, edits and tests, together", round(time.monotonic() - began))
     print(last, end="", flush=True)
     return status
+
+
+def main():
+    with tempfile.TemporaryDirectory(prefix="mednukals-", ignore_cleanup_errors=True) as temporary:
+        return gate(temporary)
 
 
 if __name__ == "__main__":

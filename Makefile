@@ -1,9 +1,7 @@
 # The gate is `make test`. What rt proves and builds lies under target/, which `rt ci` removes; what is kept lies under build/.
-#
-# A further command: `TARGET: WHAT IT BUILDS ON ## TEXT` in its group, a line `#- VARIABLE=VALUE TEXT` for each variable that it takes,
-# and what it needs among TOOLS. `make help` prints the texts. A test joins the gate by its name in TESTS of tests/gate.py.
-# A further program in C: `build/c/NAME: SOURCES ARCHIVES`, and its flags where they differ; see PROGRAMS IN C.
-SHELL := /bin/sh
+# To add a command: `TARGET: WHAT IT TAKES ## TEXT` in its group, with a line `#- VARIABLE=VALUE TEXT` for each of its variables, and
+# its tools under 'Tools'. `make help` prints the texts. A test joins the gate by its name in TESTS of tests/gate.py.
+# To add a program in C: `build/c/NAME: SOURCES ARCHIVES` under 'Programs in C', and its flags where they differ.
 .DEFAULT_GOAL := help
 .SUFFIXES:
 .DELETE_ON_ERROR:
@@ -24,23 +22,22 @@ OVER := $(LEAF:%=_%)
 $(if $(filter-out $(LEAVES),$(LEAF)),$(error mednukals: LEAF=$(LEAF): only $(LEAVES:%=LEAF=%) are known))
 $(if $(LEAF),$(if $(filter-out lib bench counts memory,$(MAKECMDGOALS)),$(error mednukals: LEAF is for make lib, make bench, make counts and make memory)))
 
-# Each crate of crates.txt whose name begins with capi is an object of libmednukals.a; capi_test alone is libmednukals_test.a.
-EXPORT_CRATES := $(shell sed -n 's/^\(capi[a-z0-9_]*\):.*/\1/p' crates.txt)
 # Folders stand in the list too, so that a file added or removed counts as a change.
 SOURCES := crates.txt $(shell find crates -path '*/must-fail' -prune -o -print)
 
 CC := gcc
 CXX := g++
-WARNINGS := -std=c99 -Wall -Wextra -Wpedantic -Werror
-CXX_WARNINGS := -std=c++11 -Wall -Wextra -Wpedantic -Werror
+WARNINGS := -Wall -Wextra -Wpedantic -Werror
+C99 = $(CC) -std=c99 $(WARNINGS)
+CXX11 = $(CXX) -std=c++11 $(WARNINGS)
 
 # $(STEP) NAME LABEL COMMAND: one line with its time, and the command's output in build/log/NAME.log
 STEP := sh tools/step.sh
 # COMMAND || $(call failed,WHAT)
 failed = { echo "mednukals: FAILED: $(1)" >&2; exit 1; }
 
-# TOOLS: $(call need,TOOLS) ends in one clear line where one is missing; $(call needs,TARGETS,TOOLS) does so for a target that is asked
-# for, before anything is built. rt is asked for where something has to be proved.
+# Tools. $(call need,TOOLS) ends in one clear line where one is missing; $(call needs,TARGETS,TOOLS) does so for a target that is asked
+# for, before anything is built. What proves or compiles says itself what it needs: where all is built, nothing is needed.
 need = $(foreach tool,$(1),$(if $(shell command -v $(tool) 2>/dev/null),,$(error mednukals: $(tool) is needed and is not on the PATH)))
 needs = $(if $(filter $(1),$(MAKECMDGOALS)),$(call need,$(2)))
 $(call needs,kit test,rt $(firstword $(CC)) $(firstword $(CXX)) cargo python3 valgrind)
@@ -88,7 +85,8 @@ lib: $(MADE_LIBS) ## prove the exports and build the archives that C links, unde
 #- LEAF=fold over the one without a table, the fastest
 	@echo 'archives: $^'
 
-$(LIB): CRATES := $(filter-out capi_test,$(EXPORT_CRATES))
+# Each crate of crates.txt whose name begins with capi is an object of libmednukals.a; capi_test alone is libmednukals_test.a.
+$(LIB): CRATES := $(filter-out capi_test,$(shell sed -n 's/^\(capi[a-z0-9_]*\):.*/\1/p' crates.txt))
 build/lib/libmednukals_test.a: CRATES := capi_test
 $(LIBS): $(SOURCES) tools/join.sh
 	@$(call need,rt ar)$(foreach crate,$(CRATES),$(STEP) archive-$(crate) 'proving the exports of $(crate)' rt staticlib $(crate) &&) true
@@ -98,7 +96,6 @@ $(LIBS): $(SOURCES) tools/join.sh
 $(LEAF_LIBS): build/lib/libmednukals_%.a: $(SOURCES) KIT tests/other_leaf.py tests/archives.py tools/join.sh
 	@$(call need,rt python3)$(STEP) archive-$* 'proving the exports over crc16_$* and building $@' python3 tests/other_leaf.py crc16_$* build/$*
 	@mkdir -p $(@D) && cp build/$*/libmednukals.a $@
-
 $(LEAVES:%=build/%/libmednukals_test.a): build/%/libmednukals_test.a: build/lib/libmednukals_%.a ;
 
 dxl: build/c/dxl ## build the tool dxl, for line logs and plans of goals on a bench computer: build/c/dxl
@@ -152,7 +149,7 @@ c_test: $(C_TESTS:%=build/c/%) ## the archive from C: published packets, the hea
 alone = $(1) -ffreestanding -nostdinc -isystem "$$($(CC) -print-file-name=include)" -fsyntax-only -x $(2) include/mednukals.h
 header_test: $(LIBS) build/c/header_c99 build/c/header_cxx11 build/c/empty ## the header beside the archive, and as C99 and C++11, also without a C library
 	@$(STEP) header 'header as C99 and as C++11' sh -c 'build/c/header_c99 && build/c/header_cxx11 && build/c/empty'
-	@$(STEP) header_alone 'header without a C library' sh -c '$(call alone,$(CC) $(WARNINGS),c) && $(call alone,$(CXX) $(CXX_WARNINGS),c++)'
+	@$(STEP) header_alone 'header without a C library' sh -c '$(call alone,$(C99),c) && $(call alone,$(CXX11),c++)'
 	@$(STEP) check_header 'header beside the archive' python3 tests/check_header.py include/mednukals.h $(LIB)
 
 install_test: $(LIB) build/c/dxl ## make install, and the version
@@ -171,14 +168,13 @@ rust_test: $(LIBS) build/bin/line ## every export beside the second implementati
 	@$(STEP) rust_test 'comparison with the second implementation' sh -c 'cd tests && exec cargo test --release --offline --quiet'
 
 # The comparisons of the calls that make a checksum; the others, whose inputs are long, run over the first archive.
-SUMMED := cases checksum board verdict encoder status exchange plain
-leaf_steps = $(STEP) $(1)-header 'header beside the archive over crc16_$(1)' \
-    python3 tests/check_header.py include/mednukals.h build/lib/libmednukals_$(1).a && \
-    $(STEP) $(1)-rust 'archive over crc16_$(1) beside the second implementation' \
-    env MEDNUKALS_ARCHIVES=build/$(1) sh -c 'cd tests && exec cargo test --release --offline --quiet --package compare $(SUMMED:%=--test %)'
+SUMMED := $(addprefix --test ,cases checksum board verdict encoder status exchange plain)
 leaf_test: $(LIBS) $(LEAF_LIBS) build/bin/line ## the exports over the other checksum functions: no large table, and the same beside it
 	@$(STEP) leaves 'other archives: no large table, and none' python3 tests/check_leaves.py $(LIB) $(LEAF_LIBS)
-	@$(foreach leaf,$(LEAVES),$(call leaf_steps,$(leaf)) &&) true
+	@$(foreach leaf,$(LEAVES),$(STEP) $(leaf)-header 'header beside the archive over crc16_$(leaf)' \
+	    python3 tests/check_header.py include/mednukals.h build/lib/libmednukals_$(leaf).a &&) true
+	@$(foreach leaf,$(LEAVES),$(STEP) $(leaf)-rust 'archive over crc16_$(leaf) beside the second implementation' \
+	    env MEDNUKALS_ARCHIVES=build/$(leaf) sh -c 'cd tests && exec cargo test --release --offline --quiet --package compare $(SUMMED)' &&) true
 
 # Ends at the first difference, with a file under build/fuzz that replays it. The same seed gives the same cases.
 SECONDS ?= 600
@@ -235,10 +231,10 @@ fmt: ## format every Rattle file
 clean: ## remove build/ and target/
 	rm -rf build target
 
-# PROGRAMS IN C: one rule. A program is compiled from its sources and archives, in the order in which they are named, by COMPILER with
-# FLAGS; a program that takes others has its own. A header that has changed makes all of them anew.
+# Programs in C, by one rule: from what a program names, in that order, by COMPILER with FLAGS; where one takes others, it has its own.
+# A header that has changed makes all of them anew.
 HEADERS := $(wildcard include/*.h examples/*.h cli/*.h tests/bench/*.h)
-COMPILER = $(CC) $(WARNINGS)
+COMPILER = $(C99)
 FLAGS := -O2
 INPUTS = $(filter-out %.h,$^)
 build/c/%: $(HEADERS)
@@ -258,15 +254,14 @@ build/c/parts build/c/uart_test: FLAGS += -Iexamples
 # These need POSIX; files may have more than two gigabytes.
 build/c/dxl build/c/log_pages: FLAGS += -D_XOPEN_SOURCE=700 -D_FILE_OFFSET_BITS=64
 build/c/log_pages: FLAGS += -D_DEFAULT_SOURCE
-# The library refuses what the test asks it to. dxl_fresh is not among these calls: dxl_board_start always passes it a table of the
-# right size.
+# The library refuses what the test asks it to. dxl_fresh is not among these: dxl_board_start always gives it a table of its size.
 REFUSING := encode reader_feed reader_gap board_feed_parts board_gap_parts measure status
 build/c/refusing_board build/c/uart_test: FLAGS += $(REFUSING:%=-Wl,--wrap=dxl_%)
 
 build/c/header_c99 build/c/header_cxx11: tests/c/header.c $(LIB)
 build/c/empty: tests/c/empty.cpp $(LIB)
 build/c/header_c99 build/c/header_cxx11 build/c/empty: FLAGS :=
-build/c/header_cxx11 build/c/empty: COMPILER = $(CXX) $(CXX_WARNINGS)
+build/c/header_cxx11 build/c/empty: COMPILER = $(CXX11)
 build/c/header_cxx11: INPUTS = -x c++ $(filter %.c,$^) -x none $(filter %.a,$^)
 
 # The baseline is a file of its own and there is no link-time optimization: its calls stay calls, as ours are.

@@ -131,7 +131,7 @@ constants_test: ## the names for numbers in the header beside the definitions an
 vectors_test: ## the input of the program vectors beside the published packets
 	@$(STEP) check_vectors 'input of the program vectors beside the published packets' python3 tests/check_vectors.py
 make_test: ## these commands themselves
-	@$(STEP) make_test 'the commands: make help and quiet steps; gate.py' python3 tests/make_test.py
+	@$(STEP) make_test 'the commands of make; gate.py and counts_test.py' python3 tests/make_test.py
 
 C_TESTS := published exchange board_calls plan parts segment old_boards uart_test log_pages
 c_test: $(C_TESTS:%=build/c/%) ## the archive from C: published packets, the header's loop, the calls on a board, one with a UART, logs

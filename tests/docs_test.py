@@ -43,8 +43,8 @@ class Documents(unittest.TestCase):
             self.assertIn(f"](docs/{page.name})", text(Path("README.md")), "the index of documents")
 
     def test_commands(self):
-        targets = {word for line in re.findall(r"^\.PHONY: (.*)$", text(Path("Makefile")), flags=re.M) for word in line.split()}
-        targets |= {"build/bin/line"}
+        names = subprocess.run(["awk", "-v", "names=1", "-f", "tools/help.awk", "Makefile"], capture_output=True, check=True, text=True)
+        targets = {*names.stdout.split(), "build/bin/line"}
         for page in PAGES:
             commands = re.findall(r"(?:^|`)make ([\w/]+)", text(page), flags=re.M)
             self.assertLessEqual(set(commands), targets, page)

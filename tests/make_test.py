@@ -1,8 +1,9 @@
-"""Holds `make help` to the Makefile, and tries tools/step.sh, tests/gate.py and tests/counts_test.py on stand-ins: usage
+"""Tries what a user of make meets, and tools/step.sh, tests/gate.py and tests/counts_test.py, with stand-ins for the tools: usage
 make_test.py, in the repository's root
 """
 import os
 import re
+import shutil
 import subprocess
 import sys
 import tempfile
@@ -13,9 +14,9 @@ import suite
 from counts_test import HEAD
 
 ROOT = Path.cwd()
-INSIDE = {"help", "fuzz_program", "replay_file"}  # targets that nobody asks for
-COLUMN = 27  # where the descriptions begin
+INSIDE = {"replay_file"}  # targets that nobody asks for
 PATIENCE = 60  # seconds for one command
+CRATES = "capi: lists\ncapi_other: lists\ncapi_test: lists\n"
 
 PROVED = """fn lists::one: proved
 logic=proved functions=1
@@ -72,24 +73,149 @@ def untimed(text):
     return re.sub(r" {2,}\d+ s$", "", text, flags=re.M)
 
 
+def stand_ins(folder, tools):
+    """Puts shell scripts of these names into folder/bin. Answers a PATH on which they come first."""
+    for name, does in tools.items():
+        path = Path(folder, "bin", name)
+        path.parent.mkdir(exist_ok=True)
+        path.write_text(f"#!/bin/sh\n{does}\n", encoding="utf-8")
+        path.chmod(0o755)
+    return f"{folder}/bin:{os.environ['PATH']}"
+
+
 class Help(unittest.TestCase):
+    def make(self, *words):
+        return run("make", *words, env={"PATH": os.environ["PATH"]})
+
     def setUp(self):
-        self.text = run("make", "-s", "help", env={"PATH": os.environ["PATH"]})[1]
-        self.makefile = Path("Makefile").read_text(encoding="utf-8")
+        self.text = self.make("help")[1]
 
-    def test_complete(self):
-        targets = {word for line in re.findall(r"^\.PHONY: (.*)$", self.makefile, flags=re.M) for word in line.split()}
-        self.assertEqual(sorted(re.findall(r"^  make (\w+)", self.text, flags=re.M)), sorted(targets - INSIDE))
-        code = self.makefile[:self.makefile.index("define HELP")] + self.makefile[self.makefile.index("endef"):]
-        for name in re.findall(r"\b([A-Z]+)=", self.text):
-            self.assertRegex(code, rf"\$\(({name}|value {name})\)|\$\(if \$\({name}\)")
+    def test_make_alone(self):
+        self.assertEqual(self.make(), (0, self.text, ""))
 
-    def test_aligned(self):
-        for line in self.text.splitlines():
-            if line.startswith("  "):
-                self.assertRegex(line, rf"^.{{{COLUMN - 2}}}  \S.*$")
-                self.assertNotRegex(line[:COLUMN].rstrip(), r"\S   ")
-            self.assertLessEqual(len(line), 132)
+    def test_every_command_has_a_text(self):
+        """By the list of targets that make has; one with a slash in it is a file."""
+        listed = self.make("--print-data-base", "--dry-run", "help")[1]
+        targets = set(re.findall(r"(?<!# Not a target:\n)^([a-z]\w*):(?!=)", listed, flags=re.M))
+        texts = re.findall(r"^  make (\w+)(?: [A-Z]+=\S+)* +[a-z]\S* .*$", self.text, flags=re.M)
+        self.assertGreater(len(texts), 30)
+        self.assertEqual(sorted(texts), sorted(targets - INSIDE))
+
+    def test_every_variable_is_read(self):
+        makefile = Path("Makefile").read_text(encoding="utf-8")
+        names = set(re.findall(r"\b([A-Z]+)=", self.text))
+        self.assertGreater(len(names), 10)
+        for name in names:
+            self.assertRegex(makefile, rf"\$\((value )?{name}\)")
+
+
+class Commands(unittest.TestCase):
+    """The Makefile in a folder of its own."""
+
+    TOOLS = {**dict.fromkeys(["cargo", "g++", "nm", "python3", "size", "valgrind"], ":"),
+             "gcc": 'echo "$@" >>calls; while [ "$1" != -o ]; do shift; done; : >"$2"',
+             "rt": "seq 1000; mkdir -p target/staticlib && : >$2.o && ar qc target/staticlib/lib$2.a $2.o"}
+    STEPS = "proving the exports of capi\nproving the exports of capi_other\nproving the exports of capi_test\n"
+    ARCHIVES = "archives: build/lib/libmednukals.a build/lib/libmednukals_test.a\n"
+
+    def setUp(self):
+        room = tempfile.TemporaryDirectory()
+        self.addCleanup(room.cleanup)
+        self.folder = Path(room.name)
+        for part in ["tools", "include", "cli"]:
+            shutil.copytree(part, self.folder / part)
+        shutil.copy("Makefile", self.folder)
+        (self.folder / "crates").mkdir()
+        (self.folder / "crates.txt").write_text(CRATES, encoding="utf-8")
+        self.path = stand_ins(self.folder, self.TOOLS)
+
+    def make(self, *words):
+        code, output, errors = run(shutil.which("make"), *words, cwd=self.folder, env={"PATH": self.path})
+        return code, untimed(output), errors
+
+    def later(self, name, change=Path.touch):
+        """A file is changed ten seconds after all that is there: the clock of files may not tell less apart."""
+        for path in self.folder.rglob("*"):
+            times = path.stat()
+            os.utime(path, ns=(times.st_atime_ns - 10**10, times.st_mtime_ns - 10**10))
+        change(self.folder / name)
+
+    def why(self, *words):
+        """What is said where make refuses something: one line, and perhaps make's own that it failed. Nothing is built."""
+        code, output, errors = self.make(*words)
+        self.assertEqual((code, output), (2, ""))
+        line, *rest = errors.splitlines()
+        self.assertRegex("\n".join(rest), r"\A(make: \*\*\* \[.*\] Error 1)?\Z")
+        self.assertFalse((self.folder / "build").exists())
+        return re.sub(r"^(?:Makefile:\d+|make): \*\*\* (.*)\.  Stop\.$", r"\1", line)
+
+    def test_unknown(self):
+        self.assertEqual(self.why("nothing"), "No rule to make target 'nothing'")
+        self.assertEqual(self.why("build/c/nothing"), "mednukals: the Makefile names no sources of build/c/nothing")
+        self.assertEqual(self.why("lib", "LEAF=none"), "mednukals: LEAF=none: only LEAF=small LEAF=fold are known")
+        self.assertEqual(self.why("c_test", "bench", "LEAF=small"),
+                         "mednukals: LEAF is for make lib, make bench, make counts and make memory")
+        self.assertEqual(self.why("replay", "FILE=no where"), "mednukals: there is no file no where")
+
+    def test_a_variable_is_missing(self):
+        self.assertEqual(self.why("replay"), "mednukals: make replay FILE=build/fuzz/difference-SEED-CASE.txt")
+        self.assertRegex(self.why("mutants"), "^mednukals: make mutants CRATE=NAME ")
+
+    def only_stand_ins(self):
+        """From now on the PATH has nothing else but what every command takes."""
+        self.path = f"{self.folder}/bin"
+        for name in ["awk", "echo", "find", "sed"]:
+            (self.folder / "bin" / name).symlink_to(shutil.which(name))
+
+    def test_a_tool_is_missing(self):
+        self.only_stand_ins()
+        for tool, targets in {"rt": ["kit", "test", "format", "fmt", "bench", "lib", "run"], "gcc": ["kit", "dxl"],
+                              "python3": ["c_test", "make_test", "test", "bench", "mutants", "promises"],
+                              "cargo": ["kit", "rust_test", "leaf_test", "fuzz"], "valgrind": ["counts", "counts_test"],
+                              "nm": ["counts_test"], "size": ["memory", "leaf_test"]}.items():
+            (self.folder / "bin" / tool).unlink()
+            for target in targets:
+                said = self.why("--old-file=build/lib/libmednukals.a", target)
+                self.assertEqual(said, f"mednukals: {tool} is needed and is not on the PATH")
+            stand_ins(self.folder, self.TOOLS)
+
+    def test_what_is_built_needs_no_tool(self):
+        self.make("lib", "dxl")
+        self.only_stand_ins()
+        for tool in self.TOOLS:
+            (self.folder / "bin" / tool).unlink()
+        self.assertEqual(self.make("lib", "dxl"), (0, self.ARCHIVES + "the tool: build/c/dxl\n", ""))
+
+    def test_a_line_for_each_step(self):
+        self.assertEqual(self.make("lib"), (0, self.STEPS + self.ARCHIVES, ""))
+        self.later("lib")  # a file of the command's name is not what the command makes
+        self.assertEqual(self.make("lib"), (0, self.ARCHIVES, ""))
+        for change in Path.touch, Path.unlink:
+            self.later("crates/new", change)
+            self.assertEqual(self.make("lib"), (0, self.STEPS + self.ARCHIVES, ""))
+
+    def test_a_step_fails(self):
+        stand_ins(self.folder, {"rt": "echo the goal does not follow; exit 1"})
+        code, output, errors = self.make("lib")
+        self.assertEqual((code, output), (2, "proving the exports of capi\n"))
+        self.assertRegex(errors, r"^the goal does not follow\nmednukals: FAILED: proving the exports of capi; .*\nmake: .*\n$")
+
+    def test_a_program_in_c(self):
+        for file in ["cli/dxl.c", "include/mednukals.h", "cli/files.h"]:
+            self.later(file)
+            self.assertEqual(self.make("lib", "dxl")[::2], (0, ""))
+        self.assertEqual(self.make("dxl"), (0, "the tool: build/c/dxl\n", ""))
+        calls = (self.folder / "calls").read_text(encoding="utf-8").splitlines()
+        self.assertEqual(len(calls), 3)
+        self.assertRegex(calls[0], r"^-std=c99 -Wall .* -o build/c/dxl cli/dxl.c .* build/lib/libmednukals.a$")
+
+    def test_a_program_in_c_is_wrong(self):
+        self.make("lib")
+        stand_ins(self.folder, {"gcc": "echo line 1: error >&2; : >build/c/dxl; exit 1"})
+        code, output, errors = self.make("dxl")
+        self.assertEqual((code, output), (2, ""))
+        self.assertEqual(errors.splitlines()[:2], ["line 1: error", "mednukals: FAILED: compiling build/c/dxl"])
+        self.assertFalse((self.folder / "build/c/dxl").exists())
 
 
 class Step(unittest.TestCase):
@@ -118,18 +244,14 @@ class Gate(unittest.TestCase):
              rt="mkdir -p target/staticlib && : >$2.o && ar qc target/staticlib/lib$2.a $2.o"):
         with tempfile.TemporaryDirectory() as folder:
             made = [f"target/{part}" for part in ("rlib", "obj", "bin", "log", "stamp")]
-            for part in ["crates", "bin", "build/c/of_an_earlier_run", *made]:
+            for part in ["crates", "build/c/of_an_earlier_run", *made]:
                 Path(folder, part).mkdir(parents=True)
             for file in ["target/bin/line", "target/bin/checksum"]:
                 Path(folder, file).touch()
-            Path(folder, "crates.txt").write_text("capi: lists\ncapi_other: lists\ncapi_test: lists\n", encoding="utf-8")
+            Path(folder, "crates.txt").write_text(CRATES, encoding="utf-8")
             Path(folder, "said").write_text(text, encoding="utf-8")
-            for name, does in {"rt": rt, "make": make, "ci": f"cat said; sleep 0.2; exit {status}"}.items():
-                path = Path(folder, "bin", name)
-                path.write_text(f"#!/bin/sh\n{does}\n", encoding="utf-8")
-                path.chmod(0o755)
-            places = {**os.environ, "PATH": f"{folder}/bin:{os.environ['PATH']}"}
-            code, output, errors = run(sys.executable, str(ROOT / "tests/gate.py"), "ci", cwd=folder, env=places)
+            path = stand_ins(folder, {"rt": rt, "make": make, "ci": f"cat said; sleep 0.2; exit {status}"})
+            code, output, errors = run(sys.executable, str(ROOT / "tests/gate.py"), "ci", cwd=folder, env={**os.environ, "PATH": path})
             self.assertEqual(Path(folder, "build/log/rt-ci.log").read_text(encoding="utf-8"), text)
             if code == 0:
                 self.assertEqual(run("ar", "t", f"{folder}/build/lib/libmednukals.a")[1], "capi.o\ncapi_other.o\n")
@@ -182,20 +304,16 @@ class Counts(unittest.TestCase):
     def counts(self, *words, stored="dxl_one Ping 100\ndxl_two 7 bytes 100\n", first=COSTS,
                second=COSTS.replace("dxl_one", "dxl_two"), names="dxl_one Ping\ndxl_two 7 bytes\n", header="int dxl_one(void);\nint dxl_two(void);\n"):
         with tempfile.TemporaryDirectory() as folder:
-            for part in ["bin", "include", "tests"]:
+            for part in ["include", "tests"]:
                 Path(folder, part).mkdir()
             costs = "".join(f"{number} {line}\n" for number, text in enumerate([first, second], 1) for line in text.splitlines())
             files = {"costs": costs, "names": names, "include/mednukals.h": header, "tests/instructions.txt": stored}
             for name, text in files.items():
                 Path(folder, name).write_text(text, encoding="utf-8")
             own = "".join(f"echo {name} T 0 1\n" for name in ["dxl_one", "dxl_two", "dxl_board_feed_parts", "dxl_feed"])
-            tools = {"valgrind": VALGRIND, "nm": own + "echo table r 0 1", "rt": "echo kit $1 2"}
-            for name, does in tools.items():
-                path = Path(folder, "bin", name)
-                path.write_text(f"#!/bin/sh\n{does}\n", encoding="utf-8")
-                path.chmod(0o755)
-            places = {**os.environ, "PATH": f"{folder}/bin:{os.environ['PATH']}"}
-            answer = run(sys.executable, str(ROOT / "tests/counts_test.py"), *words, "program", "archive", cwd=folder, env=places)
+            path = stand_ins(folder, {"valgrind": VALGRIND, "nm": own + "echo table r 0 1", "rt": "echo kit $1 2"})
+            answer = run(sys.executable, str(ROOT / "tests/counts_test.py"), *words, "program", "archive", cwd=folder,
+                         env={**os.environ, "PATH": path})
             return *answer, Path(folder, "tests/instructions.txt").read_text(encoding="utf-8")
 
     def fault(self, text, **more):

@@ -269,19 +269,81 @@ class Tree:
             own = [rule for rule in self.rules if rule[0] == letter]
             if not own:
                 continue
-            out += [f"## {letter}. {title}", "", "| Rule | Definition | Promise | Edit | Test |", "|---|---|---|---|---|"]
-            for rule in own:
-                cells = [joined(self.by_rule[kind][rule]) for kind in ("definition", "promise", "edit", "test")]
-                out.append(f"| {rule} | " + " | ".join(cells) + " |")
-            out.append("")
-        out += [THEOREMS.strip(), "", "| Theorem | Stands in | Promised by | Applied |", "|---|---|---|---|"]
-        promised = self.promised()
-        for place in sorted(self.statements.theorems):
-            crate, file, name = place
-            exports = [who.partition("::")[2] for who, places in promised.items() if place in places and who.startswith("capi")]
-            applied = sorted({f"`{use[0]}/{use[1]}`" for use, theorems in self.statements.applications.items() if place in theorems})
-            out.append(f"| `{name}` | `{crate}/{file}` | {', '.join(f'`{export}`' for export in exports) or '–'} | {', '.join(applied) or '–'} |")
+            out += [f"## {letter}. {title}", "", *self.table(own), ""]
+        out += [THEOREMS.strip(), "", *self.theorems()]
         return "\n".join(out).rstrip() + "\n"
+
+    def table(self, rules):
+        """One row for each rule; neighbours with the same places share one, and a column that would be empty is left out."""
+        rows = []
+        for rule in rules:
+            places = {kind: self.by_rule[kind][rule] for kind in self.by_rule}
+            cells = (definition_cell(places["definition"]), ", ".join(called(place) for place in places["promise"]),
+                     ", ".join(filter(None, [", ".join(f"`{edit}`" for edit in places["edit"]), test_cell(places["test"])])))
+            if rows and rows[-1][1] == cells:
+                rows[-1][0].append(rule)
+            else:
+                rows.append(([rule], cells))
+        titles = ["Definition", "Promise", "Edits and tests"]
+        shown = [column for column in range(len(titles)) if any(cells[column] for _, cells in rows)]
+        yield "| Rule | " + " | ".join(titles[column] for column in shown) + " |"
+        yield "|---|" + "---|" * len(shown)
+        for named, cells in rows:
+            yield f"| {spanned(named)} | " + " | ".join(cells[column] or "–" for column in shown) + " |"
+
+    def theorems(self):
+        """One row for the theorems that the same exports promise; those that only tests link stand where there is no other."""
+        promised = self.promised()
+        rows = defaultdict(list)
+        for place in sorted(self.statements.theorems):
+            exports = [who for who, places in promised.items() if place in places and who.startswith("capi")]
+            linked = [who for who in exports if not who.startswith("capi_test::")]
+            rows[", ".join(called(who) for who in linked or exports)].append(place)
+        yield "| Promised by | Theorems | Applied in |"
+        yield "|---|---|---|"
+        for exports, places in rows.items():
+            applied = sorted({f"`{use[0]}/{use[1]}`" for use, theorems in self.statements.applications.items() if set(places) & set(theorems)})
+            stands = definition_cell([(f"{crate}/{file}", name) for crate, file, name in places])
+            yield f"| {exports or '–'} | {stands} | {', '.join(applied) or '–'} |"
+
+
+def spanned(rules):
+    """The rules of one row: `X8`, or `X8 to X10`, or one by one where their numbers do not follow each other."""
+    numbers = [int(rule[1:]) for rule in rules]
+    if len(rules) > 2 and numbers == list(range(numbers[0], numbers[0] + len(rules))):
+        return f"{rules[0]} to {rules[-1]}"
+    return ", ".join(rules)
+
+
+def called(place):
+    """crate::function; an export has the name that C calls."""
+    crate, _, name = place.partition("::")
+    return f"`{name}`" if crate.startswith("capi") else f"`{place}`"
+
+
+def definition_cell(places):
+    """Names of one file stand together, the file before the first; a record's name is left out where one of its fields stands."""
+    names = [name for _, name in places]
+    kept = [(file, name) for file, name in places if not any(other.startswith(f"{name}.") for other in names)]
+    return grouped(kept)
+
+
+def test_cell(places):
+    """A test by the stem of its file and its name; a stored run by its file."""
+    return grouped([(file if "/" in file else Path(file).stem, name) for file, name in places])
+
+
+def grouped(places):
+    by_file = {}
+    for file, name in places:
+        names = by_file.setdefault(file, [])
+        if name not in names:
+            names.append(name)
+    words = []
+    for file, names in by_file.items():
+        first, *others = names
+        words += [f"`{file}.{first}`" if first else f"`{file}`", *(f"`.{name}`" for name in others)]
+    return ", ".join(words)
 
 
 def tags_of(tree, comment, where):
@@ -307,38 +369,26 @@ def uses_supposition(source, name):
     return proof is None or bool(re.search(rf"\b{proof.group(2)}\b", proof.group(3)))
 
 
-def joined(places):
-    """Names of one file stand together: (file, name), or a place by itself."""
-    by_file = {}
-    for place in places:
-        file, name = place if isinstance(place, tuple) else (place, "")
-        names = by_file.setdefault(file, [])
-        if name and name not in names:
-            names.append(name)
-    return "; ".join(", ".join([f"`{file}`" + (": " if names else "") + ", ".join(f"`{name}`" for name in names)])
-                     for file, names in by_file.items()) or "–"
-
-
 # theorems that are applications themselves: tables of worked examples, which the checker computes
 COMPUTED = {"CasesHold", "SalvageCases"}
 
 HEAD = """
 # Promises
 
-From each rule of [RULES.md](RULES.md) to its definition, the functions that promise it, and what would fail if it did not hold. `tools/promises.py` writes this page from the comments in the tree.
+From each rule of [RULES.md](RULES.md) to its definition, the functions that promise it, and what fails if it does not hold. `tools/promises.py` writes this page from the comments in the tree. Exports are listed with the rules about the call itself; an export also promises what the functions that it calls promise.
 
 | Written | Means |
 |---|---|
-| Definition `packet_front/Front`: `goodId` | the name `goodId` in `crates/packet_front/specs/Front.antt` |
-| Promise `packet_protocols::judge` | the contract of `judge` in `crates/packet_protocols/src/lib.rt`. Its proof is `crates/packet_protocols/proofs/judge/Proof.antt`, where the checker does not find one by itself |
-| Edit `packet_front/id_253` | `crates/packet_front/must-fail/id_253.edit`: a change that the checker has to refuse |
-| Test `verdict.rs`: `every_id` | that function in a file of this name under `tests/` |
+| `packet_front/Front.goodId` | definition: `goodId` in `crates/packet_front/specs/Front.antt`; `.name` behind it is of the same file |
+| `dxl_encode`, `packet_protocols::judge` | promise: the contract of an export, and of a function in `crates/packet_protocols/src/lib.rt`. Its proof is `proofs/judge/Proof.antt`, unless the checker finds one by itself |
+| `packet_front/id_253` | edit: `crates/packet_front/must-fail/id_253.edit`, a change that the checker has to refuse |
+| `verdict.every_id` | test: `every_id` in the file `verdict` under `tests/`; `.name` behind it is of the same file |
 """
 
 THEOREMS = """
 ## Theorems
 
-Statements in `specs/` that are not about one call's arguments, the exports that promise them, and where they are applied to data; a part of another theorem is applied with that. The gate fails where any statement in `specs/` is promised by no function, and where a theorem that an export names, or a field of it, is applied nowhere.
+Statements in `specs/` that are not about one call's arguments, the exports that promise them, and where they are applied to data; a part of another theorem is applied with that. The gate fails if a statement in `specs/` is promised by no function, or if a theorem that an export names, or a field of it, is applied nowhere.
 """
 
 

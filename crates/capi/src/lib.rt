@@ -1,4 +1,4 @@
-// The functions that C calls. Each passes its arguments on to a crate beneath and makes that crate's promise in numbers and byte
+// The functions that C calls. Each passes its arguments on to a crate below and makes that crate's promise in numbers and byte
 // slices; include/mednukals.h declares and documents them. A `&[u8]` is a pointer and a length in C.
 use device_dispatch::Heard;
 use device_instructions::RegisteredWrite;

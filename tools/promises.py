@@ -375,7 +375,7 @@ COMPUTED = {"CasesHold", "SalvageCases"}
 HEAD = """
 # Promises
 
-From each rule of [RULES.md](RULES.md) to its definition, the functions that promise it, and what fails if it does not hold. `tools/promises.py` writes this page from the comments in the tree. Exports are listed with the rules about the call itself; an export also promises what the functions that it calls promise.
+From each rule of [RULES.md](RULES.md) to its definition, the functions that promise it, and what fails if it does not hold. `tools/promises.py` writes this page from the comments in the tree. An export is listed with the rules about the call itself, and also promises what the functions that it calls promise; a test of everything, as `device.random_calls`, is listed where no other test is.
 
 | Written | Means |
 |---|---|

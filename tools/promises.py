@@ -269,46 +269,40 @@ class Tree:
             own = [rule for rule in self.rules if rule[0] == letter]
             if not own:
                 continue
-            out += [f"## {letter}. {title}", "", *self.table(own), ""]
+            out += [f"## {letter}. {title}", "", *self.lines(own), ""]
         out += [THEOREMS.strip(), "", *self.theorems()]
         return "\n".join(out).rstrip() + "\n"
 
-    def table(self, rules):
-        """One row for each rule; neighbours with the same places share one, and a column that would be empty is left out."""
+    def lines(self, rules):
+        """One line for each rule: definitions; promises; edits and tests. Neighbours with the same places share one."""
         rows = []
         for rule in rules:
             places = {kind: self.by_rule[kind][rule] for kind in self.by_rule}
-            cells = (definition_cell(places["definition"]), ", ".join(called(place) for place in places["promise"]),
-                     ", ".join(filter(None, [", ".join(f"`{edit}`" for edit in places["edit"]), test_cell(places["test"])])))
-            if rows and rows[-1][1] == cells:
+            fails = filter(None, [", ".join(f"`{edit}`" for edit in places["edit"]), test_cell(places["test"])])
+            parts = [definition_cell(places["definition"]), ", ".join(called(place) for place in places["promise"]), ", ".join(fails)]
+            if rows and rows[-1][1] == parts:
                 rows[-1][0].append(rule)
             else:
-                rows.append(([rule], cells))
-        titles = ["Definition", "Promise", "Edits and tests"]
-        shown = [column for column in range(len(titles)) if any(cells[column] for _, cells in rows)]
-        yield "| Rule | " + " | ".join(titles[column] for column in shown) + " |"
-        yield "|---|" + "---|" * len(shown)
-        for named, cells in rows:
-            yield f"| {spanned(named)} | " + " | ".join(cells[column] or "–" for column in shown) + " |"
+                rows.append(([rule], parts))
+        for named, parts in rows:
+            yield f"- **{spanned(named)}** " + "; ".join(part for part in parts if part) if any(parts) else f"- **{spanned(named)}** –"
 
     def theorems(self):
-        """One row for the theorems that the same exports promise; those that only tests link stand where there is no other."""
+        """A line for the theorems that the same exports promise; exports that only tests link stand where there is no other."""
         promised = self.promised()
         rows = defaultdict(list)
         for place in sorted(self.statements.theorems):
             exports = [who for who, places in promised.items() if place in places and who.startswith("capi")]
             linked = [who for who in exports if not who.startswith("capi_test::")]
             rows[", ".join(called(who) for who in linked or exports)].append(place)
-        yield "| Promised by | Theorems | Applied in |"
-        yield "|---|---|---|"
         for exports, places in rows.items():
             applied = sorted({f"`{use[0]}/{use[1]}`" for use, theorems in self.statements.applications.items() if set(places) & set(theorems)})
             stands = definition_cell([(f"{crate}/{file}", name) for crate, file, name in places])
-            yield f"| {exports or '–'} | {stands} | {', '.join(applied) or '–'} |"
+            yield "- " + "; ".join(filter(None, [stands, exports or "–", ", ".join(applied)]))
 
 
 def spanned(rules):
-    """The rules of one row: `X8`, or `X8 to X10`, or one by one where their numbers do not follow each other."""
+    """The rules of one line: `X8`, or `X8 to X10`, or one by one where their numbers do not follow each other."""
     numbers = [int(rule[1:]) for rule in rules]
     if len(rules) > 2 and numbers == list(range(numbers[0], numbers[0] + len(rules))):
         return f"{rules[0]} to {rules[-1]}"
@@ -375,20 +369,18 @@ COMPUTED = {"CasesHold", "SalvageCases"}
 HEAD = """
 # Promises
 
-From each rule of [RULES.md](RULES.md) to its definition, the functions that promise it, and what fails if it does not hold. `tools/promises.py` writes this page from the comments in the tree. An export is listed with the rules about the call itself, and also promises what the functions that it calls promise; a test of everything, as `device.random_calls`, is listed where no other test is.
+From each rule of [RULES.md](RULES.md) to its definitions; the functions that promise it; and the edits and tests that fail if it does not hold, in this order. `tools/promises.py` writes this page from the comments in the tree. An export is listed with the rules about the call itself, and also promises what the functions that it calls promise; a test of everything, as `device.random_calls`, is listed where no other test is.
 
-| Written | Means |
-|---|---|
-| `packet_front/Front.goodId` | definition: `goodId` in `crates/packet_front/specs/Front.antt`; `.name` behind it is of the same file |
-| `dxl_encode`, `packet_protocols::judge` | promise: the contract of an export, and of a function in `crates/packet_protocols/src/lib.rt`. Its proof is `proofs/judge/Proof.antt`, unless the checker finds one by itself |
-| `packet_front/id_253` | edit: `crates/packet_front/must-fail/id_253.edit`, a change that the checker has to refuse |
-| `verdict.every_id` | test: `every_id` in the file `verdict` under `tests/`; `.name` behind it is of the same file |
+- `packet_front/Front.goodId` is a definition: `goodId` in `crates/packet_front/specs/Front.antt`; `.name` behind it is in the same file.
+- `dxl_encode` is the contract of an export, `packet_protocols::judge` that of a function in `crates/packet_protocols/src/lib.rt`. Its proof is `proofs/judge/Proof.antt`, unless the checker finds one by itself.
+- `packet_front/id_253` is an edit: `crates/packet_front/must-fail/id_253.edit`, a change that the checker has to refuse.
+- `verdict.every_id` is a test: `every_id` in the file `verdict` under `tests/`; `.name` behind it is in the same file.
 """
 
 THEOREMS = """
 ## Theorems
 
-Statements in `specs/` that are not about one call's arguments, the exports that promise them, and where they are applied to data; a part of another theorem is applied with that. The gate fails if a statement in `specs/` is promised by no function, or if a theorem that an export names, or a field of it, is applied nowhere.
+Statements in `specs/` that are not about one call's arguments; the exports that promise them; and where they are applied to data. A part of another theorem is applied with that. The gate fails if a statement in `specs/` is promised by no function, or if a theorem that an export names, or a field of it, is applied nowhere.
 """
 
 

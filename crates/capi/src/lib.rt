@@ -122,7 +122,7 @@ pub extern "C" fn dxl_measure(table: &mut [u8], position: i32, hardware_error: u
 
 // A feeding call on a reader's record in parts, the held bytes and their count. It promises demand 3, and that a packet in which
 // one byte or two neighbours were changed between length field and checksum is a bad checksum.
-// [F5 F6 F9-F11 N9 P11 V2 V7 V10]
+// [F5 F6 F9-F11 P11 V2 V7 V10]
 #[no_mangle]
 pub extern "C" fn dxl_feed(
     held: &mut [u8; 1030],
@@ -142,7 +142,7 @@ pub extern "C" fn dxl_feed(
     numbers::step(step)
 }
 
-// A gap call, likewise. [F12-F14 N9 V1]
+// A gap call, likewise. [F12-F14 V1]
 #[no_mangle]
 pub extern "C" fn dxl_gap(
     held: &mut [u8; 1030],

@@ -57,7 +57,7 @@ pub extern "C" fn dxl_mercury_encode(
     ))
 }
 
-// The feeding call of Protocol 1.0 on the record by its parts. Demand 3 of every protocol is promised too. [N9 O13-O15]
+// The feeding call of Protocol 1.0 on the record by its parts. Demand 3 of every protocol is promised too. [N9 O13 O15]
 #[no_mangle]
 pub extern "C" fn dxl_p1_feed(
     held: &mut [u8; 258],
@@ -76,7 +76,7 @@ pub extern "C" fn dxl_p1_feed(
     numbers::step(step)
 }
 
-// The gap call of Protocol 1.0, likewise. [N9 O13-O15]
+// The gap call of Protocol 1.0, likewise. [O13]
 #[no_mangle]
 pub extern "C" fn dxl_p1_gap(
     held: &mut [u8; 258],
@@ -94,7 +94,7 @@ pub extern "C" fn dxl_p1_gap(
     numbers::step(step)
 }
 
-// The feeding call of Mercury, likewise. [N9 O13-O15]
+// The feeding call of Mercury, likewise. [N9 O13 O15]
 #[no_mangle]
 pub extern "C" fn dxl_mercury_feed(
     held: &mut [u8; 258],
@@ -113,7 +113,7 @@ pub extern "C" fn dxl_mercury_feed(
     numbers::step(step)
 }
 
-// The gap call of Mercury, likewise. [N9 O13-O15]
+// The gap call of Mercury, likewise. [O13]
 #[no_mangle]
 pub extern "C" fn dxl_mercury_gap(
     held: &mut [u8; 258],

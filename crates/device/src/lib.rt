@@ -141,7 +141,7 @@ pub fn state_refusal(table: &[u8], registered: RegisteredWrite) -> Replied
 }
 
 // The first of two calls: the instruction is carried out, and its reply waits for its slot, the alert bit settled. Faults of the
-// caller come first, whatever was heard, and change nothing; the reply is silence then. [D50 D51 N5-N7 N12]
+// caller come first, whatever was heard, and change nothing; the reply is silence then. [D50 D51 N5-N7]
 pub fn carry_out(
     table: &mut [u8],
     registered: RegisteredWrite,
@@ -167,7 +167,7 @@ pub fn carry_out(
     dispatch(table, registered, heard, id, body)
 }
 
-// The caller's fault in what is lent to the device call, or silence: the same, then a reply buffer under 32 bytes. [N5-N8 N10]
+// The caller's fault in what is lent to the device call, or silence: the same, then a reply buffer under 32 bytes. [N8 N10]
 pub fn call_refusal(table: &[u8], registered: RegisteredWrite, out: &[u8]) -> Replied
     ensures { λ r. ⌜ repliedAnswer r ≡ answeredBy (callRefusal (now (table .entry)) registered (now (out .entry))) Status·silence ⌝ }
 {

@@ -278,14 +278,15 @@ class Tree:
         rows = []
         for rule in rules:
             places = {kind: self.by_rule[kind][rule] for kind in self.by_rule}
-            fails = filter(None, [", ".join(f"`{edit}`" for edit in places["edit"]), test_cell(places["test"])])
-            parts = [definition_cell(places["definition"]), ", ".join(called(place) for place in places["promise"]), ", ".join(fails)]
+            fails = [*(f"`{edit}`" for edit in places["edit"]), *by_file(tested(places["test"]))]
+            promises = [called(place) for place in places["promise"]]
+            parts = [", ".join(names) for names in (by_file(defined(places["definition"])), promises, fails)]
             if rows and rows[-1][1] == parts:
                 rows[-1][0].append(rule)
             else:
                 rows.append(([rule], parts))
         for named, parts in rows:
-            yield f"- **{spanned(named)}** " + "; ".join(part for part in parts if part) if any(parts) else f"- **{spanned(named)}** –"
+            yield f"- **{spanned(named)}** {'; '.join(filter(None, parts)) or '–'}"
 
     def theorems(self):
         """A line for the theorems that the same exports promise; exports that only tests link stand where there is no other."""
@@ -297,8 +298,8 @@ class Tree:
             rows[", ".join(called(who) for who in linked or exports)].append(place)
         for exports, places in rows.items():
             applied = sorted({f"`{use[0]}/{use[1]}`" for use, theorems in self.statements.applications.items() if set(places) & set(theorems)})
-            stands = definition_cell([(f"{crate}/{file}", name) for crate, file, name in places])
-            yield "- " + "; ".join(filter(None, [stands, exports or "–", ", ".join(applied)]))
+            stands = by_file((f"{crate}/{file}", name) for crate, file, name in places)
+            yield "- " + "; ".join(filter(None, [", ".join(stands), exports or "–", ", ".join(applied)]))
 
 
 def spanned(rules):
@@ -315,29 +316,25 @@ def called(place):
     return f"`{name}`" if crate.startswith("capi") else f"`{place}`"
 
 
-def definition_cell(places):
-    """Names of one file stand together, the file before the first; a record's name is left out where one of its fields stands."""
-    names = [name for _, name in places]
-    kept = [(file, name) for file, name in places if not any(other.startswith(f"{name}.") for other in names)]
-    return grouped(kept)
+def defined(places):
+    """Definitions without a record that is named beside one of its fields."""
+    return [(file, name) for file, name in places if not any(other.startswith(f"{name}.") for _, other in places)]
 
 
-def test_cell(places):
+def tested(places):
     """A test by the stem of its file and its name; a stored run by its file."""
-    return grouped([(file if "/" in file else Path(file).stem, name) for file, name in places])
+    return [(file if "/" in file else Path(file).stem, name) for file, name in places]
 
 
-def grouped(places):
-    by_file = {}
+def by_file(places):
+    """file.name, and then .name for each other name of the same file; a place without a name is the file."""
+    names = defaultdict(dict)
     for file, name in places:
-        names = by_file.setdefault(file, [])
-        if name not in names:
-            names.append(name)
-    words = []
-    for file, names in by_file.items():
-        first, *others = names
-        words += [f"`{file}.{first}`" if first else f"`{file}`", *(f"`.{name}`" for name in others)]
-    return ", ".join(words)
+        names[file][name] = None
+    for file, own in names.items():
+        first, *others = sorted(own, key=bool)
+        yield f"`{file}.{first}`" if first else f"`{file}`"
+        yield from (f"`.{name}`" for name in others)
 
 
 def tags_of(tree, comment, where):

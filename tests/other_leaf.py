@@ -116,7 +116,7 @@ def main(leaf, folder):
     lines = ", ".join(f"{crate} {count}" for crate, count in changed.items())
     print(f"other leaf: the callers name {leaf} (lines changed: {lines}), and nothing else differs")
     print(f"other leaf: proved over it: {', '.join(sorted(proved))}")
-    print(f"other leaf: of the modules beneath the exports, {modules['loaded']} stand as they were checked and {modules['checked']} were checked again")
+    print(f"other leaf: of the modules below the exports, {modules['loaded']} stand as they were checked and {modules['checked']} were checked again")
 
 
 if __name__ == "__main__":

@@ -269,19 +269,72 @@ class Tree:
             own = [rule for rule in self.rules if rule[0] == letter]
             if not own:
                 continue
-            out += [f"## {letter}. {title}", "", "| Rule | Definition | Promise | Edit | Test |", "|---|---|---|---|---|"]
-            for rule in own:
-                cells = [joined(self.by_rule[kind][rule]) for kind in ("definition", "promise", "edit", "test")]
-                out.append(f"| {rule} | " + " | ".join(cells) + " |")
-            out.append("")
-        out += [THEOREMS.strip(), "", "| Theorem | Stands in | Promised by | Applied |", "|---|---|---|---|"]
-        promised = self.promised()
-        for place in sorted(self.statements.theorems):
-            crate, file, name = place
-            exports = [who.partition("::")[2] for who, places in promised.items() if place in places and who.startswith("capi")]
-            applied = sorted({f"`{use[0]}/{use[1]}`" for use, theorems in self.statements.applications.items() if place in theorems})
-            out.append(f"| `{name}` | `{crate}/{file}` | {', '.join(f'`{export}`' for export in exports) or '–'} | {', '.join(applied) or '–'} |")
+            out += [f"## {letter}. {title}", "", *self.lines(own), ""]
+        out += [THEOREMS.strip(), "", *self.theorems()]
         return "\n".join(out).rstrip() + "\n"
+
+    def lines(self, rules):
+        """One line for each rule: definitions; promises; edits and tests. Neighbours with the same places share one."""
+        rows = []
+        for rule in rules:
+            places = {kind: self.by_rule[kind][rule] for kind in self.by_rule}
+            fails = [*(f"`{edit}`" for edit in places["edit"]), *by_file(tested(places["test"]))]
+            promises = [called(place) for place in places["promise"]]
+            parts = [", ".join(names) for names in (by_file(defined(places["definition"])), promises, fails)]
+            if rows and rows[-1][1] == parts:
+                rows[-1][0].append(rule)
+            else:
+                rows.append(([rule], parts))
+        for named, parts in rows:
+            yield f"- **{spanned(named)}** {'; '.join(filter(None, parts)) or '–'}"
+
+    def theorems(self):
+        """A line for the theorems that the same exports promise; exports that only tests link stand where there is no other."""
+        promised = self.promised()
+        rows = defaultdict(list)
+        for place in sorted(self.statements.theorems):
+            exports = [who for who, places in promised.items() if place in places and who.startswith("capi")]
+            linked = [who for who in exports if not who.startswith("capi_test::")]
+            rows[", ".join(called(who) for who in linked or exports)].append(place)
+        for exports, places in rows.items():
+            applied = sorted({f"`{use[0]}/{use[1]}`" for use, theorems in self.statements.applications.items() if set(places) & set(theorems)})
+            stands = by_file((f"{crate}/{file}", name) for crate, file, name in places)
+            yield "- " + "; ".join(filter(None, [", ".join(stands), exports or "–", ", ".join(applied)]))
+
+
+def spanned(rules):
+    """The rules of one line: `X8`, or `X8 to X10`, or one by one where their numbers do not follow each other."""
+    numbers = [int(rule[1:]) for rule in rules]
+    if len(rules) > 2 and numbers == list(range(numbers[0], numbers[0] + len(rules))):
+        return f"{rules[0]} to {rules[-1]}"
+    return ", ".join(rules)
+
+
+def called(place):
+    """crate::function; an export has the name that C calls."""
+    crate, _, name = place.partition("::")
+    return f"`{name}`" if crate.startswith("capi") else f"`{place}`"
+
+
+def defined(places):
+    """Definitions without a record that is named beside one of its fields."""
+    return [(file, name) for file, name in places if not any(other.startswith(f"{name}.") for _, other in places)]
+
+
+def tested(places):
+    """A test by the stem of its file and its name; a stored run by its file."""
+    return [(file if "/" in file else Path(file).stem, name) for file, name in places]
+
+
+def by_file(places):
+    """file.name, and then .name for each other name of the same file; a place without a name is the file."""
+    names = defaultdict(dict)
+    for file, name in places:
+        names[file][name] = None
+    for file, own in names.items():
+        first, *others = sorted(own, key=bool)
+        yield f"`{file}.{first}`" if first else f"`{file}`"
+        yield from (f"`.{name}`" for name in others)
 
 
 def tags_of(tree, comment, where):
@@ -307,38 +360,24 @@ def uses_supposition(source, name):
     return proof is None or bool(re.search(rf"\b{proof.group(2)}\b", proof.group(3)))
 
 
-def joined(places):
-    """Names of one file stand together: (file, name), or a place by itself."""
-    by_file = {}
-    for place in places:
-        file, name = place if isinstance(place, tuple) else (place, "")
-        names = by_file.setdefault(file, [])
-        if name and name not in names:
-            names.append(name)
-    return "; ".join(", ".join([f"`{file}`" + (": " if names else "") + ", ".join(f"`{name}`" for name in names)])
-                     for file, names in by_file.items()) or "–"
-
-
 # theorems that are applications themselves: tables of worked examples, which the checker computes
 COMPUTED = {"CasesHold", "SalvageCases"}
 
 HEAD = """
 # Promises
 
-From each rule of [RULES.md](RULES.md) to its definition, the functions that promise it, and what would fail if it did not hold. `tools/promises.py` writes this page from the comments in the tree.
+From each rule of [RULES.md](RULES.md) to its definitions; the functions that promise it; and the edits and tests that fail if it does not hold, in this order. `tools/promises.py` writes this page from the comments in the tree. An export is listed with the rules about the call itself, and also promises what the functions that it calls promise; a test of everything, as `device.random_calls`, is listed where no other test is.
 
-| Written | Means |
-|---|---|
-| Definition `packet_front/Front`: `goodId` | the name `goodId` in `crates/packet_front/specs/Front.antt` |
-| Promise `packet_protocols::judge` | the contract of `judge` in `crates/packet_protocols/src/lib.rt`. Its proof is `crates/packet_protocols/proofs/judge/Proof.antt`, where the checker does not find one by itself |
-| Edit `packet_front/id_253` | `crates/packet_front/must-fail/id_253.edit`: a change that the checker has to refuse |
-| Test `verdict.rs`: `every_id` | that function in a file of this name under `tests/` |
+- `packet_front/Front.goodId` is a definition: `goodId` in `crates/packet_front/specs/Front.antt`; `.name` behind it is in the same file.
+- `dxl_encode` is the contract of an export, `packet_protocols::judge` that of a function in `crates/packet_protocols/src/lib.rt`. Its proof is `proofs/judge/Proof.antt`, unless the checker finds one by itself.
+- `packet_front/id_253` is an edit: `crates/packet_front/must-fail/id_253.edit`, a change that the checker has to refuse.
+- `verdict.every_id` is a test: `every_id` in the file `verdict` under `tests/`; `.name` behind it is in the same file.
 """
 
 THEOREMS = """
 ## Theorems
 
-Statements in `specs/` that are not about one call's arguments, the exports that promise them, and where they are applied to data; a part of another theorem is applied with that. The gate fails where any statement in `specs/` is promised by no function, and where a theorem that an export names, or a field of it, is applied nowhere.
+Statements in `specs/` that are not about one call's arguments; the exports that promise them; and where they are applied to data. A part of another theorem is applied with that. The gate fails if a statement in `specs/` is promised by no function, or if a theorem that an export names, or a field of it, is applied nowhere.
 """
 
 

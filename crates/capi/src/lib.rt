@@ -1,4 +1,4 @@
-// The functions that C calls. Each passes its arguments on to a crate beneath and makes that crate's promise in numbers and byte
+// The functions that C calls. Each passes its arguments on to a crate below and makes that crate's promise in numbers and byte
 // slices; include/mednukals.h declares and documents them. A `&[u8]` is a pointer and a length in C.
 use device_dispatch::Heard;
 use device_instructions::RegisteredWrite;
@@ -54,7 +54,7 @@ ghost use Rattle.capi.specs.Heard.{heardBy, idOfKind};
 ghost use Rattle.capi.specs.Plans.{CheckSays};
 
 // The checksum of the bytes, going on from an earlier one; 0 starts a packet's. The laws of the sum are promised too.
-// [C1-C8 G5]
+// [C5 C8 G5]
 #[no_mangle]
 pub extern "C" fn dxl_crc16(start: u16, bytes: &[u8]) -> u16
     ensures { λ crc. ⌜ crc ≡ crcFrom start (now (bytes .entry)) ⌝ }
@@ -72,7 +72,7 @@ pub extern "C" fn dxl_crc16_flipped(crc: u16, flips: &[u8], after: usize) -> u16
     crc16_flips::flipped(crc, flips, after)
 }
 
-// The encoder: the packet's byte count, or minus a refusal number. [E1-E9 G5 N1 N2 N4]
+// The encoder: the packet's byte count, or minus a refusal number. [E1-E9 G5]
 #[no_mangle]
 pub extern "C" fn dxl_encode(
     id: u8,
@@ -88,7 +88,7 @@ pub extern "C" fn dxl_encode(
     numbers::encoded(packet_encoder::encode(id, instruction, params, out, at))
 }
 
-// Removal of stuffing: the count of the unstuffed bytes, or minus a refusal number. [G5 N3 N4 S8-S11]
+// Removal of stuffing: the count of the unstuffed bytes, or minus a refusal number. [S8-S11]
 #[no_mangle]
 pub extern "C" fn dxl_unstuff(body: &[u8], out: &mut [u8]) -> i64
     ensures { λ r. ⌜ r ≡ exported (removalAnswer (now (body .entry)) (now (out .entry))) ⌝ }
@@ -98,7 +98,7 @@ pub extern "C" fn dxl_unstuff(body: &[u8], out: &mut [u8]) -> i64
 }
 
 // The table as it comes from the factory: 0, or minus 21 for a table that is not 136 bytes long.
-// [D42 G5 N5 N13 T1 T2 T4 T20]
+// [N13 T1 T4 T20]
 #[no_mangle]
 pub extern "C" fn dxl_fresh(table: &mut [u8]) -> i64
     ensures { λ r. ⌜ r ≡ exportedRefusal (inTable (now (table .entry)) none) ⌝ }
@@ -109,7 +109,7 @@ pub extern "C" fn dxl_fresh(table: &mut [u8]) -> i64
     numbers::change(table_access::fresh(table))
 }
 
-// Present position and hardware error: 0, or minus 21. [D42 G5 N5 N13 T5 T20]
+// Present position and hardware error: 0, or minus 21. [N13 T5]
 #[no_mangle]
 pub extern "C" fn dxl_measure(table: &mut [u8], position: i32, hardware_error: u8) -> i64
     ensures { λ r. ⌜ r ≡ exportedRefusal (inTable (now (table .entry)) none) ⌝ }
@@ -122,7 +122,7 @@ pub extern "C" fn dxl_measure(table: &mut [u8], position: i32, hardware_error: u
 
 // A feeding call on a reader's record in parts, the held bytes and their count. It promises demand 3, and that a packet in which
 // one byte or two neighbours were changed between length field and checksum is a bad checksum.
-// [F1-F16 G5 K3 K7 N9 O15 P11 Q1-Q14 V1-V12]
+// [F5 F6 F9-F11 P11 V2 V7 V10]
 #[no_mangle]
 pub extern "C" fn dxl_feed(
     held: &mut [u8; 1030],
@@ -142,7 +142,7 @@ pub extern "C" fn dxl_feed(
     numbers::step(step)
 }
 
-// A gap call, likewise. [F1-F16 G5 N9 O15 Q1-Q14 V1-V12]
+// A gap call, likewise. [F12-F14 V1]
 #[no_mangle]
 pub extern "C" fn dxl_gap(
     held: &mut [u8; 1030],
@@ -160,7 +160,7 @@ pub extern "C" fn dxl_gap(
     numbers::step(step)
 }
 
-// A feeding call on a reader's record, in place: its held bytes are passed on without a copy. [F1-F16 N9 O15 Q1-Q14 V1-V12]
+// A feeding call on a reader's record, in place: its held bytes are passed on without a copy. [F1 F5 N9 Q10 Q11]
 #[no_mangle]
 pub extern "C" fn dxl_reader_feed<'r, 'c, 'p>(
     reader: &'r mut Reader,
@@ -178,7 +178,7 @@ pub extern "C" fn dxl_reader_feed<'r, 'c, 'p>(
     numbers::step(step)
 }
 
-// A gap call on a reader's record, likewise. [F1-F16 N9 O15 Q1-Q14 V1-V12]
+// A gap call on a reader's record, likewise. [F12 N9 Q10]
 #[no_mangle]
 pub extern "C" fn dxl_reader_gap<'r, 'p>(
     reader: &'r mut Reader,
@@ -196,7 +196,7 @@ pub extern "C" fn dxl_reader_gap<'r, 'p>(
 }
 
 // The plain reader: the next event of a whole segment at an offset or behind it. That calls one after the other give the reading of
-// the segment is promised too, and that the calls above give the same events, however the segment is cut. [G5 P11 R1-R7]
+// the segment is promised too, and that the calls above give the same events, however the segment is cut. [P11 R1-R7]
 #[no_mangle]
 pub extern "C" fn dxl_next_event(segment: &[u8], from: usize) -> EventNumbers
     ensures { λ r. ⌜ r ≡ nextNumbers (nextEvent (now (segment .entry)) from) ⌝ }
@@ -207,7 +207,7 @@ pub extern "C" fn dxl_next_event(segment: &[u8], from: usize) -> EventNumbers
 }
 
 // The writer of a log: its byte count, or minus a refusal number. That what is written is sound is promised too.
-// [G5 I1-I5 I11-I15 N4 N10-N12 N14 N15]
+// [I4 I11-I15 N4 N14]
 #[no_mangle]
 pub extern "C" fn dxl_log_write(bytes: &[u8], lengths: &[u32], out: &mut [u8]) -> i64
     ensures { λ r. ⌜ r ≡ exported (writeAnswer (now (bytes .entry)) (now (lengths .entry)) (now (out .entry))) ⌝ }
@@ -218,7 +218,7 @@ pub extern "C" fn dxl_log_write(bytes: &[u8], lengths: &[u32], out: &mut [u8]) -
 }
 
 // Whether a file is a sound log: 0, or minus a refusal number. That it accepts the sound logs and no others is promised too.
-// [G5 I9 I10 I16 I17 N15 N17]
+// [I9 I16 I17 N15 N17]
 #[no_mangle]
 pub extern "C" fn dxl_log_check(file: &[u8]) -> i64
     ensures { λ r. ⌜ r ≡ exportedRefusal (checkRefusal (now (file .entry))) ⌝ }
@@ -229,7 +229,7 @@ pub extern "C" fn dxl_log_check(file: &[u8]) -> i64
 
 // The last packet for an ID: its segment and its offset there. On a sound log that is what a reading of every segment gives, and on
 // any log it depends on header, directory, one index number and one segment: both are promised.
-// [G5 I6-I8 I10 I18-I20 N15 N16]
+// [I7 I18-I20 N15 N16]
 #[no_mangle]
 pub extern "C" fn dxl_log_last(file: &[u8], id: u8) -> FoundNumbers
     ensures { λ r. ⌜ r ≡ foundNumbers (question (now (file .entry)) id) ⌝ }
@@ -240,7 +240,7 @@ pub extern "C" fn dxl_log_last(file: &[u8], id: u8) -> FoundNumbers
 
 // Salvage of a cut log: what is sound in it is written, and what was altered is reported. That what is written is a sound log of the
 // kept segments, and that a sound log comes out as it was, are promised too, with worked examples.
-// [G5 I21-I31 N4 N10-N12 N14 N18]
+// [I29-I31 N4 N14]
 #[no_mangle]
 pub extern "C" fn dxl_log_salvage(
     file: &[u8],
@@ -277,7 +277,7 @@ fn id_of_kind(kind: u8, id: u8) -> u8
 }
 
 // Kind 1 is a packet, 2 a bad checksum. With any other kind nothing was heard: it counts as sent to an ID that no device has.
-// [D1-D37 D40-D49 G5 N5-N8 N10-N12 T1-T3 T6-T20]
+// [D35-D37 D40-D42 D49 N8 T18-T20]
 #[no_mangle]
 pub extern "C" fn dxl_device(
     table: &mut [u8],
@@ -302,7 +302,7 @@ pub extern "C" fn dxl_device(
 }
 
 // The device call on a packet as received; its body is written to `body` without its stuffing. What is no well-formed packet is
-// met with silence. The theorems of `dxl_device` hold of it by `AsDevice`, and the worked examples are promised too. [D38-D42 D49 G5 N3 N4 O12 T20]
+// met with silence. The theorems of `dxl_device` hold of it by `AsDevice`, and the worked examples are promised too. [D38 D39 O12]
 #[no_mangle]
 pub extern "C" fn dxl_exchange(
     table: &mut [u8],
@@ -325,7 +325,7 @@ pub extern "C" fn dxl_exchange(
 }
 
 // The first of two calls: what was heard is carried out, and its reply waits for its slot. Kinds as of `dxl_device`, whose theorems
-// hold of it by `Split`. [D40-D42 D49-D51 D54 G5 N5-N7 N10-N12 T20]
+// hold of it by `Split`. [D50 D51 D54]
 #[no_mangle]
 pub extern "C" fn dxl_carry_out(
     table: &mut [u8],
@@ -348,7 +348,7 @@ pub extern "C" fn dxl_carry_out(
 }
 
 // The first call on a packet as received; its body is written to `body` without its stuffing. The theorems of `dxl_carry_out` hold
-// of it by `AsDevice`. [D38-D42 D49-D51 D54 G5 N3-N7 N10-N12 N14 T20]
+// of it by `AsDevice`. [D38 D39 D50 D54]
 #[no_mangle]
 pub extern "C" fn dxl_carry_out_packet(
     table: &mut [u8],
@@ -368,7 +368,7 @@ pub extern "C" fn dxl_carry_out_packet(
     numbers::carried_packet(device_packet::carry_out(table, registered, packet, body))
 }
 
-// The second: the status of a reply that has waited. Any reply is accepted but for its refusals. [D52-D54 G5 N1 N2 N8 N10-N12 N14]
+// The second: the status of a reply that has waited. Any reply is accepted but for its refusals. [D52-D54 N8]
 #[no_mangle]
 pub extern "C" fn dxl_status(reply: Reply, out: &mut [u8]) -> i64
     ensures { λ r. ⌜ r ≡ exported (statusAnswer reply (now (out .entry))) ⌝ }
@@ -379,7 +379,7 @@ pub extern "C" fn dxl_status(reply: Reply, out: &mut [u8]) -> i64
 }
 
 // The planner: the plan's byte count, or minus a refusal number. That its plans are accepted, that no accepted plan has fewer
-// packets, and what devices do that hear one, is promised too. [G5 N4 N19 N20 W1 W2 W6-W8 W10]
+// packets, and what devices do that hear one, is promised too. [N19 N20 W6-W8 W10]
 #[no_mangle]
 pub extern "C" fn dxl_plan(goals: &[i32], out: &mut [u8]) -> i64
     ensures { λ r. ⌜ r ≡ exported (planAnswer (now (goals .entry)) (now (out .entry))) ⌝ }
@@ -390,7 +390,7 @@ pub extern "C" fn dxl_plan(goals: &[i32], out: &mut [u8]) -> i64
 }
 
 // The test of anyone's plan: 1 exactly where the bytes are one, 0 where they are not, or minus a refusal number. What devices do
-// that hear an accepted one is promised too. [G5 N19 N20 W1-W5 W9 W10]
+// that hear an accepted one is promised too. [N19 N20 W9 W10]
 #[no_mangle]
 pub extern "C" fn dxl_plan_check(goals: &[i32], plan: &[u8]) -> i64
     ensures { λ r. ⌜ CheckSays (now (goals .entry)) (now (plan .entry)) r ⌝ }

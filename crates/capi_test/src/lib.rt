@@ -106,7 +106,7 @@ pub extern "C" fn dxl_test_verdict(segment: &[u8], offset: usize) -> VerdictNumb
     verdict_of(Protocol::Two, segment, offset)
 }
 
-// The verdict of Protocol 1.0. That its rules keep the laws of packet rules is promised too. [O1-O8]
+// The verdict of Protocol 1.0. That its rules keep the laws of packet rules is promised too. [O8]
 #[no_mangle]
 pub extern "C" fn dxl_test_p1_verdict(segment: &[u8], offset: usize) -> VerdictNumbers
     ensures { λ r. ⌜ r ≡ verdictNumbers (answerBy protocol1 (drop offset (now (segment .entry)))) ⌝ }
@@ -115,7 +115,7 @@ pub extern "C" fn dxl_test_p1_verdict(segment: &[u8], offset: usize) -> VerdictN
     verdict_of(Protocol::One, segment, offset)
 }
 
-// The verdict of Mercury, likewise. [O1-O8]
+// The verdict of Mercury, likewise. [O8]
 #[no_mangle]
 pub extern "C" fn dxl_test_mercury_verdict(segment: &[u8], offset: usize) -> VerdictNumbers
     ensures { λ r. ⌜ r ≡ verdictNumbers (answerBy mercury (drop offset (now (segment .entry)))) ⌝ }

@@ -11,7 +11,7 @@ ghost use Rattle.packet_protocols.specs.declared.Protocol.the-variants.{One, Me
 ghost use Rattle.reader_records.specs.Records.{lent, stepIn, leftIn, packetIn, EveryProtocol};
 ghost use Rattle.numbers.specs.Exported.{exported, stepNumbers};
 
-// The encoder of Protocol 1.0: the packet's byte count, or minus a refusal number. [G5 N1 N2 N4 O9-O11]
+// The encoder of Protocol 1.0: the packet's byte count, or minus a refusal number. [O9-O11]
 #[no_mangle]
 pub extern "C" fn dxl_p1_encode(
     id: u8,
@@ -34,7 +34,7 @@ pub extern "C" fn dxl_p1_encode(
     ))
 }
 
-// The encoder of Mercury, likewise. [G5 N1 N2 N4 O9-O11]
+// The encoder of Mercury, likewise. [O9-O11]
 #[no_mangle]
 pub extern "C" fn dxl_mercury_encode(
     id: u8,
@@ -57,7 +57,7 @@ pub extern "C" fn dxl_mercury_encode(
     ))
 }
 
-// The feeding call of Protocol 1.0 on the record by its parts. Demand 3 of every protocol is promised too. [F2-F10 F15 F16 G5 N9 N11 N12 O13-O15]
+// The feeding call of Protocol 1.0 on the record by its parts. Demand 3 of every protocol is promised too. [N9 O13 O15]
 #[no_mangle]
 pub extern "C" fn dxl_p1_feed(
     held: &mut [u8; 258],
@@ -76,7 +76,7 @@ pub extern "C" fn dxl_p1_feed(
     numbers::step(step)
 }
 
-// The gap call of Protocol 1.0, likewise. [F12-F16 G5 N9 N11 N12 O13-O15]
+// The gap call of Protocol 1.0, likewise. [O13]
 #[no_mangle]
 pub extern "C" fn dxl_p1_gap(
     held: &mut [u8; 258],
@@ -94,7 +94,7 @@ pub extern "C" fn dxl_p1_gap(
     numbers::step(step)
 }
 
-// The feeding call of Mercury, likewise. [F2-F10 F15 F16 G5 N9 N11 N12 O13-O15]
+// The feeding call of Mercury, likewise. [N9 O13 O15]
 #[no_mangle]
 pub extern "C" fn dxl_mercury_feed(
     held: &mut [u8; 258],
@@ -113,7 +113,7 @@ pub extern "C" fn dxl_mercury_feed(
     numbers::step(step)
 }
 
-// The gap call of Mercury, likewise. [F12-F16 G5 N9 N11 N12 O13-O15]
+// The gap call of Mercury, likewise. [O13]
 #[no_mangle]
 pub extern "C" fn dxl_mercury_gap(
     held: &mut [u8; 258],

@@ -141,7 +141,7 @@ pub fn state_refusal(table: &[u8], registered: RegisteredWrite) -> Replied
 }
 
 // The first of two calls: the instruction is carried out, and its reply waits for its slot, the alert bit settled. Faults of the
-// caller come first, whatever was heard, and change nothing; the reply is silence then. [D50 D51 N5-N7 N10-N12]
+// caller come first, whatever was heard, and change nothing; the reply is silence then. [D50 D51 N5-N7]
 pub fn carry_out(
     table: &mut [u8],
     registered: RegisteredWrite,
@@ -167,7 +167,7 @@ pub fn carry_out(
     dispatch(table, registered, heard, id, body)
 }
 
-// The caller's fault in what is lent to the device call, or silence: the same, then a reply buffer under 32 bytes. [N5-N8 N10]
+// The caller's fault in what is lent to the device call, or silence: the same, then a reply buffer under 32 bytes. [N8 N10]
 pub fn call_refusal(table: &[u8], registered: RegisteredWrite, out: &[u8]) -> Replied
     ensures { λ r. ⌜ repliedAnswer r ≡ answeredBy (callRefusal (now (table .entry)) registered (now (out .entry))) Status·silence ⌝ }
 {
@@ -203,7 +203,7 @@ pub fn send(reply: Reply, out: &mut [u8]) -> Replied
 }
 
 // The device call: the test of the reply buffer, the first call and the second. Faults of the caller come first, whatever was heard,
-// and change nothing. [D1-D37 D43-D49 G4 M4 N5-N8 N10-N12 N14]
+// and change nothing. [D28-D30 D32 D33 D35-D37 D48 D49 G4 M4 N10-N12 N14]
 pub fn hear(
     table: &mut [u8],
     registered: RegisteredWrite,

@@ -60,7 +60,7 @@ fn react(
     }
 }
 
-// A body without a byte is heard as an undefined instruction; a bad checksum has no body. [D1-D27 D31-D34 D43-D47]
+// A body without a byte is heard as an undefined instruction; a bad checksum has no body. [D1-D7 D13 D14 D18 D19 D26 D27 D32 D33 D45]
 pub fn reaction(
     table: &mut [u8],
     registered: RegisteredWrite,

@@ -72,7 +72,7 @@ pub struct CarriedPacket {
 
 // The first of two calls: writes the packet's body without its stuffing to the body buffer, and lets the device carry it out. Faults of
 // the caller come first and change nothing: those of the removal, then the device's. The device's are tested first, so that the
-// removal, which tests its own before it writes, goes over the body once. [D38 D39 D50 D51 N3-N7 N10-N12 N14]
+// removal, which tests its own before it writes, goes over the body once. [D38 D39 D50 D51 N3 N4]
 pub fn carry_out(
     table: &mut [u8],
     registered: RegisteredWrite,
@@ -120,7 +120,7 @@ pub fn carry_out(
     }
 }
 
-// The call in one: the test of the reply buffer, the first call and the second. [D38 D39 N3-N8 N10-N12 N14]
+// The call in one: the test of the reply buffer, the first call and the second. [D38 D39 N3 N4 N10 N12 N14]
 pub fn answer(
     table: &mut [u8],
     registered: RegisteredWrite,

@@ -1,4 +1,4 @@
-// Results as C gets them: each result of a crate beneath becomes a number or a record of numbers. A function has the name of what
+// Results as C gets them: each result of a crate below becomes a number or a record of numbers. A function has the name of what
 // it converts.
 use device::CarriedOut;
 use device::Replied;

@@ -21,7 +21,7 @@ pub fn body(packet: &[u8]) -> &[u8]
     }
 }
 
-// Writes the packet's body without its stuffing to the start of out; refused as `unstuff_into` is. [N3 N4 N11 N12 N14 S7]
+// Writes the packet's body without its stuffing to the start of out; refused as `unstuff_into` is. [N3 N4 S7]
 pub fn unstuff(packet: &[u8], out: &mut [u8]) -> Unstuffed
     ensures { λ r. ⌜ unstuffedAnswer r ≡ removalAnswer (bodyOf (now (packet .entry))) (now (out .entry)) ⌝ }
     ensures { λ _. ⌜ now (out .exit) ≡ removalOut (bodyOf (now (packet .entry))) (now (out .entry)) ⌝ }

@@ -67,7 +67,7 @@ fn write_packet(id: u8, instruction: u8, params: &[u8], n: usize, out: &mut [u8]
 
 // Writes the packet with this ID, instruction and parameters to out from `at` on. Refused, in this order: an ID that is not
 // allowed, a length field past 1,024, no room from `at` on (`at` may lie past the end). A refusal writes nothing.
-// [C4 E1-E9 N1 N2 N4 N10-N12 N14 P1-P9 S2]
+// [C4 N1 N2 N4 N10-N12 N14 P1-P9 S2]
 pub fn encode(id: u8, instruction: u8, params: &[u8], out: &mut [u8], at: usize) -> Encoded
     ensures { λ r. ⌜ encodedAnswer r ≡ encodeAnswer id (instruction ∷ now (params .entry)) (now (out .entry)) at ⌝ }
     ensures { λ _. ⌜ now (out .exit) ≡ encodeOut id (instruction ∷ now (params .entry)) (now (out .entry)) at ⌝ }

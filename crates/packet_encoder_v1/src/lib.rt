@@ -44,7 +44,7 @@ fn write_packet(id: u8, instruction: u8, params: &[u8], out: &mut [u8])
 
 // Writes the packet with this ID, instruction or error byte and parameters to out from `at` on; the IDs of devices end with
 // `last`. Refused, in this order: an ID that is not allowed, a length past 255, no room from `at` on (`at` may lie past the end).
-// A refusal writes nothing. [N1 N2 N4 N10-N12 N14 O1-O5 O9 O10]
+// A refusal writes nothing. [N1 N2 N4 N10-N12 N14 O1-O5]
 pub fn encode(
     last: u8,
     id: u8,

@@ -152,7 +152,7 @@ pub fn next_start(protocol: Protocol, segment: &[u8], from: usize) -> usize
     at
 }
 
-// The verdict on all bytes of a packet whose header, ID and length are right. [O5 O6 P7 P8 V4 V5]
+// The verdict on all bytes of a packet whose header, ID and length are right. [O5 O6]
 pub fn judge_whole(protocol: Protocol, packet: &[u8]) -> Judgement
     ensures { λ r. ⌜ r ≡ wholeOf protocol (now (packet .entry)) ⌝ }
 {

@@ -307,7 +307,7 @@ pub fn gap_in(held: &mut [u8; 1030], count: usize, packet: &mut [u8; 1031]) -> S
     gap_by(Protocol::Two, held, count, packet)
 }
 
-// The calls of Protocol 1.0. [O13 O14]
+// The calls of Protocol 1.0. [O14]
 pub fn feed_p1(held: &mut [u8; 258], count: usize, chunk: &[u8], packet: &mut [u8; 259]) -> Step
     ensures { λ r. ⌜ (r ≡ stepFor One count (call (rulesOf One) (take count (now (held .entry))) (Call·feed (now (chunk .entry)))))
         × (now (held .exit) ≡ heldFor One count (now (held .entry)) (call (rulesOf One) (take count (now (held .entry))) (Call·feed (now (chunk .entry)))))
@@ -319,7 +319,7 @@ pub fn feed_p1(held: &mut [u8; 258], count: usize, chunk: &[u8], packet: &mut [u
     feed_by(Protocol::One, held, count, chunk, packet)
 }
 
-// The gap call, likewise. [O13 O14]
+// The gap call, likewise. [O14]
 pub fn gap_p1(held: &mut [u8; 258], count: usize, packet: &mut [u8; 259]) -> Step
     ensures { λ r. ⌜ (r ≡ stepFor One count (call (rulesOf One) (take count (now (held .entry))) Call·gap))
         × (now (held .exit) ≡ heldFor One count (now (held .entry)) (call (rulesOf One) (take count (now (held .entry))) Call·gap))
@@ -331,7 +331,7 @@ pub fn gap_p1(held: &mut [u8; 258], count: usize, packet: &mut [u8; 259]) -> Ste
     gap_by(Protocol::One, held, count, packet)
 }
 
-// And of Mercury. [O13 O14]
+// And of Mercury. [O14]
 pub fn feed_mercury(
     held: &mut [u8; 258],
     count: usize,
@@ -348,7 +348,7 @@ pub fn feed_mercury(
     feed_by(Protocol::Mercury, held, count, chunk, packet)
 }
 
-// The gap call, likewise. [O13 O14]
+// The gap call, likewise. [O14]
 pub fn gap_mercury(held: &mut [u8; 258], count: usize, packet: &mut [u8; 259]) -> Step
     ensures { λ r. ⌜ (r ≡ stepFor Mercury count (call (rulesOf Mercury) (take count (now (held .entry))) Call·gap))
         × (now (held .exit) ≡ heldFor Mercury count (now (held .entry)) (call (rulesOf Mercury) (take count (now (held .entry))) Call·gap))

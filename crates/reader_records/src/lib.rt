@@ -21,7 +21,7 @@ pub struct Fed {
 }
 
 // A feeding call: takes the fewest bytes of the chunk that decide an event, or all of it. Feed the rest again until a call gives
-// no event, even if the rest is empty: events may lie in the held bytes. [F1-F16 K3 K7 Q1-Q14]
+// no event, even if the rest is empty: events may lie in the held bytes. [F1 F11 K3 K7 Q1-Q14]
 pub fn feed(reader: Reader, chunk: &[u8]) -> Fed
     ensures { λ r. ⌜ (r .step ≡ stepOn reader (Call·feed (now (chunk .entry))))
         × (r .packet ≡ packetOn reader (Call·feed (now (chunk .entry))) (replicate 1031 0))
@@ -40,7 +40,7 @@ pub fn feed(reader: Reader, chunk: &[u8]) -> Fed
     }
 }
 
-// A gap call: the next event, with the held bytes as the end of the segment. Call it until nothing is left. [F12-F16 Q1-Q14 V1]
+// A gap call: the next event, with the held bytes as the end of the segment. Call it until nothing is left. [F13 F14 V1]
 pub fn gap(reader: Reader) -> Fed
     ensures { λ r. ⌜ (r .step ≡ stepOn reader Call·gap) × (r .packet ≡ packetOn reader Call·gap (replicate 1031 0))
         × (r .reader ≡ leftBy reader Call·gap) ⌝ }

@@ -33,7 +33,7 @@ pub struct Reading {
     pub bytes: [u8; MAX_DATA],
 }
 
-// The write: judged first, then stored whole. A refused one leaves every byte. [M5 N5 N12 T3 T6-T14]
+// The write: judged first, then stored whole. A refused one leaves every byte. [M5 N12 T3 T6-T14]
 pub fn write(table: &mut [u8], address: u16, bytes: &[u8]) -> Outcome
     ensures { λ r. ⌜ refusalOf r ≡ inTable (now (table .entry)) (writeRule (now (table .entry)) address (now (bytes .entry))) ⌝ }
     ensures { λ _. ⌜ now (table .exit) ≡ writeOut (now (table .entry)) address (now (bytes .entry)) ⌝ }
@@ -54,7 +54,7 @@ fn bytes_from(table: &[u8], at: usize, n: usize) -> [u8; MAX_DATA]
     buffers::first_eight(&table[at..at + n])
 }
 
-// The read rule. A read that is not refused has at most 8 bytes. [N5 T15-T17]
+// The read rule. A read that is not refused has at most 8 bytes. [T15-T17]
 pub fn read(table: &[u8], address: u16, count: u16) -> Reading
     ensures { λ r. ⌜ refusalOf (r .outcome) ≡ inTable (now (table .entry)) (readRule address count) ⌝ }
     ensures { λ r. ⌜ r .bytes ≡ readBytes (now (table .entry)) address count ⌝ }

@@ -193,7 +193,7 @@ fn least_to_write(table: &[u8]) -> u8
     }
 }
 
-// The write rule, on a table that stays as it is. [M5 N5 T3 T6-T11 T14]
+// The write rule, on a table that stays as it is. [M5 T3 T6-T11]
 pub fn judge(table: &[u8], address: u16, bytes: &[u8]) -> Outcome
     ensures { λ r. ⌜ refusalOf r ≡ inTable (now (table .entry)) (writeRule (now (table .entry)) address (now (bytes .entry))) ⌝ }
 {

@@ -68,7 +68,7 @@ fn every_instruction_id_and_parameter_count() {
     }
 }
 
-/// [D1-D37 D40 D43-D47 D50 D51 D54 M5 N12 T6-T18]
+/// Any instruction on any table; tagged are the rules that no other test is about. [D28 D35-D37 T6 T13 T18]
 #[test]
 fn random_calls() {
     let mut rng = Rng::new(51);

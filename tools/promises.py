@@ -120,11 +120,14 @@ def edits():
 
 
 def unfit_edits():
-    """Edits that would change nothing: their file is not there, or their old text does not stand there exactly once."""
+    """Edits that would not change what they say: their file is not there, their old text does not stand there exactly once, or they
+    have a line that the kit passes over, as it does with the second line of a text."""
     for path in sorted(Path("crates").glob("*/must-fail/*.edit")):
         file = None
         for line in read(path).split("\n"):
             word, _, rest = line.partition(": ")
+            if file and line and not line.startswith(("file: ", "old: ", "new:")):
+                yield f"the edit {path} has a line that is passed over: {line}"
             if word == "file":
                 file = path.parent.parent / rest
                 if not file.exists():

@@ -26,7 +26,7 @@ use Rattle.device_packet.specs.Exchange.{heardOf}
 use Rattle.plan.specs.Goals.{goalsRefusal}
 use Rattle.plan.specs.Planner.{planOf}
 use Rattle.plan.specs.Samples.{twoGoals, planOfTwo}
-use Rattle.cases.specs.Exchanges.{Lent, answerTo, leftAfter, lending, left, at166, goalAt512, registeredTable, goalTooLarge, goalRegistered, markedLimits}
+use Rattle.cases.specs.Exchanges.{Lent, answerTo, leftAfter, lending, left, at166, goalAt512, registeredTable, goalTooLarge, goalRegistered, lampRegistered, markedLimits}
 use Rattle.cases.specs.Exchanges.{worked, locked, alerted, level}
 use Rattle.cases.specs.Exchanges.{pingWrongSum, pingWithParameter, lengthStatus, actionTo1, actionToAll, rangeStatus, raiseMin, limitStatus, registerGoal, lowerMax, syncReadPosition, bulkReadGoal, zeroStatus, bulkWriteGoal, device9, readLimits, longestStatus}
 
@@ -168,6 +168,12 @@ table =
     (left (put freshTable maxPosition 4000) dropped 1 (0x05 ∷ []) limitStatus)
     -- and without that it is carried out
     ∷ exchange actionTo1 (lending registeredTable goalRegistered 1) (sent 11 0) (left goalAt512 dropped 1 (0x05 ∷ []) writeStatus)
+    -- with another min position it is refused too; a Reg Write in the place of an older one has the limits of now; one that the limits
+    -- do not admit is not registered
+    ∷ drops 1 (0x05 ∷ []) (put registeredTable minPosition 100) (put freshTable minPosition 100) limitStatus
+    ∷ exchange registerGoal (lending registeredTable lampRegistered 7) (sent 11 0)
+    (left registeredTable goalRegistered 7 (take 7 (drop 7 registerGoal)) writeStatus)
+    ∷ heard 1 (take 7 (drop 7 registerGoal)) (put freshTable maxPosition 511) (put freshTable maxPosition 511) limitStatus
     -- the third of a Sync Read's list; the longest status
     ∷ exchange syncReadPosition (lending at166 dropped 8) (sent 15 2)
     (left at166 dropped 8 (0x82 ∷ 0x84 ∷ 0x00 ∷ 0x04 ∷ 0x00 ∷ 0x03 ∷ 0x02 ∷ 0x01 ∷ []) readStatus)
@@ -189,8 +195,10 @@ table =
     ∷ refusal actionTo1 (lending registeredTable goalTooLarge 1) 0x04
     ∷ refusal actionToAll (lending registeredTable goalTooLarge 1) 0x04
     ∷ refusal pingWithParameter (lending registeredTable goalTooLarge 2) 0x05
-    -- Factory Reset FF, 01, 02 and another option; FF to all devices; Reboot under torque
+    -- Factory Reset FF, where min position is 100 too: the goal position becomes the fresh one; 01, 02 and another option; FF to all
+    -- devices; Reboot under torque
     ∷ drops 9 (0x06 ∷ 0xFF ∷ []) worked freshTable (status 9 0x00)
+    ∷ drops 9 (0x06 ∷ 0xFF ∷ []) (put worked minPosition 100) freshTable (status 9 0x00)
     ∷ drops 9 (0x06 ∷ 0x01 ∷ []) worked device9 (status 9 0x00)
     ∷ drops 9 (0x06 ∷ 0x02 ∷ []) worked (put device9 baudCode 3) (status 9 0x00)
     ∷ heard 9 (0x06 ∷ 0x03 ∷ []) worked worked (status 9 0x84)

@@ -78,6 +78,10 @@ goalRegistered =
       max = pos 4095;
     }
 
+-- an older one, which turns the lamp on, registered at the limits 100 and 4,000
+abbrev pub lampRegistered : RegisteredWrite
+lampRegistered = record { address = 65; count = 1; bytes = 0x01 ∷ replicate 7 0x00; min = pos 100; max = pos 4000 }
+
 -- one with FF FF FD 00 in both limits of the position
 abbrev pub markedLimits : List ℕ
 markedLimits = put (put freshTable maxPosition 0x00FDFFFF) minPosition 0x00FDFFFF

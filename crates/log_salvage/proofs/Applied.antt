@@ -31,6 +31,7 @@ salvage-applied t =
       sound = s .0;
       shorter = s .1;
       unaltered = t .unaltered cutFile output (0 ∷ 0 ∷ 0 ∷ 0 ∷ []) salvage-passes;
+      anew = refl;
       each = t .each cutFile;
       apart = (t .apart cutFile .0, t .apart cutFile .1);
       left = t .left cutFile;

@@ -22,6 +22,8 @@ pub record Salvaged : Type 0 where
   pub sound : Sound (take 1050 (salvageOut cutFile output (0 ∷ 0 ∷ 0 ∷ 0 ∷ [])))
   pub shorter : 1050 ≤ 1067
   pub unaltered : segmentsIn (logOf (pingTo1 ∷ [])) ≡ pingTo1 ∷ []
+  -- the index is made anew: in the old one ID 2 has a segment
+  pub anew : salvaged cutFile ≡ logOf (pingTo1 ∷ [])
   -- one entry is kept and one dropped; the kept one lies behind the old index, which ends at 1,048, and within the file
   pub each : length (keptSegments cutFile) + length (droppedIn cutFile) ≡ 2
   pub apart : (1048 ≤ 1048) × (1058 ≤ 1067)

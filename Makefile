@@ -5,7 +5,7 @@ SHELL := /bin/sh
 .DELETE_ON_ERROR:
 # rt works in one target/ folder, so two of its runs must never overlap.
 .NOTPARALLEL:
-.PHONY: help run checksum segment old_boards demo lib dxl install test fuzz replay bench counts memory mutants promises fmt clean kit format promises_test constants_test vectors_test c_test header_test demo_test programs_test cli_test install_test docs_test make_test counts_test rust_test leaf_test
+.PHONY: help run checksum segment old_boards demo lib dxl install test fuzz replay bench counts memory mutants promises fmt clean kit format promises_test constants_test vectors_test c_test header_test demo_test programs_test cli_test show_test install_test docs_test make_test counts_test rust_test leaf_test
 .PHONY: fuzz_program replay_file
 
 comma := ,
@@ -53,7 +53,7 @@ use it
   make lib                 prove the exports and build the archives that C links, under build/lib
       LEAF=small           over the small checksum function, for boards with little flash
       LEAF=fold            over the one without a table, the fastest
-  make dxl                 build the tool dxl, for line logs and plans of goals on a bench computer: build/c/dxl
+  make dxl                 build the tool dxl, for captures, line logs and plans of goals on a bench computer: build/c/dxl
   make install             put header, archive, dxl and a pkg-config file below /usr/local
       PREFIX=DIR           below that folder
       DESTDIR=DIR          staged below that one, for a package
@@ -71,7 +71,8 @@ prove and test it
   make install_test        make install, and the version
   make docs_test           links, commands and code in the documents
   make programs_test       the programs line and checksum where something is wrong
-  make cli_test            the tool dxl
+  make cli_test            the tool dxl: words, files, logs and plans
+  make show_test           what it prints of captures, also with the compiler's checks of memory, on random and damaged files
   make demo_test           the example boards and their master
   make counts_test         the instructions that each export takes beside tests/instructions.txt
   make rust_test           every export beside the second implementation
@@ -155,11 +156,20 @@ dxl: build/c/dxl
 
 # The tool needs POSIX; files may have more than two gigabytes.
 POSIX := -D_XOPEN_SOURCE=700 -D_FILE_OFFSET_BITS=64
-CLI_SOURCES := cli/dxl.c cli/plan.c cli/goals.c cli/files.c
-build/c/dxl: $(CLI_SOURCES) cli/dxl.h cli/goals.h cli/files.h include/mednukals.h build/lib/libmednukals.a
+CLI_SOURCES := $(wildcard cli/*.c)
+CLI_PAGE := build/cli/timeline_page.h
+# The second for tests, with the compiler's checks of memory and of undefined behaviour.
+build/c/dxl: CLI_FLAGS := -O2
+build/c/dxl_checked: CLI_FLAGS := -O1 -g -fsanitize=address,undefined -fno-sanitize-recover=all
+build/c/dxl build/c/dxl_checked: $(CLI_SOURCES) $(wildcard cli/*.h) $(CLI_PAGE) include/mednukals.h build/lib/libmednukals.a
 	@$(call need,$(CC))
 	@mkdir -p $(@D)
-	@$(CC) $(WARNINGS) $(POSIX) -O2 -Iinclude -o $@ $(CLI_SOURCES) build/lib/libmednukals.a || $(call failed,compiling the tool dxl)
+	@$(CC) $(WARNINGS) $(POSIX) $(CLI_FLAGS) -Iinclude -Ibuild/cli -o $@ $(CLI_SOURCES) build/lib/libmednukals.a \
+	    || $(call failed,compiling the tool dxl)
+
+# The page of dxl timeline, a string for each line.
+$(CLI_PAGE): cli/timeline.html
+	@mkdir -p $(@D) && sed 's/[\\"]/\\&/g; s/.*/"&\\n",/' $< >$@
 
 # $(call archive_rule,ARCHIVE,CRATES)
 define archive_rule
@@ -262,6 +272,10 @@ programs_test: $(PROGRAMS:%=build/bin/%)
 cli_test: build/c/dxl
 	@$(call need,python3)
 	@$(call step,cli_test,the tool dxl) python3 tests/cli_test.py $<
+
+show_test: build/c/dxl build/c/dxl_checked
+	@$(call need,python3)
+	@$(call step,show_test,what the tool dxl shows of captures) python3 tests/show_test.py $^
 
 header_test: $(LIBS) build/c/header_c99 build/c/header_cxx11 build/c/empty
 	@$(call need,python3)

@@ -73,6 +73,15 @@ static void find_write(struct meaning *meaning, const uint8_t *params, size_t n)
         add_fields(meaning, -1, word_at(params), (uint32_t)n - 2, params + 2);
 }
 
+/* What devices make of an ID in a list: one that stands there twice, or that no device has, and none of them acts on the list. */
+static void note_id(struct meaning *meaning, uint8_t seen[256], uint8_t id)
+{
+    if (id > 252)
+        meaning->note = "its list has an ID above 252, and no device acts on that";
+    else if (seen[id]++)
+        meaning->note = "its list has an ID twice, and no device acts on that";
+}
+
 /* An address, a length and a list: of IDs, or of IDs each followed by as many bytes. */
 static void find_sync(struct meaning *meaning, const uint8_t *params, size_t n, int writes)
 {
@@ -80,33 +89,37 @@ static void find_sync(struct meaning *meaning, const uint8_t *params, size_t n, 
         keep_data(meaning, params, n, "it takes an address, a length and a list");
         return;
     }
+    uint8_t seen[256] = {0};
     uint32_t address = word_at(params), length = word_at(params + 2);
+    size_t at = 4, entry = writes ? 1 + (size_t)length : 1;
+    for (; at + entry <= n; at += entry) {
+        note_id(meaning, seen, params[at]);
+        if (writes)
+            add_fields(meaning, params[at], address, length, params + at + 1);
+    }
     if (length == 0)
         meaning->note = "its length is 0, and no device acts on that";
     if (!writes) {
         add_fields(meaning, -1, address, length, NULL);
         meaning->ids = params + 4;
         meaning->n_ids = n - 4;
-        return;
-    }
-    size_t at = 4;
-    for (; at + 1 + length <= n; at += 1 + length)
-        add_fields(meaning, params[at], address, length, params + at + 1);
-    if (at < n)
+    } else if (at < n)
         keep_data(meaning, params + at, n - at, "its list is cut short, and no device acts on that");
 }
 
 /* Entries of an ID, an address and a length, with as many bytes behind it in a Bulk Write. */
 static void find_bulk(struct meaning *meaning, const uint8_t *params, size_t n, int writes)
 {
+    uint8_t seen[256] = {0};
     size_t at = 0;
     while (at + 5 <= n) {
         uint32_t length = word_at(params + at + 3);
         size_t data = writes ? length : 0;
-        if (length == 0)
-            meaning->note = "a length in it is 0, and no device acts on that";
         if (data > n - at - 5)
             break;
+        note_id(meaning, seen, params[at]);
+        if (length == 0)
+            meaning->note = "a length in it is 0, and no device acts on that";
         add_fields(meaning, params[at], word_at(params + at + 1), length, writes ? params + at + 5 : NULL);
         at += 5 + data;
     }

@@ -116,25 +116,6 @@ static int print_event(void *hearer, const struct event *event)
     return !ferror(stdout);
 }
 
-static void put_count(uint64_t n, const char *one, const char *more)
-{
-    printf("%" PRIu64 " %s", n, n == 1 ? one : more);
-}
-
-static void print_totals(const struct totals *totals)
-{
-    put_count(totals->bytes, "byte", "bytes");
-    if (totals->timed)
-        printf(" in %.6f s", (double)(totals->last - totals->first) / 1e9);
-    fputs(": ", stdout);
-    put_count(totals->packets, "packet", "packets");
-    printf(", %" PRIu64 " with an error or the alert; ", totals->errors);
-    put_count(totals->bad, "bad checksum; ", "bad checksums; ");
-    if (totals->timed)
-        put_count(totals->missing, "missing status; ", "missing statuses; ");
-    put_count(totals->noise, "byte of noise\n", "bytes of noise\n");
-}
-
 int show_capture(struct capture *capture, const struct options *options)
 {
     struct totals totals;
@@ -142,8 +123,10 @@ int show_capture(struct capture *capture, const struct options *options)
     struct printer printer = {options, capture->name, colour};
     int good = read_events(capture, options->protocol, print_event, &printer, &totals);
     close_capture(capture);
-    if (good && !options->json)
-        print_totals(&totals);
+    if (good && !options->json) {
+        put_totals(stdout, &totals);
+        putchar('\n');
+    }
     return good ? DONE : FAILED;
 }
 

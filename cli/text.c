@@ -109,8 +109,10 @@ static void put_instruction(FILE *to, const struct protocol *protocol, const str
         fputs(meaning->name, to);
     else
         fprintf(to, "undefined instruction %02X", meaning->code);
-    if (says_more(meaning))
-        fputs(meaning->n_fields > 0 && meaning->fields[0].id < 0 ? " " : ": ", to);
+    if (meaning->n_fields > 0 && meaning->fields[0].id < 0)
+        fputc(' ', to);
+    else if (says_more(meaning) && meaning->n_ids == 0)
+        fputs(": ", to);
     put_fields(to, protocol, meaning);
     put_rest(to, meaning);
 }
@@ -223,7 +225,7 @@ static void put_reason(FILE *to, const struct protocol *protocol, const struct b
         fprintf(to, "cut off: %zu", longest->agreed);
         if (longest->announced > 0)
             fprintf(to, " of %zu", longest->announced);
-        fprintf(to, " bytes of a packet stand at %" PRIu64, longest->offset);
+        fprintf(to, longest->agreed == 1 ? " byte of a packet stands at %" PRIu64 : " bytes of a packet stand at %" PRIu64, longest->offset);
         return;
     }
 }
@@ -257,4 +259,25 @@ void put_event(FILE *to, const struct protocol *protocol, const struct event *ev
         put_stuffing(to, event->meaning);
     if (item->inside)
         fprintf(to, " [inside the bad checksum at %" PRIu64 "]", item->outer);
+}
+
+/* ---- all of a capture */
+
+static void put_count(FILE *to, uint64_t n, const char *one, const char *more)
+{
+    fprintf(to, "%" PRIu64 " %s", n, n == 1 ? one : more);
+}
+
+void put_totals(FILE *to, const struct totals *totals)
+{
+    put_count(to, totals->bytes, "byte", "bytes");
+    if (totals->timed)
+        fprintf(to, " in %.6f s", (double)(totals->last - totals->first) / 1e9);
+    fputs(": ", to);
+    put_count(to, totals->packets, "packet", "packets");
+    fprintf(to, ", %" PRIu64 " with an error or the alert; ", totals->errors);
+    put_count(to, totals->bad, "bad checksum; ", "bad checksums; ");
+    if (totals->timed)
+        put_count(to, totals->missing, "missing status; ", "missing statuses; ");
+    put_count(to, totals->noise, "byte of noise", "bytes of noise");
 }

@@ -7,6 +7,7 @@
 #include "events.h"
 
 void put_event(FILE *to, const struct protocol *protocol, const struct event *event);
+void put_totals(FILE *to, const struct totals *totals);
 void put_bytes(FILE *to, const uint8_t *bytes, size_t n); /* in hex, with a space between */
 
 /* One of > < ! ~ ? */

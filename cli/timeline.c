@@ -86,10 +86,9 @@ static void put_about(const char *name, const struct totals *totals)
 {
     fputs("{name: ", stdout);
     put_json_name(stdout, name);
-    printf(", timed: %s, first: %.3f,\n totals: \"%" PRIu64 " bytes, %" PRIu64 " packets, %" PRIu64 " with an error, %" PRIu64
-           " bad checksums, %" PRIu64 " missing statuses, %" PRIu64 " bytes of noise\"}\n",
-           totals->timed ? "true" : "false", (double)totals->first / 1e3, totals->bytes, totals->packets, totals->errors, totals->bad,
-           totals->missing, totals->noise);
+    printf(", timed: %s, first: %.3f, totals: \"", totals->timed ? "true" : "false", (double)totals->first / 1e3);
+    put_totals(stdout, totals);
+    fputs("\"}\n", stdout);
 }
 
 /* Nothing is printed before the capture could be opened. */

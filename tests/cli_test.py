@@ -172,7 +172,8 @@ class Write(Folder):
             file.truncate(1 << 32)
         for captures in [[half, half], [whole], [whole, whole]]:
             status, out, err = run("log", "write", self.out, *captures)
-            self.assertEqual((status, out, err), (FAILED, "", f"dxl: {self.out}: 31, the log would have more than 4294967295 bytes\n"))
+            self.assertEqual((status, out, err),
+            (FAILED, "", f"dxl: {self.out}: 31, the log would have more than 4294967295 bytes\n"))
         self.assertEqual(self.names(), ["half", "whole"])
 
     def signalled(self, number, disposition):
@@ -213,7 +214,8 @@ class Ask(Folder):
         self.assertEqual(run("log", "check", self.out), (NO, f"{self.out}: not sound: {why}", ""))
         for words in [["last", self.out, 1], ["last", self.out], ["list", self.out], ["show", self.out, 0], ["extract", self.out, 0, "x"]]:
             self.assertEqual(run("log", *words), (FAILED, "", f"dxl: {self.out}: {why}"))
-        self.assertEqual(run("log", "check", self.file("none")), (FAILED, "", f"dxl: {self.file('none')}: No such file or directory\n"))
+        self.assertEqual(run("log", "check", self.file("none")),
+        (FAILED, "", f"dxl: {self.file('none')}: No such file or directory\n"))
 
     # [L8]
     def test_what_is_wrong(self):
@@ -431,14 +433,16 @@ class Plan(Folder):
         printed = run("plan", "make", goals)[1]
         self.out.write_text(printed, encoding="ascii")
         self.assertEqual(run("plan", "check", goals, self.out), (DONE, f"{self.out}: accepted, 2 goals in 1 packet\n", ""))
-        self.assertEqual(run("plan", "check", goals, "-", input=printed), (DONE, "standard input: accepted, 2 goals in 1 packet\n", ""))
+        self.assertEqual(run("plan", "check", goals, "-", input=printed),
+        (DONE, "standard input: accepted, 2 goals in 1 packet\n", ""))
         self.out.write_text("# by hand\n" + printed.lower().replace(" ", ""), encoding="ascii")
         self.assertEqual(run("plan", "check", goals, self.out)[0], FAILED)  # a word as long as this is none
         for text, line, why in [("FF FF\nFG\n", 2, "not bytes in hex"), ("FF F FF F00\n", 1, "not bytes in hex")]:
             self.out.write_text(text, encoding="ascii")
             self.assertEqual(run("plan", "check", goals, self.out), (FAILED, "", f"dxl: {self.out}:{line}: {why}\n"))
         self.out.write_text("0.5 FF\n", encoding="ascii")
-        self.assertEqual(run("plan", "check", goals, self.out), (FAILED, "", f"dxl: {self.out}: bytes in hex are wanted, and no times\n"))
+        self.assertEqual(run("plan", "check", goals, self.out),
+        (FAILED, "", f"dxl: {self.out}: bytes in hex are wanted, and no times\n"))
 
     # [L11]
     def test_show(self):
@@ -472,7 +476,8 @@ class Plan(Folder):
     def test_all_devices(self):
         goals = self.goals("".join(f"{id} {4095 - id}\n" for id in reversed(range(253))))
         status, text, err = run("plan", "make", goals)
-        self.assertEqual((status, [len(bytes.fromhex(line)) for line in text.splitlines()], err), (DONE, [14 + 5 * 203, 14 + 5 * 50], ""))
+        self.assertEqual((status, [len(bytes.fromhex(line)) for line in text.splitlines()], err),
+        (DONE, [14 + 5 * 203, 14 + 5 * 50], ""))
         self.out.write_bytes(bytes.fromhex(text))
         self.assertEqual(run("plan", "check", goals, self.out), (DONE, f"{self.out}: accepted, 253 goals in 2 packets\n", ""))
 
@@ -489,11 +494,15 @@ class Plan(Folder):
         self.out.write_bytes(b"an older one")
         bad = "42, the goal is neither 0 to 4095 nor -1, which is none"
         for text, line, why in [("3 7\n253 1", 2, "the ID is not 0 to 252"), ("-1 7", 1, "the ID is not 0 to 252"),
-                                ("1000000000000000000000 7", 1, "the ID is not 0 to 252"), ("# one\n\n3 4096\n", 3, bad), ("3 -2", 1, bad),
+                                ("1000000000000000000000 7", 1, "the ID is not 0 to 252"), ("# one\n\n3 4096\n", 3, bad),
+                                ("3 -2", 1, bad),
                                 ("3 1000000000000000000000", 1, bad), ("3 7\n4 8\n3 -1\n", 3, "ID 3 stands in line 1 already"),
-                                ("3", 1, "not an ID and a goal"), ("3 #7", 1, "not an ID and a goal"), ("3 7 8", 1, "not an ID and a goal"),
-                                ("3 7x", 1, "not an ID and a goal"), ("x 7", 1, "not an ID and a goal"), ("3 - 7", 1, "not an ID and a goal"),
-                                ("3 0x7", 1, "not an ID and a goal"), ("3,7", 1, "not an ID and a goal"), ("3 7\n\0\n", 2, "not an ID and a goal")]:
+                                ("3", 1, "not an ID and a goal"), ("3 #7", 1, "not an ID and a goal"),
+                                ("3 7 8", 1, "not an ID and a goal"),
+                                ("3 7x", 1, "not an ID and a goal"), ("x 7", 1, "not an ID and a goal"),
+                                ("3 - 7", 1, "not an ID and a goal"),
+                                ("3 0x7", 1, "not an ID and a goal"), ("3,7", 1, "not an ID and a goal"),
+                                ("3 7\n\0\n", 2, "not an ID and a goal")]:
             goals = self.goals(text)
             for words in [["make", goals], ["make", goals, self.out], ["check", goals, self.out]]:
                 with self.subTest(text, words=words):
@@ -524,7 +533,8 @@ class Plan(Folder):
         os.link(goals, hard)
         soft.symlink_to("goals")
         for out in [goals, hard, soft]:
-            self.assertEqual(run("plan", "make", goals, out), (FAILED, "", f"dxl: {out}: the goals and the plan to be written are one file\n"))
+            self.assertEqual(run("plan", "make", goals, out),
+            (FAILED, "", f"dxl: {out}: the goals and the plan to be written are one file\n"))
         self.assertEqual((goals.read_bytes(), self.names()), (b"3 7\n", ["goals", "hard", "soft"]))
 
     # [L11]
@@ -571,14 +581,16 @@ class Plan(Folder):
         three, nine = plan((3, 7)), plan((9, 255))
         first = "the packet at offset 0: "
         for wrong, why in [(b"", "ID 3 is wanted and does not stand in it"), (three, "ID 9 is wanted and does not stand in it"),
-                           (self.TWO + b"\0", "no well-formed packet begins at offset 24"), (b"\0" + self.TWO, "no well-formed packet begins at offset 0"),
+                           (self.TWO + b"\0", "no well-formed packet begins at offset 24"),
+                           (b"\0" + self.TWO, "no well-formed packet begins at offset 0"),
                            (self.TWO[:-1] + b"\x11", "no well-formed packet begins at offset 0"),
                            (sync_write(116, 0, 4, 0, 3, 7, 0, 0, 0, to=3), first + "it is for ID 3 and not for all devices"),
                            (sync_write(104, 0, 4, 0, 3, 7, 0, 0, 0), first + "it is no Sync Write of goal positions"),
                            (sync_write(), first + "it is no Sync Write of goal positions"), (plan(), first + "its list is empty"),
                            (sync_write(116, 0, 4, 0, 3, 7, 0, 0), first + "the last entry of its list is cut short"),
                            (plan((3, 7), (253, 1)), first + "its list has 253, which is no device's ID"),
-                           (plan((3, 7), (3, 7)), first + "its list has ID 3 twice"), (plan((3, 7), (4, 7)), first + "no goal is wanted for ID 4"),
+                           (plan((3, 7), (3, 7)), first + "its list has ID 3 twice"), (plan((3, 7),
+                           (4, 7)), first + "no goal is wanted for ID 4"),
                            (plan((3, 8)), first + "ID 3 has the goal 8 and not 7"),
                            (plan((3, 0xFFFFFFFF)), first + "ID 3 has the goal 4294967295 and not 7"),
                            (three + nine + three, f"the packet at offset {len(three + nine)}: ID 3 stands in a packet before it too")]:
@@ -596,7 +608,8 @@ class Plan(Folder):
             self.assertEqual((status, err, more.startswith(f"usage: dxl plan {name} {operand}")), (DONE, "", True))
             self.assertEqual(run("plan", name), (USAGE, "", f"dxl: plan {name}: {operand} is missing\n" + usage_of("plan", name)))
             extra = "b" if name == "show" else "c"
-            self.assertEqual(run("plan", name, "a", "b", "c"), (USAGE, "", f"dxl: {extra}: one word too many\n" + usage_of("plan", name)))
+            self.assertEqual(run("plan", name, "a", "b", "c"),
+            (USAGE, "", f"dxl: {extra}: one word too many\n" + usage_of("plan", name)))
         for words, said in [([], "plan: a command is missing"), (["none"], "none: no such command")]:
             self.assertEqual(run("plan", *words), (USAGE, "", f"dxl: {said}\n" + usage_of("plan")))
         self.assertEqual(run("plan", "check", "a"), (USAGE, "", "dxl: plan check: PLAN is missing\n" + usage_of("plan", "check")))
@@ -632,16 +645,20 @@ class Words(Folder):
         """What is wrong stands in one line above the usage."""
         no_id = "not an ID: 0 to 252, or 254 for all devices"
         no_number = "not a number; an ID is 0 to 252, or 254 for all devices"
-        for words, said in [([], "dxl: a command is missing"), (["none"], "none: no such command"), (["log"], "log: a command is missing"),
+        for words, said in [([], "dxl: a command is missing"), (["none"], "none: no such command"),
+                            (["log"], "log: a command is missing"),
                             (["log", "none"], "none: no such command"), (["log", "check"], "log check: LOG is missing"),
-                            (["log", "check", "a", "b"], "b: one word too many"), (["log", "write", "a"], "log write: CAPTURE is missing"),
+                            (["log", "check", "a", "b"], "b: one word too many"),
+                            (["log", "write", "a"], "log write: CAPTURE is missing"),
                             (["log", "last", "a", "256"], f"256: {no_id}"), (["log", "last", "a", "300"], f"300: {no_id}"),
                             (["log", "last", "a", "99999999999999999999"], f"99999999999999999999: {no_id}"),
                             (["log", "last", "a", "0x07"], "0x07: an ID is given in decimal: 0 to 252, or 254 for all devices"),
                             (["log", "last", "a", "abc"], f"abc: {no_number}"), (["log", "last", "a", ""], f": {no_number}"),
-                            (["log", "last", "a", "1", "2"], "2: one word too many"), (["log", "salvage", "a"], "log salvage: OUT is missing"),
+                            (["log", "last", "a", "1", "2"], "2: one word too many"),
+                            (["log", "salvage", "a"], "log salvage: OUT is missing"),
                             (["log", "salvage", "a", "b", "c"], "c: one word too many"), (["show"], "show: FILE is missing"),
-                            (["timeline", "a", "b"], "b: one word too many"), (["log", "extract", "a", "1"], "log extract: OUT is missing")]:
+                            (["timeline", "a", "b"], "b: one word too many"),
+                            (["log", "extract", "a", "1"], "log extract: OUT is missing")]:
             with self.subTest(words):
                 known = [word for word in words[:2] if word in ("log", "check", "write", "last", "salvage", "show", "timeline", "extract")]
                 self.assertEqual(run(*words), (USAGE, "", f"dxl: {said}\n" + usage_of(*known)))
@@ -652,8 +669,10 @@ class Words(Folder):
     # [L18]
     def test_names(self):
         """What would control a terminal, and what is not UTF-8, is written out; other names are as they are."""
-        for name, shown in [(b"a\x1b[2J\n\x7f", "a\\x1B[2J\\x0A\\x7F"), ("\u00fc\u4e16\U0001f600".encode(), "\u00fc\u4e16\U0001f600"),
-                            (b"\xc2\x9b31m", "\\xC2\\x9B31m"), (b"\xff\xc0\xaf", "\\xFF\\xC0\\xAF"), (b"\xed\xa0\x80", "\\xED\\xA0\\x80"),
+        for name, shown in [(b"a\x1b[2J\n\x7f", "a\\x1B[2J\\x0A\\x7F"),
+                            ("\u00fc\u4e16\U0001f600".encode(), "\u00fc\u4e16\U0001f600"),
+                            (b"\xc2\x9b31m", "\\xC2\\x9B31m"), (b"\xff\xc0\xaf", "\\xFF\\xC0\\xAF"),
+                            (b"\xed\xa0\x80", "\\xED\\xA0\\x80"),
                             (b"\xe2\x82", "\\xE2\\x82"), (b"\xf4\x90\x80\x80", "\\xF4\\x90\\x80\\x80")]:
             ended = subprocess.run([PROGRAM, "show", name], capture_output=True, timeout=PATIENCE, check=False)
             self.assertEqual((ended.returncode, ended.stderr), (FAILED, f"dxl: {shown}: No such file or directory\n".encode()))
@@ -699,9 +718,11 @@ class Words(Folder):
     def test_options(self):
         """No word that begins with - is taken for a name; help is given wherever it is asked for."""
         goals = self.file("goals", b"3 7\n")
-        for words, option in [(["log", "write", "--to", goals], "--to"), (["log", "check", "--"], "--"), (["log", "last", goals, "-1"], "-1"),
+        for words, option in [(["log", "write", "--to", goals], "--to"), (["log", "check", "--"], "--"),
+                              (["log", "last", goals, "-1"], "-1"),
                               (["log", "salvage", goals, "-o"], "-o"), (["plan", "make", goals, "--hex"], "--hex"),
-                              (["plan", "check", goals, "--all", goals], "--all"), (["log", "show", goals, "1", "--gap", "7"], "--gap")]:
+                              (["plan", "check", goals, "--all", goals], "--all"),
+                              (["log", "show", goals, "1", "--gap", "7"], "--gap")]:
             with self.subTest(words):
                 more = run(*words[:2], "--help")[1]
                 said = f"dxl: {option}: no such option; a file of this name is given with ./ before it\n"

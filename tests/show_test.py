@@ -175,8 +175,9 @@ class Events(Folder):
         ping = packet(1, PING)
         long_one = HEADER + bytes([7]) + word(1024)
         for bytes_, said in [
-                (b"\0\1\2", "nothing in it begins a packet"), (b"\xff", "cut off: 1 bytes of a packet stand at 0"),
-                (b"\xff\0", "header: 1 of its 4 bytes stand at 0, and then 00"), (b"\0\xff\xff\xfd\1\xff\xff\0", "header: 3 of its 4 bytes stand at 1, and then 01"),
+                (b"\0\1\2", "nothing in it begins a packet"), (b"\xff", "cut off: 1 byte of a packet stands at 0"),
+                (b"\xff\0", "header: 1 of its 4 bytes stand at 0, and then 00"),
+                (b"\0\xff\xff\xfd\1\xff\xff\0", "header: 3 of its 4 bytes stand at 1, and then 01"),
                 (b"\xff\xff\xff\xff\0", "header: 2 of its 4 bytes stand at 0, and then FF"),
                 (HEADER + b"\xfd\0", "ID: the header at 0 is followed by 253, which is no ID"),
                 (b"\xff\1" + HEADER + b"\xff\0", "ID: the header at 2 is followed by 255, which is no ID"),
@@ -195,13 +196,14 @@ class Events(Folder):
         """Its bytes are in its own line, and packets among them are marked."""
         ping = packet(1, PING)
         outer = HEADER + bytes([2, len(ping) + 3, 0, WRITE]) + ping + b"\0\0"
+        right = crc16(outer[:-2]).to_bytes(2, "little").hex(" ").upper()
         self.assertEqual(self.words(outer + b"\7"), [
-            "! ID 2 bad checksum 00 00 where 70 FF would be right, of 20 bytes, not well stuffed".replace(
-                "70 FF", crc16(outer[:-2]).to_bytes(2, "little").hex(" ").upper()),
+            f"! ID 2 bad checksum 00 00 where {right} would be right, of 20 bytes, not well stuffed",
             "> ID 1 Ping [inside the bad checksum at 0]", "~ noise, 1 byte: nothing in it begins a packet"])
-        self.assertEqual(self.words(damaged(status(3, 0x84))), ["! ID 3 bad checksum 27 8C where 27 8D would be right, of 11 bytes that say: Status, "
-                         "error 04 (a value outside its range), alert (hardware error is not 0)".replace("27 8C", damaged(status(3, 0x84))[-2:].hex(" ").upper())
-                         .replace("27 8D", status(3, 0x84)[-2:].hex(" ").upper())])
+        good, bad = status(3, 0x84), damaged(status(3, 0x84))
+        sums = f"bad checksum {bad[-2:].hex(' ').upper()} where {good[-2:].hex(' ').upper()} would be right"
+        error = "error 04 (a value outside its range), alert (hardware error is not 0)"
+        self.assertEqual(self.words(bad), [f"! ID 3 {sums}, of 11 bytes that say: Status, {error}"])
 
     # [L13 O1-O5]
     def test_old_protocols(self):
@@ -214,8 +216,10 @@ class Events(Folder):
             "> ID 3 Write bytes 30 to 31 = 00 02", "< ID 3 Status to the Write at 0: error 24", "> ID 4 undefined instruction 77"])
         self.assertEqual(self.words(old_packet(253, 1), "--protocol", "1", "--id", "253"), ["> ID 253 Ping"])
         self.assertEqual(self.words(old_packet(253, 1), "--protocol", "mercury"), ["~ noise, 6 bytes: ID: the header at 0 is followed by 253, which is no ID"])
-        for bytes_, said in [(b"\xff\xff\xff", "ID: the header at 0 is followed by 255, which is no ID"), (b"\xff\xff\7\1", "length: header and ID 7 at 0 are followed by 1, which is no length"),
-                             (b"\xff\xff\7\x09\1", "cut off: 5 of 13 bytes of a packet stand at 0"), (b"\xff\7", "header: 1 of its 2 bytes stand at 0, and then 07")]:
+        for bytes_, said in [(b"\xff\xff\xff", "ID: the header at 0 is followed by 255, which is no ID"),
+                             (b"\xff\xff\7\1", "length: header and ID 7 at 0 are followed by 1, which is no length"),
+                             (b"\xff\xff\7\x09\1", "cut off: 5 of 13 bytes of a packet stand at 0"),
+                             (b"\xff\7", "header: 1 of its 2 bytes stand at 0, and then 07")]:
             self.assertEqual(self.words(bytes_, "--protocol", "1"), [f"~ noise, {len(bytes_)} bytes: {said}"])
         wrong = ping[:-1] + b"\0"
         self.assertEqual(self.words(wrong, "--protocol", "1"), [f"! ID 1 bad checksum 00 where {ping[-1]:02X} would be right, of 6 bytes with the body 01"])
@@ -255,29 +259,45 @@ class Meaning(Folder):
     def test_instructions(self):
         entry = bytes([3]) + word(7, 4) + bytes([9]) + word(-1, 4)
         for bytes_, said in [
-                (packet(1, PING), "> ID 1 Ping"), (packet(254, PING), "> all Ping"), (packet(1, PING, b"\1"), "> ID 1 Ping: 01 (it takes no parameters)"),
-                (READ_POSITION, "> ID 1 Read present position"), (packet(1, READ, b"\1"), "> ID 1 Read: 01 (it takes an address and a length, four bytes)"),
+                (packet(1, PING), "> ID 1 Ping"), (packet(254, PING), "> all Ping"),
+                (packet(1, PING, b"\1"), "> ID 1 Ping: 01 (it takes no parameters)"),
+                (READ_POSITION, "> ID 1 Read present position"),
+                (packet(1, READ, b"\1"), "> ID 1 Read: 01 (it takes an address and a length, four bytes)"),
                 (packet(1, READ, word(116) + word(2)), "> ID 1 Read goal position (bytes 0 to 1 of 4)"),
                 (packet(1, READ, word(63) + word(3)), "> ID 1 Read no register at 63, torque enable, lamp"),
                 (packet(1, READ, word(7) + word(0)), "> ID 1 Read: (it asks for no bytes)"),
                 (packet(1, READ, word(65535) + word(65535)), "> ID 1 Read no register at 65535 to 131069"),
-                (packet(1, WRITE, at(116, -5)), "> ID 1 Write goal position = -5"), (packet(1, WRITE, word(116)), "> ID 1 Write: 74 00 (it has no data)"),
+                (packet(1, WRITE, at(116, -5)), "> ID 1 Write goal position = -5"),
+                (packet(1, WRITE, word(116)), "> ID 1 Write: 74 00 (it has no data)"),
                 (packet(1, WRITE, b"\1"), "> ID 1 Write: 01 (it takes an address of two bytes, and data)"),
                 (packet(1, WRITE, at(48, 100) + word(200, 4)), "> ID 1 Write max position = 100, min position = 200"),
                 (packet(1, WRITE, word(118) + b"\1\2\3"), "> ID 1 Write goal position (bytes 2 to 3 of 4) = 01 02, no register at 120 = 03"),
                 (packet(1, WRITE, at(20, -131073)), "> ID 1 Write homing offset = -131073 [stuffed: 1 FD]"),
-                (packet(1, 4, at(65, 1, 1)), "> ID 1 Reg Write lamp = 1"), (packet(1, 5), "> ID 1 Action"), (packet(1, 8), "> ID 1 Reboot"),
-                (packet(1, 6, b"\xff"), "> ID 1 Factory Reset: FF (everything, the ID too)"), (packet(1, 6, b"\1"), "> ID 1 Factory Reset: 01 (all but the ID)"),
-                (packet(1, 6, b"\2"), "> ID 1 Factory Reset: 02 (all but ID and baud code)"), (packet(1, 6, b"\3"), "> ID 1 Factory Reset: 03 (its option is not defined)"),
-                (packet(1, 6), "> ID 1 Factory Reset: (its option is not defined)"), (packet(1, 0x10, b"\1\2"), "> ID 1 undefined instruction 10: 01 02"),
+                (packet(1, 4, at(65, 1, 1)), "> ID 1 Reg Write lamp = 1"), (packet(1, 5), "> ID 1 Action"),
+                (packet(1, 8), "> ID 1 Reboot"),
+                (packet(1, 6, b"\xff"), "> ID 1 Factory Reset: FF (everything, the ID too)"),
+                (packet(1, 6, b"\1"), "> ID 1 Factory Reset: 01 (all but the ID)"),
+                (packet(1, 6, b"\2"), "> ID 1 Factory Reset: 02 (all but ID and baud code)"),
+                (packet(1, 6, b"\3"), "> ID 1 Factory Reset: 03 (its option is not defined)"),
+                (packet(1, 6), "> ID 1 Factory Reset: (its option is not defined)"),
+                (packet(1, 0x10, b"\1\2"), "> ID 1 undefined instruction 10: 01 02"),
                 (packet(254, 0x82, word(132) + word(4) + b"\1\2"), "> all Sync Read present position from IDs 1, 2"),
                 (packet(254, 0x82, word(132) + word(4) + b"\1"), "> all Sync Read present position from ID 1"),
                 (packet(254, 0x82, word(1)), "> all Sync Read: 01 00 (it takes an address, a length and a list)"),
                 (packet(254, 0x83, word(116) + word(4) + entry), "> all Sync Write: ID 3 goal position = 7; ID 9 goal position = -1"),
                 (packet(254, 0x83, word(116) + word(4) + entry[:-1]),
                  "> all Sync Write: ID 3 goal position = 7, and 09 FF FF FF (its list is cut short, and no device acts on that)"),
-                (packet(254, 0x83, word(64) + word(2) + b"\1\1\1\1\0\0"), "> all Sync Write: ID 1 torque enable = 1, lamp = 1; ID 1 torque enable = 0, lamp = 0"),
+                (packet(254, 0x83, word(64) + word(2) + b"\1\1\1\1\0\0"), "> all Sync Write: ID 1 torque enable = 1, lamp = 1; "
+                 "ID 1 torque enable = 0, lamp = 0 (its list has an ID twice, and no device acts on that)"),
                 (packet(254, 0x83, word(64) + word(0) + b"\1"), "> all Sync Write: (its length is 0, and no device acts on that)"),
+                (packet(254, 0x82, word(65) + word(1) + b"\1\2\1"),
+                 "> all Sync Read lamp from IDs 1, 2, 1 (its list has an ID twice, and no device acts on that)"),
+                (packet(254, 0x82, word(65) + word(0) + b"\1"), "> all Sync Read from ID 1 (its length is 0, and no device acts on that)"),
+                (packet(254, 0x83, word(65) + word(1) + b"\xfd\1"),
+                 "> all Sync Write: ID 253 lamp = 1 (its list has an ID above 252, and no device acts on that)"),
+                (packet(254, 0x92, 2 * (b"\1" + word(65) + word(1))),
+                 "> all Bulk Read: ID 1 lamp; ID 1 lamp (its list has an ID twice, and no device acts on that)"),
+                (packet(254, 0x92, b"\1" + word(65) + word(0)), "> all Bulk Read: (a length in it is 0, and no device acts on that)"),
                 (packet(254, 0x92, b"\1" + word(132) + word(4) + b"\2" + word(65) + word(1)), "> all Bulk Read: ID 1 present position; ID 2 lamp"),
                 (packet(254, 0x92, b"\1" + word(132) + word(4) + b"\2"), "> all Bulk Read: ID 1 present position, and 02 (its list is cut short, and no device acts on that)"),
                 (packet(254, 0x93, b"\1" + word(116) + word(4) + word(512, 4) + b"\2" + word(65) + word(1) + b"\1"),
@@ -301,11 +321,13 @@ class Meaning(Folder):
                 ([READ_POSITION, status(1, 0, word(9, 4)), status(1)], ["Status to the Read at 0: ok; present position = 9", nothing]),
                 ([READ_POSITION, status(1, 0, b"\1\2")], ["Status to the Read at 0: ok; 01 02 (not as many bytes of data as were asked for)"]),
                 ([packet(1, PING), status(1, 0, b"\1")], ["Status to the Ping at 0: ok; 01 (not as many bytes of data as were asked for)"]),
-                ([packet(254, PING), status(1, 0, MODEL), status(7, 0, MODEL)], [f"Status to the Ping at 0: ok; model number = 1030, firmware version = 38"] * 2),
+                ([packet(254, PING), status(1, 0, MODEL), status(7, 0, MODEL)], ["Status to the Ping at 0: ok; model number = 1030, firmware version = 38"] * 2),
                 ([sync, status(1, 0, b"\0"), status(2, 0x80, b"\1"), status(3, 0, b"\1")],
                  ["Status to the Sync Read at 0: ok; lamp = 0", "Status to the Sync Read at 0: ok, alert (hardware error is not 0); lamp = 1", nothing + "; 01"]),
                 ([bulk, status(1, 0, word(-2, 4)), status(2, 0, b"\1")],
                  ["Status to the Bulk Read at 0: ok; present position = -2", "Status to the Bulk Read at 0: ok; lamp = 1"]),
+                ([damaged(packet(1, PING)), status(1, 3), status(1, 3)],
+                 ["Status to the bad checksum at 0: error 03 (wrong checksum)", "Status to nothing before it: error 03 (wrong checksum)"]),
                 ([packet(254, WRITE, at(65, 1, 1)), status(1)], [nothing]), ([packet(1, 0x10), status(1, 2)],
                  ["Status to the undefined instruction at 0: error 02 (undefined instruction, or Action with nothing registered)"]),
                 ([damaged(packet(1, PING)), packet(1, PING), status(1, 3), status(1, 0, MODEL)],
@@ -338,11 +360,16 @@ class Times(Folder):
 
     # [L14]
     def test_wrong_text(self):
-        for text, line, why in [("0.1 FF\n0.2 FG\n", 2, "not bytes in hex"), ("0.1 FF\nFF FF\n", 2, "it does not begin with a time in seconds"),
-                                ("0.2 FF\n0.1 FF\n", 2, "its time lies before that of the line above"), ("hello\n", 2, "neither a time in seconds nor bytes in hex"),
-                                ("hello", 1, "neither a time in seconds nor bytes in hex"), ("FF F\nFF FFF", 2, "not bytes in hex"), ("FF 0x\n", 1, "not bytes in hex"),
-                                ("0.1 " + "F" * 50, 1, "a longer word than a time or bytes in hex"), ("0.1 FF\n1e99 FF", 2, "it does not begin with a time in seconds"),
-                                ("0.1 FF\n0.2 FF\n1.2.3 FF", 3, "it does not begin with a time in seconds"), ("# x\nTime\nText\n", 2, "neither a time in seconds nor bytes in hex")]:
+        for text, line, why in [("0.1 FF\n0.2 FG\n", 2, "not bytes in hex"),
+                                ("0.1 FF\nFF FF\n", 2, "it does not begin with a time in seconds"),
+                                ("0.2 FF\n0.1 FF\n", 2, "its time lies before that of the line above"),
+                                ("hello\n", 2, "neither a time in seconds nor bytes in hex"),
+                                ("hello", 1, "neither a time in seconds nor bytes in hex"),
+                                ("FF F\nFF FFF", 2, "not bytes in hex"), ("FF 0x\n", 1, "not bytes in hex"),
+                                ("0.1 " + "F" * 50, 1, "a longer word than a time or bytes in hex"),
+                                ("0.1 FF\n1e99 FF", 2, "it does not begin with a time in seconds"),
+                                ("0.1 FF\n0.2 FF\n1.2.3 FF", 3, "it does not begin with a time in seconds"),
+                                ("# x\nTime\nText\n", 2, "neither a time in seconds nor bytes in hex")]:
             with self.subTest(text[:20]):
                 capture = self.file("capture", text)
                 code, _, err = run("show", capture)
@@ -374,15 +401,29 @@ class Times(Folder):
     def test_missing(self):
         """A status that has not come before the next instruction, or before the end, is a line of its own; without times it is none."""
         sync, ping = packet(254, 0x82, word(65) + word(1) + b"\1\2"), packet(3, PING)
-        lines = [(0.0, sync), (0.001, status(2, 0, b"\1")), (0.004, ping), (0.009, damaged(status(3, 0, MODEL))), (0.02, packet(254, WRITE, at(65, 0, 1))), (0.03, ping)]
+        lines = [(0.0, sync), (0.001, status(2, 0, b"\1")), (0.004, ping), (0.009, damaged(status(3, 0, MODEL))),
+        (0.02, packet(254, WRITE, at(65, 0, 1))), (0.03, ping)]
         text = "".join(f"{time} {data.hex(' ')}\n" for time, data in lines)
+        places = [sum(len(data) for _, data in lines[:i]) for i in range(len(lines))]
         self.assertEqual([line for line in self.timed(text) if line[1][0] == "?"], [
-            ("0.004000", "? ID 1 no status to the Sync Read at 0 in 4.000 ms"), ("0.020000",
-             f"? ID 3 no status to the Ping at {len(sync) + 12} in 16.000 ms; the bad checksum at {len(sync) + 22} may have been it"),
-            ("0.030000", "? ID 3 no status to the Ping at 74 in 0.000 ms".replace("74", str(sum(len(data) for _, data in lines[:-1]))))])
+            ("0.004000", "? ID 1 no status to the Sync Read at 0 in 4.000 ms"),
+            ("0.020000", f"? ID 3 no status to the Ping at {places[2]} in 16.000 ms; the bad checksum at {places[3]} may have been it"),
+            ("0.030000", f"? ID 3 no status to the Ping at {places[5]} in 0.000 ms")])
         self.assertNotIn("?", "".join(self.words(b"".join(data for _, data in lines))))
+        bad_list = packet(254, 0x92, b"\1" + word(132) + word(4) + b"\2")  # nobody answers that
+        self.assertNotIn("?", "".join(self.words(f"0.0 {bad_list.hex(' ')}\n0.5 {ping.hex(' ')}\n", "--id", 1)))
         missing = [each for each in self.objects(text) if each["kind"] == "missing status"]
         self.assertEqual([(each["id"], each["unanswered"], each["waited"]) for each in missing][0], (1, 0, 0.004))
+
+    # [L14]
+    def test_over_blocks(self):
+        """Times stay with their bytes where a packet lies across two blocks."""
+        ping, answer = packet(1, PING), status(1, 0, MODEL)
+        lines = ["0.5" + " 00" * 1000] * 65 + ["0.5" + " 00" * 530]
+        lines += [f"{0.6 + i / 1000:.3f} {byte:02X}" for i, byte in enumerate(ping)] + [f"{0.7 + i / 1000:.3f} {byte:02X}" for i, byte in enumerate(answer)]
+        objects = self.objects("\n".join(lines), "--gap", 1000000)
+        self.assertEqual([(each["offset"], each["time"]) for each in objects], [(0, 0.5), (65530, 0.6), (65540, 0.7)])
+        self.assertEqual(objects[2]["delay"], 0.091)
 
     # [L14]
     def test_delays(self):
@@ -446,12 +487,18 @@ class Options(Folder):
     # [L18]
     def test_bad_options(self):
         usage = run("show", "--help")[1].split("\n\n")[0] + "\n"
-        for words, said in [(["--id", "x", "f"], "--id x: not a number; an ID is 0 to 252, or 254 for all devices"), (["--id", "255", "f"], "--id 255: 255 is never an ID"),
-                            (["--id=253", "f"], "--id 253: 253 is an ID in Protocol 1.0 only"), (["f", "--id"], "--id: its value is missing"),
-                            (["--protocol", "3", "f"], "--protocol 3: a protocol is 2, 1 or mercury"), (["--gap", "-1", "f"], "--gap -1: not a number"),
-                            (["--gap", "0x1", "f"], "--gap 0x1: numbers are given in decimal"), (["--gap", "9999999999", "f"], "--gap 9999999999: too large"),
-                            (["--baud", "0", "f"], "--baud 0: a line has some speed"), (["--hex=1", "f"], "--hex=1: no such option; a file of this name is given with ./ before it"),
-                            (["--hexx", "f"], "--hexx: no such option; a file of this name is given with ./ before it"), (["--hex"], "show: FILE is missing")]:
+        for words, said in [(["--id", "x", "f"], "--id x: not a number; an ID is 0 to 252, or 254 for all devices"),
+                            (["--id", "255", "f"], "--id 255: 255 is never an ID"),
+                            (["--id=253", "f"], "--id 253: 253 is an ID in Protocol 1.0 only"),
+                            (["f", "--id"], "--id: its value is missing"),
+                            (["--protocol", "3", "f"], "--protocol 3: a protocol is 2, 1 or mercury"),
+                            (["--gap", "-1", "f"], "--gap -1: not a number"),
+                            (["--gap", "0x1", "f"], "--gap 0x1: numbers are given in decimal"),
+                            (["--gap", "9999999999", "f"], "--gap 9999999999: too large"),
+                            (["--baud", "0", "f"], "--baud 0: a line has some speed"),
+                            (["--hex=1", "f"], "--hex=1: no such option; a file of this name is given with ./ before it"),
+                            (["--hexx", "f"], "--hexx: no such option; a file of this name is given with ./ before it"),
+                            (["--hex"], "show: FILE is missing")]:
             with self.subTest(words):
                 self.assertEqual(run("show", *words), (USAGE, "", f"dxl: {said}\n{usage}"))
 
@@ -485,13 +532,26 @@ class Options(Folder):
             with open("/dev/full", "wb") as full:
                 ended = subprocess.run([PROGRAM, *map(str, words)], stdout=full, stderr=subprocess.PIPE, check=False, timeout=PATIENCE)
             self.assertEqual((ended.returncode, ended.stderr), (FAILED, b"dxl: standard output: No space left on device\n"))
-            self.assertEqual(run(*words, preexec_fn=lambda: os.close(1)), (FAILED, "", "dxl: standard output: Bad file descriptor\n"))
+            self.assertEqual(run(*words, preexec_fn=lambda: os.close(1)),
+            (FAILED, "", "dxl: standard output: Bad file descriptor\n"))
         for words in [["show", long_one], ["timeline", long_one]]:
             program = subprocess.Popen([PROGRAM, *map(str, words)], stdout=subprocess.PIPE, stderr=subprocess.PIPE)
             program.stdout.read(1000)
             program.stdout.close()
             self.assertEqual((program.stderr.read(), program.wait(PATIENCE)), (b"dxl: standard output: Broken pipe\n", FAILED))
             program.stderr.close()
+
+    # [L13]
+    def test_endless(self):
+        """A capture without an end is read only as long as somebody takes the lines."""
+        for command in ["show", "timeline"]:
+            with subprocess.Popen(["yes", packet(1, PING).hex(" ")], stdout=subprocess.PIPE) as endless:
+                program = subprocess.Popen([PROGRAM, command, "-"], stdin=endless.stdout, stdout=subprocess.PIPE, stderr=subprocess.PIPE)
+                endless.stdout.close()
+                self.assertIn(b"Ping" if command == "show" else b"html", program.stdout.read(1000))
+                program.stdout.close()
+                self.assertEqual((program.stderr.read(), program.wait(PATIENCE)), (b"dxl: standard output: Broken pipe\n", FAILED))
+                program.stderr.close()
 
     # [L13]
     def test_long_captures(self):
@@ -519,7 +579,8 @@ class Options(Folder):
             except BlockingIOError:
                 pass
         program.stdin.close()
-        self.assertEqual((program.wait(PATIENCE), re.match(rb"\rdxl: reading the capture, [123] MB, \d+ s", text) is not None), (DONE, True), text)
+        self.assertEqual((program.wait(PATIENCE), re.match(rb"\rdxl: reading the capture, [123] MB, \d+ s", text) is not None),
+        (DONE, True), text)
         os.close(ours)
 
 
@@ -590,7 +651,8 @@ class Logs(Folder):
 
     # [L17]
     def test_list(self):
-        self.assertEqual(run("log", "list", self.log), (DONE, "segment 0: 443 bytes at 1056, 28 packets, 3 bad checksums; IDs 1, 2, 3, 254\n"
+        self.assertEqual(run("log", "list", self.log),
+        (DONE, "segment 0: 443 bytes at 1056, 28 packets, 3 bad checksums; IDs 1, 2, 3, 254\n"
                          "segment 1: 0 bytes at 1499, 0 packets, 0 bad checksums\nsegment 2: 24 bytes at 1499, 2 packets, 0 bad checksums; IDs 2\n", ""))
 
     # [L17]
@@ -612,11 +674,14 @@ class Logs(Folder):
             self.assertEqual(run("log", "extract", self.log, number, out), (DONE, "", ""))
             self.assertEqual(out.read_bytes(), Path(capture).read_bytes())
         before = self.log.read_bytes()
-        self.assertEqual(run("log", "extract", self.log, 0, self.log), (FAILED, "", f"dxl: {self.log}: the log and the capture to be written are one file\n"))
+        self.assertEqual(run("log", "extract", self.log, 0, self.log),
+        (FAILED, "", f"dxl: {self.log}: the log and the capture to be written are one file\n"))
         self.assertEqual(self.log.read_bytes(), before)
-        self.assertEqual(run("log", "extract", self.log, 0, self.folder.name), (FAILED, "", f"dxl: {self.folder.name}: not a regular file\n"))
+        self.assertEqual(run("log", "extract", self.log, 0, self.folder.name),
+        (FAILED, "", f"dxl: {self.folder.name}: not a regular file\n"))
         code, text, err = run("log", "extract", self.log, 0, out, preexec_fn=lambda: resource.setrlimit(resource.RLIMIT_FSIZE, (100, 100)))
-        self.assertEqual((code, text, err, out.read_bytes()), (FAILED, "", f"dxl: {out}: File too large\n", Path(self.captures[2]).read_bytes()))
+        self.assertEqual((code, text, err, out.read_bytes()),
+        (FAILED, "", f"dxl: {out}: File too large\n", Path(self.captures[2]).read_bytes()))
 
     # [L17]
     def test_last(self):
@@ -653,10 +718,10 @@ class Checked(Folder):
         def long(chance):
             return random_capture(chance, 20) + chance.randbytes(65536 - chance.randrange(2000)) + random_capture(chance, 60)
 
-        files = self.files(noise, 30) + self.files(mixed, 120) + self.files(long, 4)
+        files = self.files(noise, 50) + self.files(mixed, 250) + self.files(long, 6)
         for options in [["--hex"], ["--json"], ["--errors", "--id", "2"], ["--protocol", "1", "--hex"], ["--protocol", "mercury", "--json"]]:
             self.held("show", *options, *files, ends=[DONE])
-        for file in files[::40]:
+        for file in files[::30]:
             self.held("timeline", file, ends=[DONE])
 
     # [L14]
@@ -673,14 +738,14 @@ class Checked(Folder):
             return bytes(chance.choice(b"0123456789ABCDEFx.,;# \t\r\n+-e") for _ in range(chance.randrange(400)))
 
         for options in [["--baud", "57600"], ["--gap", "0", "--json"]]:
-            self.held("show", *options, *self.files(altered, 150), *self.files(letters, 100))
+            self.held("show", *options, *self.files(altered, 400), *self.files(letters, 300))
 
     # [L17]
     def test_logs(self):
         log = self.file("log")
         self.assertEqual(run("log", "write", log, "examples/wet.bin", "examples/capture.bin", "examples/exchange.bin")[0], DONE)
         good, chance = log.read_bytes(), random.Random(7)
-        for i in range(14):
+        for _ in range(20):
             bytes_ = bytearray(good)
             for _ in range(chance.randrange(3)):
                 place = chance.choice([0, 4, 8, 12, 16, 20, 24, 28, 32, 36, 40 + 4 * chance.randrange(254)])

@@ -234,7 +234,8 @@ static int begin_text(struct capture *capture)
         answer = next_token(capture);
     if (answer == UNREADABLE || (answer == 1 && decides(capture)))
         return answer;
-    return wrong_line(capture, "neither a time in seconds nor bytes in hex");
+    return wrong_line(capture, capture->file < 0 ? "neither a time in seconds nor bytes in hex"
+                                                 : "neither a time in seconds nor bytes in hex; --raw takes the file as it is");
 }
 
 /* The time at the start of a line. */

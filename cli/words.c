@@ -193,6 +193,11 @@ int run_command(const struct command *commands, size_t count, const char *group,
     for (size_t i = 0; n >= 1 && i < count; i++)
         if (strcmp(words[0], commands[i].name) == 0)
             return run_found(&commands[i], group, n - 1, words + 1);
-    say_failure(n >= 1 ? words[0] : group[0] == 0 ? "dxl" : group, n >= 1 ? "no such command" : "a command is missing");
+    if (n >= 1)
+        say_failure(words[0], "no such command");
+    else if (group[0] != 0)
+        say_failure(group, "a command is missing");
+    else
+        fputs("dxl: a command is missing\n", stderr);
     return usage(help);
 }

@@ -317,6 +317,13 @@ class Salvage(Folder):
                                                    f"segments 132 to 1000003 dropped: {start}"])
         self.assertTrue(text.startswith("out.log: 0 of 1000004 segments kept, 1032 bytes written to new.log\n"), text)
 
+    # [L10 X33]
+    def test_any_change_is_told(self):
+        """Bytes left over alone, and one index number alone, end it with 4."""
+        kept = "out.log: 2 of 2 segments kept, 1068 bytes written to new.log\nheader unchanged\n"
+        self.assertEqual(self.salvage(self.log + b"\0\0\0"), kept + "0 index numbers changed\n3 bytes left over\n")
+        self.assertEqual(self.salvage(self.log[:32] + b"\1" + self.log[33:]), kept + "1 index number changed\n0 bytes left over\n")
+
     # [L10]
     def test_lines_of_dropped_segments(self):
         """One line for those side by side with one reason, and one for each change of it."""
@@ -645,7 +652,7 @@ class Words(Folder):
         """What is wrong stands in one line above the usage."""
         no_id = "not an ID: 0 to 252, or 254 for all devices"
         no_number = "not a number; an ID is 0 to 252, or 254 for all devices"
-        for words, said in [([], "dxl: a command is missing"), (["none"], "none: no such command"),
+        for words, said in [([], "a command is missing"), (["none"], "none: no such command"),
                             (["log"], "log: a command is missing"),
                             (["log", "none"], "none: no such command"), (["log", "check"], "log check: LOG is missing"),
                             (["log", "check", "a", "b"], "b: one word too many"),
@@ -707,7 +714,7 @@ class Words(Folder):
     def test_folder_is_synced(self):
         """The file before it gets its name, and the folder after that."""
         library = self.file("synced.so")
-        subprocess.run(["cc", "-shared", "-fPIC", "-o", library, "tests/c/synced.c"], check=True, timeout=PATIENCE)
+        subprocess.run([os.environ.get("CC", "gcc"), "-shared", "-fPIC", "-o", library, "tests/c/synced.c"], check=True, timeout=PATIENCE)
         for out in [self.out, Path("only.log")]:
             place = {} if out == self.out else {"cwd": self.folder.name}
             ended = subprocess.run([str(Path(PROGRAM).resolve()), "log", "write", str(out), str(Path("examples/ping.bin").resolve())],

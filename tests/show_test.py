@@ -125,6 +125,22 @@ def reading(bytes_):
     return events, loose
 
 
+def beginning(bytes_, p):
+    """How many bytes from p on agree with a packet, and what is wrong behind them."""
+    front, there = bytes_[p:p + 7], len(bytes_) - p
+    for k in range(min(4, there)):
+        if front[k] != HEADER[k]:
+            return k, "header" if k > 0 else "none"
+    if there > 4 and front[4] in (253, 255):
+        return 4, "ID"
+    if there < 7:
+        return there, "cut off"
+    count = 7 + int.from_bytes(front[5:7], "little")
+    if not 10 <= count <= 1031:
+        return 6, "length"
+    return (count, "stuffing") if count <= there else (there, "cut off")
+
+
 def random_capture(chance, pieces):
     """Packets, damaged ones, packets in packets, beginnings and noise that looks like them."""
     parts = []
@@ -153,13 +169,16 @@ class Events(Folder):
         self.assertEqual(shown, events)
         noise = [found for found in there if found["kind"] == "noise"]
         self.assertEqual([p for found in noise for p in range(found["offset"], found["offset"] + found["length"])], sorted(loose))
+        for found in noise:
+            agreed, reason, p = max(((*beginning(bytes_, p), p) for p in range(found["offset"], found["offset"] + found["length"])),
+                                    key=lambda each: (each[0], -each[2]))
+            self.assertEqual((found["agreed"], found["reason"], found["at"] if agreed > 0 else p), (agreed, reason, p))
         self.assertEqual([found["offset"] for found in there], sorted(found["offset"] for found in there))
-        return there
 
     # [L13]
     def test_as_the_rules_say(self):
         chance = random.Random(39)
-        for _ in range(60):
+        for _ in range(80):
             self.compare(random_capture(chance, chance.randrange(12)))
 
     # [L13]
@@ -363,13 +382,13 @@ class Times(Folder):
         for text, line, why in [("0.1 FF\n0.2 FG\n", 2, "not bytes in hex"),
                                 ("0.1 FF\nFF FF\n", 2, "it does not begin with a time in seconds"),
                                 ("0.2 FF\n0.1 FF\n", 2, "its time lies before that of the line above"),
-                                ("hello\n", 2, "neither a time in seconds nor bytes in hex"),
-                                ("hello", 1, "neither a time in seconds nor bytes in hex"),
+                                ("hello\n", 2, "neither a time in seconds nor bytes in hex; --raw takes the file as it is"),
+                                ("hello", 1, "neither a time in seconds nor bytes in hex; --raw takes the file as it is"),
                                 ("FF F\nFF FFF", 2, "not bytes in hex"), ("FF 0x\n", 1, "not bytes in hex"),
                                 ("0.1 " + "F" * 50, 1, "a longer word than a time or bytes in hex"),
                                 ("0.1 FF\n1e99 FF", 2, "it does not begin with a time in seconds"),
                                 ("0.1 FF\n0.2 FF\n1.2.3 FF", 3, "it does not begin with a time in seconds"),
-                                ("# x\nTime\nText\n", 2, "neither a time in seconds nor bytes in hex")]:
+                                ("# x\nTime\nText\n", 2, "neither a time in seconds nor bytes in hex; --raw takes the file as it is")]:
             with self.subTest(text[:20]):
                 capture = self.file("capture", text)
                 code, _, err = run("show", capture)
@@ -550,7 +569,11 @@ class Options(Folder):
                 endless.stdout.close()
                 self.assertIn(b"Ping" if command == "show" else b"html", program.stdout.read(1000))
                 program.stdout.close()
-                self.assertEqual((program.stderr.read(), program.wait(PATIENCE)), (b"dxl: standard output: Broken pipe\n", FAILED))
+                try:
+                    self.assertEqual(program.wait(PATIENCE), FAILED)
+                finally:
+                    program.kill()
+                self.assertEqual(program.stderr.read(), b"dxl: standard output: Broken pipe\n")
                 program.stderr.close()
 
     # [L13]

@@ -19,7 +19,7 @@ const char HELP_SHOW[] =
     "and what it means. FILE - is standard input.\n"
     "\n"
     "  >  an instruction, with the registers that it names and their values\n"
-    "  <  a status: what it answers, its error in words, and the registers that were read\n"
+    "  <  a status: its error in words, the registers that were read, and in brackets what it answers\n"
     "  !  a bad checksum: all bytes of a packet are there and the checksum is wrong. Its ID, or anything else in it, may be wrong\n"
     "  ~  noise: bytes that are in no packet and in no bad checksum, and why the longest beginning of a packet in them became none\n"
     "  ?  a missing status, only in a capture with times: the next instruction, or the end, came first. A device whose status return\n"

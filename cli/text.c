@@ -117,10 +117,17 @@ static void put_instruction(FILE *to, const struct protocol *protocol, const str
     put_rest(to, meaning);
 }
 
-static void put_delay(FILE *to, const struct event *event, int timed)
+/* What a status answers, and how long after it. */
+static void put_answer(FILE *to, const struct event *event)
 {
-    if (timed)
+    if (event->answers == NO_ANSWER) {
+        fputs(" [to nothing before it]", to);
+        return;
+    }
+    fprintf(to, " [to the %s at %" PRIu64, event->asked_name, event->asked);
+    if (event->item->timed)
         fprintf(to, ", %.3f ms later", (double)event->delay / 1e6);
+    fputc(']', to);
 }
 
 /* In Protocol 1.0 and Mercury the bits of the error byte are the device's own. */
@@ -142,19 +149,13 @@ static void put_error(FILE *to, const struct protocol *protocol, const struct me
 static void put_status(FILE *to, const struct protocol *protocol, const struct event *event)
 {
     const struct meaning *meaning = event->meaning;
-    if (event->answers == NO_ANSWER)
-        fputs("Status to nothing before it: ", to);
-    else
-        fprintf(to, "Status to the %s at %" PRIu64, event->asked_name, event->asked);
-    if (event->answers != NO_ANSWER) {
-        put_delay(to, event, event->item->timed);
-        fputs(": ", to);
-    }
+    fputs("Status: ", to);
     put_error(to, protocol, meaning);
-    if (says_more(meaning))
-        fputs(meaning->coded ? "; " : "", to);
+    if (says_more(meaning) && meaning->coded)
+        fputs("; ", to);
     put_fields(to, protocol, meaning);
     put_rest(to, meaning);
+    put_answer(to, event);
 }
 
 /* ---- what is no packet */
@@ -189,7 +190,7 @@ static void put_bad_checksum(FILE *to, const struct protocol *protocol, const st
     } else if (event->meaning == NULL) {
         fputs(", not well stuffed", to);
     } else if (event->meaning->status) {
-        fputs(" that say: Status, ", to);
+        fputs(" that say: Status: ", to);
         put_error(to, protocol, event->meaning);
         fputs(event->meaning->n_data > 0 ? ", " : "", to);
         put_rest(to, event->meaning);

@@ -222,17 +222,17 @@ class Events(Folder):
         good, bad = status(3, 0x84), damaged(status(3, 0x84))
         sums = f"bad checksum {bad[-2:].hex(' ').upper()} where {good[-2:].hex(' ').upper()} would be right"
         error = "error 04 (a value outside its range), alert (hardware error is not 0)"
-        self.assertEqual(self.words(bad), [f"! ID 3 {sums}, of 11 bytes that say: Status, {error}"])
+        self.assertEqual(self.words(bad), [f"! ID 3 {sums}, of 11 bytes that say: Status: {error}"])
 
     # [L13 O1-O5]
     def test_old_protocols(self):
         ping, read, answer = old_packet(1, 1), old_packet(1, 2, 43, 1), old_packet(1, 0, 32)
-        lines = ["> ID 1 Read byte 43", "< ID 1 Status to the Read at 0: ok; 20", "> ID 1 Ping"]
+        lines = ["> ID 1 Read byte 43", "< ID 1 Status: ok; 20 [to the Read at 0]", "> ID 1 Ping"]
         for protocol in ["1", "mercury"]:
             self.assertEqual(self.words(read + answer + ping, "--protocol", protocol), lines)
         write = old_packet(3, 3, 30, 0, 2)
         self.assertEqual(self.words(write + old_packet(3, 0x24) + old_packet(4, 0x77), "--protocol=1"), [
-            "> ID 3 Write bytes 30 to 31 = 00 02", "< ID 3 Status to the Write at 0: error 24", "> ID 4 undefined instruction 77"])
+            "> ID 3 Write bytes 30 to 31 = 00 02", "< ID 3 Status: error 24 [to the Write at 0]", "> ID 4 undefined instruction 77"])
         self.assertEqual(self.words(old_packet(253, 1), "--protocol", "1", "--id", "253"), ["> ID 253 Ping"])
         self.assertEqual(self.words(old_packet(253, 1), "--protocol", "mercury"), ["~ noise, 6 bytes: ID: the header at 0 is followed by 253, which is no ID"])
         for bytes_, said in [(b"\xff\xff\xff", "ID: the header at 0 is followed by 255, which is no ID"),
@@ -272,7 +272,7 @@ class Meaning(Folder):
         lines = self.words(b"".join(status(1, error) for error in range(256)))
         self.assertEqual([error for error in range(128) if f"error {error:02X} (" in lines[error] and "not a defined error" not in lines[error]], sorted(errors))
         self.assertEqual([("alert" in line) for line in lines], [error >= 128 for error in range(256)])
-        self.assertEqual(lines[0], "< ID 1 Status to nothing before it: ok")
+        self.assertEqual(lines[0], "< ID 1 Status: ok [to nothing before it]")
 
     # [L13]
     def test_instructions(self):
@@ -322,8 +322,8 @@ class Meaning(Folder):
                 (packet(254, 0x93, b"\1" + word(116) + word(4) + word(512, 4) + b"\2" + word(65) + word(1) + b"\1"),
                  "> all Bulk Write: ID 1 goal position = 512; ID 2 lamp = 1"),
                 (packet(254, 0x93, b"\1" + word(116) + word(4) + b"\0"), "> all Bulk Write: 01 74 00 04 00 00 (its list is cut short, and no device acts on that)"),
-                (packet(1, STATUS), "< ID 1 Status to nothing before it: (it has no error byte)"),
-                (status(1, 0, b"\1\2"), "< ID 1 Status to nothing before it: ok; 01 02")]:
+                (packet(1, STATUS), "< ID 1 Status: (it has no error byte) [to nothing before it]"),
+                (status(1, 0, b"\1\2"), "< ID 1 Status: ok; 01 02 [to nothing before it]")]:
             with self.subTest(said):
                 self.assertEqual(self.words(bytes_), [said])
 
@@ -332,25 +332,27 @@ class Meaning(Folder):
         """A status beside the instruction that it answers, and what it read from which register."""
         sync = packet(254, 0x82, word(65) + word(1) + b"\1\2")
         bulk = packet(254, 0x92, b"\1" + word(132) + word(4) + b"\2" + word(65) + word(1))
-        nothing = "Status to nothing before it: ok"
+        def nothing(more=""):
+            return f"Status: ok{more} [to nothing before it]"
+
         for parts, said in [
-                ([packet(1, PING), status(1, 0, MODEL)], ["Status to the Ping at 0: ok; model number = 1030, firmware version = 38"]),
-                ([packet(1, PING), status(2, 0, MODEL)], [nothing + "; 06 04 26"]), ([READ_POSITION, status(1, 7)],
-                 ["Status to the Read at 0: error 07 (no register there, read only, or locked while torque is on)"]),
-                ([READ_POSITION, status(1, 0, word(9, 4)), status(1)], ["Status to the Read at 0: ok; present position = 9", nothing]),
-                ([READ_POSITION, status(1, 0, b"\1\2")], ["Status to the Read at 0: ok; 01 02 (not as many bytes of data as were asked for)"]),
-                ([packet(1, PING), status(1, 0, b"\1")], ["Status to the Ping at 0: ok; 01 (not as many bytes of data as were asked for)"]),
-                ([packet(254, PING), status(1, 0, MODEL), status(7, 0, MODEL)], ["Status to the Ping at 0: ok; model number = 1030, firmware version = 38"] * 2),
+                ([packet(1, PING), status(1, 0, MODEL)], ["Status: ok; model number = 1030, firmware version = 38 [to the Ping at 0]"]),
+                ([packet(1, PING), status(2, 0, MODEL)], [nothing("; 06 04 26")]), ([READ_POSITION, status(1, 7)],
+                 ["Status: error 07 (no register there, read only, or locked while torque is on) [to the Read at 0]"]),
+                ([READ_POSITION, status(1, 0, word(9, 4)), status(1)], ["Status: ok; present position = 9 [to the Read at 0]", nothing()]),
+                ([READ_POSITION, status(1, 0, b"\1\2")], ["Status: ok; 01 02 (not as many bytes of data as were asked for) [to the Read at 0]"]),
+                ([packet(1, PING), status(1, 0, b"\1")], ["Status: ok; 01 (not as many bytes of data as were asked for) [to the Ping at 0]"]),
+                ([packet(254, PING), status(1, 0, MODEL), status(7, 0, MODEL)], ["Status: ok; model number = 1030, firmware version = 38 [to the Ping at 0]"] * 2),
                 ([sync, status(1, 0, b"\0"), status(2, 0x80, b"\1"), status(3, 0, b"\1")],
-                 ["Status to the Sync Read at 0: ok; lamp = 0", "Status to the Sync Read at 0: ok, alert (hardware error is not 0); lamp = 1", nothing + "; 01"]),
+                 ["Status: ok; lamp = 0 [to the Sync Read at 0]", "Status: ok, alert (hardware error is not 0); lamp = 1 [to the Sync Read at 0]", nothing("; 01")]),
                 ([bulk, status(1, 0, word(-2, 4)), status(2, 0, b"\1")],
-                 ["Status to the Bulk Read at 0: ok; present position = -2", "Status to the Bulk Read at 0: ok; lamp = 1"]),
+                 ["Status: ok; present position = -2 [to the Bulk Read at 0]", "Status: ok; lamp = 1 [to the Bulk Read at 0]"]),
                 ([damaged(packet(1, PING)), status(1, 3), status(1, 3)],
-                 ["Status to the bad checksum at 0: error 03 (wrong checksum)", "Status to nothing before it: error 03 (wrong checksum)"]),
-                ([packet(254, WRITE, at(65, 1, 1)), status(1)], [nothing]), ([packet(1, 0x10), status(1, 2)],
-                 ["Status to the undefined instruction at 0: error 02 (undefined instruction, or Action with nothing registered)"]),
+                 ["Status: error 03 (wrong checksum) [to the bad checksum at 0]", "Status: error 03 (wrong checksum) [to nothing before it]"]),
+                ([packet(254, WRITE, at(65, 1, 1)), status(1)], [nothing()]), ([packet(1, 0x10), status(1, 2)],
+                 ["Status: error 02 (undefined instruction, or Action with nothing registered) [to the undefined instruction at 0]"]),
                 ([damaged(packet(1, PING)), packet(1, PING), status(1, 3), status(1, 0, MODEL)],
-                 ["Status to the bad checksum at 0: error 03 (wrong checksum)", "Status to the Ping at 10: ok; model number = 1030, firmware version = 38"])]:
+                 ["Status: error 03 (wrong checksum) [to the bad checksum at 0]", "Status: ok; model number = 1030, firmware version = 38 [to the Ping at 10]"])]:
             with self.subTest(said):
                 lines = [line.split(" ", 3)[3] for line in self.words(b"".join(parts)) if line[0] == "<"]
                 self.assertEqual(lines, said)
@@ -358,7 +360,7 @@ class Meaning(Folder):
 
 class Times(Folder):
     LINES = [(0.001, packet(1, PING)), (0.0015, status(1, 0, MODEL))]
-    SAID = ["> ID 1 Ping", "< ID 1 Status to the Ping at 0, 0.500 ms later: ok; model number = 1030, firmware version = 38"]
+    SAID = ["> ID 1 Ping", "< ID 1 Status: ok; model number = 1030, firmware version = 38 [to the Ping at 0, 0.500 ms later]"]
 
     def timed(self, text, *options):
         return [(line.split()[0], " ".join(line.split()[2:])) for line in self.show(text, *options)]

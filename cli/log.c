@@ -8,6 +8,7 @@
 #include <stdio.h>
 #include <stdlib.h>
 #include <string.h>
+#include <unistd.h>
 
 #include "files.h"
 #include "log_file.h"
@@ -273,7 +274,8 @@ static int log_list(const struct options *options, int n, char **words)
     struct mapped log;
     if (!map_log(words[0], &log))
         return FAILED;
-    begin_work("reading the segments");
+    if (!isatty(STDOUT_FILENO))
+        begin_work("reading the segments");
     for (uint32_t i = 0; i < number_at(log.bytes) && !ferror(stdout); i++) {
         uint32_t start = number_at(entry_at(&log, i));
         print_segment(log.bytes + start, number_at(entry_at(&log, i) + 4), i, start);

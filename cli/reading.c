@@ -80,24 +80,30 @@ static void look_at(struct listener *listener, uint64_t offset)
     memcpy(longest->front, bytes, most);
 }
 
-/* Bytes that are in no packet and in no bad checksum. */
+static void begin_noise(struct listener *listener, uint64_t offset)
+{
+    struct item *noise = &listener->noise;
+    memset(noise, 0, sizeof *noise);
+    noise->kind = NOISE;
+    noise->segment = listener->segment;
+    noise->offset = offset;
+    noise->bytes = listener->first_noise;
+    noise->timed = listener->timed;
+    noise->first = listener->times[offset - listener->base];
+}
+
+/* Bytes that are in no packet and in no bad checksum. A packet begins with FF in every protocol. */
 static void gather(struct listener *listener, uint64_t from, uint64_t to)
 {
     struct item *noise = &listener->noise;
     if (from >= to)
         return;
-    if (noise->length == 0) {
-        memset(noise, 0, sizeof *noise);
-        noise->kind = NOISE;
-        noise->segment = listener->segment;
-        noise->offset = from;
-        noise->bytes = listener->first_noise;
-        noise->timed = listener->timed;
-        noise->first = listener->times[from - listener->base];
-    }
+    if (noise->length == 0)
+        begin_noise(listener, from);
+    size_t room = SHOWN_NOISE - noise->n, kept = to - from < room ? (size_t)(to - from) : room;
+    memcpy(listener->first_noise + noise->n, bytes_at(listener, from), kept);
+    noise->n += kept;
     noise->last = listener->times[to - 1 - listener->base] + listener->byte_time;
-    for (uint64_t at = from; at < to && noise->n < SHOWN_NOISE; at++)
-        listener->first_noise[noise->n++] = *bytes_at(listener, at);
     noise->length += to - from;
     const uint8_t *at = bytes_at(listener, from), *end = at + (to - from);
     for (at = memchr(at, 0xFF, (size_t)(end - at)); at != NULL; at = memchr(at, 0xFF, (size_t)(end - at)))

@@ -43,7 +43,10 @@ const char HELP_SHOW[] =
     "time, unless --baud says how long a byte takes. A file that begins with 256 printed characters, or has no others, is text.\n"
     "\n"
     "  --hex            the bytes beside it; of noise the first 32\n"
-    "  --json           an object for each line, and no totals\n"
+    "  --json           an object for each line, and no totals. Its keys, where they apply: file, kind, id, segment, offset, length, time,\n"
+    "                   code, instruction, error, alert, registers (with id, address, count, name, value, bytes), ids, data, stuffed,\n"
+    "                   reason, at, agreed, inside, answers, delay, unanswered, waited, bytes (with --hex) and text. Times are seconds;\n"
+    "                   inside, answers and unanswered are offsets\n"
     "  --errors         only what went wrong: signs ! ~ ?, and statuses with an error or the alert\n"
     "  --id N           only what is for ID N, from it, or lists it; 254 for what is sent to all devices\n"
     "  --protocol P     2 (if not given), 1 or mercury\n"
@@ -121,7 +124,10 @@ int show_capture(struct capture *capture, const struct options *options)
     struct totals totals;
     int colour = !options->json && isatty(STDOUT_FILENO);
     struct printer printer = {options, capture->name, colour};
+    if (!isatty(STDOUT_FILENO)) /* on a terminal the lines themselves are seen */
+        begin_work("reading the capture");
     int good = read_events(capture, options->protocol, print_event, &printer, &totals);
+    end_work();
     close_capture(capture);
     if (good && !options->json) {
         put_totals(stdout, &totals);
@@ -133,11 +139,7 @@ int show_capture(struct capture *capture, const struct options *options)
 static int show_file(const struct options *options, const char *name)
 {
     struct capture capture;
-    if (!isatty(STDOUT_FILENO))
-        begin_work("reading the capture");
-    int status = open_capture(name, options, &capture) ? show_capture(&capture, options) : FAILED;
-    end_work();
-    return status;
+    return open_capture(name, options, &capture) ? show_capture(&capture, options) : FAILED;
 }
 
 /* A file that cannot be read does not keep those behind it from being shown. */

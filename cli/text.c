@@ -53,9 +53,10 @@ static void put_field(FILE *to, const struct protocol *protocol, const struct fi
         fprintf(to, " to %" PRIu32, last);
     if (field->reg != NULL)
         fputs(field->reg->name, to);
-    if (field->reg != NULL && field->count != field->reg->size)
-        fprintf(to, " (bytes %" PRIu32 " to %" PRIu32 " of %u)", field->address - field->reg->address, last - field->reg->address,
-                (unsigned)field->reg->size);
+    if (field->reg != NULL && field->count == 1 && field->reg->size > 1)
+        fprintf(to, " (only byte %" PRIu32 ")", field->address);
+    else if (field->reg != NULL && field->count != field->reg->size)
+        fprintf(to, " (only bytes %" PRIu32 " to %" PRIu32 ")", field->address, last);
     if (field_number(field, &number)) {
         fprintf(to, " = %" PRId64, number);
     } else if (field->bytes != NULL) {

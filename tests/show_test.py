@@ -282,7 +282,8 @@ class Meaning(Folder):
                 (packet(1, PING, b"\1"), "> ID 1 Ping: 01 (it takes no parameters)"),
                 (READ_POSITION, "> ID 1 Read present position"),
                 (packet(1, READ, b"\1"), "> ID 1 Read: 01 (it takes an address and a length, four bytes)"),
-                (packet(1, READ, word(116) + word(2)), "> ID 1 Read goal position (bytes 0 to 1 of 4)"),
+                (packet(1, READ, word(116) + word(2)), "> ID 1 Read goal position (only bytes 116 to 117)"),
+                (packet(1, READ, word(135) + word(1)), "> ID 1 Read present position (only byte 135)"),
                 (packet(1, READ, word(63) + word(3)), "> ID 1 Read no register at 63, torque enable, lamp"),
                 (packet(1, READ, word(7) + word(0)), "> ID 1 Read: (it asks for no bytes)"),
                 (packet(1, READ, word(65535) + word(65535)), "> ID 1 Read no register at 65535 to 131069"),
@@ -290,7 +291,7 @@ class Meaning(Folder):
                 (packet(1, WRITE, word(116)), "> ID 1 Write: 74 00 (it has no data)"),
                 (packet(1, WRITE, b"\1"), "> ID 1 Write: 01 (it takes an address of two bytes, and data)"),
                 (packet(1, WRITE, at(48, 100) + word(200, 4)), "> ID 1 Write max position = 100, min position = 200"),
-                (packet(1, WRITE, word(118) + b"\1\2\3"), "> ID 1 Write goal position (bytes 2 to 3 of 4) = 01 02, no register at 120 = 03"),
+                (packet(1, WRITE, word(118) + b"\1\2\3"), "> ID 1 Write goal position (only bytes 118 to 119) = 01 02, no register at 120 = 03"),
                 (packet(1, WRITE, at(20, -131073)), "> ID 1 Write homing offset = -131073 [stuffed: 1 FD]"),
                 (packet(1, 4, at(65, 1, 1)), "> ID 1 Reg Write lamp = 1"), (packet(1, 5), "> ID 1 Action"),
                 (packet(1, 8), "> ID 1 Reboot"),
@@ -492,6 +493,8 @@ class Options(Folder):
         objects = [json.loads(line) for line in out.splitlines()]
         whole = self.lines()[:-1]
         self.assertEqual((code, err, len(objects)), (DONE, "", len(whole)))
+        keys = re.search(r"Its keys, where they apply: (.*?)\. Times", run("show", "--help")[1], flags=re.S).group(1)
+        self.assertEqual(set().union(*objects) | {"inside"}, set(re.sub(r"\(.*?\)|,|\band\b", " ", keys).split()))
         for each, line in zip(objects, whole):
             self.assertEqual(each["text"], line[33:])
             self.assertEqual(each["offset"], int(line[12:20]))

@@ -379,6 +379,7 @@ class Times(Folder):
         plain = "".join(f"{data.hex(' ')}\n" for _, data in self.LINES)
         self.assertEqual(self.words(plain), [said.replace(", 0.500 ms later", "") for said in self.SAID])
         self.assertEqual(self.words("-0.5 " + packet(1, PING).hex(" "))[0][-6:], "1 Ping")
+        self.assertEqual(self.timed("7 00\n\n8\n12\n12 " + packet(1, PING).hex(" "))[1], ("12.000000", "> ID 1 Ping"))
 
     # [L14]
     def test_wrong_text(self):
@@ -519,7 +520,7 @@ class Options(Folder):
                             (["--gap", "-1", "f"], "--gap -1: not a number"),
                             (["--gap", "0x1", "f"], "--gap 0x1: numbers are given in decimal"),
                             (["--gap", "9999999999", "f"], "--gap 9999999999: too large"),
-                            (["--baud", "0", "f"], "--baud 0: a line has some speed"),
+                            (["--baud", "299", "f"], "--baud 299: a line has 300 bits per second or more"),
                             (["--hex=1", "f"], "--hex=1: no such option; a file of this name is given with ./ before it"),
                             (["--hexx", "f"], "--hexx: no such option; a file of this name is given with ./ before it"),
                             (["--hex"], "show: FILE is missing")]:

@@ -344,6 +344,8 @@ class Meaning(Folder):
                 ([READ_POSITION, status(1, 0, b"\1\2")], ["Status: ok; 01 02 (not as many bytes of data as were asked for) [to the Read at 0]"]),
                 ([packet(1, PING), status(1, 0, b"\1")], ["Status: ok; 01 (not as many bytes of data as were asked for) [to the Ping at 0]"]),
                 ([packet(254, PING), status(1, 0, MODEL), status(7, 0, MODEL)], ["Status: ok; model number = 1030, firmware version = 38 [to the Ping at 0]"] * 2),
+                ([packet(254, PING), status(1), status(1)], ["Status: ok [to the Ping at 0]", nothing()]),
+                ([packet(254, PING, b"\1"), status(1)], [nothing()]),
                 ([sync, status(1, 0, b"\0"), status(2, 0x80, b"\1"), status(3, 0, b"\1")],
                  ["Status: ok; lamp = 0 [to the Sync Read at 0]", "Status: ok, alert (hardware error is not 0); lamp = 1 [to the Sync Read at 0]", nothing("; 01")]),
                 ([bulk, status(1, 0, word(-2, 4)), status(2, 0, b"\1")],
@@ -637,7 +639,8 @@ class Timeline(Folder):
         self.assertEqual((page.count("<script>"), page.count("</script>"), page.rstrip()[-7:]), (1, 1, "</html>"))
         about = page.split("const ABOUT =\n")[1].split("\n;\n")[0]
         self.assertIn('name: "examples/wet.txt", timed: true, first: 4000.000', about)
-        self.assertTrue(page.startswith(Path("cli/timeline.html").read_text(encoding="utf-8").split("@EVENTS@")[0]))
+        source = Path("cli/timeline.html").read_text(encoding="utf-8")
+        self.assertEqual((page.startswith(source.split("@EVENTS@\n")[0]), page.endswith(source.split("@ABOUT@\n")[1])), (True, True))
 
     # [L16]
     def test_without_times(self):

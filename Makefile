@@ -101,7 +101,7 @@ $(LEAF_LIBS): build/lib/libmednukals_%.a: $(SOURCES) KIT tests/other_leaf.py tes
 	@mkdir -p $(@D) && cp build/$*/libmednukals.a $@
 $(LEAVES:%=build/%/libmednukals_test.a): build/%/libmednukals_test.a: build/lib/libmednukals_%.a ;
 
-dxl: build/c/dxl ## build the tool dxl, for line logs and plans of goals on a bench computer: build/c/dxl
+dxl: build/c/dxl ## build the tool dxl, for captures, line logs and plans of goals on a bench computer: build/c/dxl
 	@echo 'the tool: $<'
 
 # As CAPTURE above, these names are their own.
@@ -161,8 +161,10 @@ docs_test: $(LIB) ## links, commands and code in the documents
 	@$(STEP) docs_test 'documents: links, commands and code' python3 tests/docs_test.py $(CC) $<
 programs_test: build/bin/line build/bin/checksum ## the programs line and checksum where something is wrong
 	@$(STEP) programs_test 'programs line and checksum where something is wrong' python3 tests/programs_test.py $^
-cli_test: build/c/dxl ## the tool dxl
+cli_test: build/c/dxl ## the tool dxl: words, files, logs and plans
 	@$(STEP) cli_test 'the tool dxl' python3 tests/cli_test.py $<
+show_test: build/c/dxl build/c/dxl_checked ## what it shows of captures, also with the compiler's checks of memory, on random and damaged files
+	@$(STEP) show_test 'what the tool dxl shows of captures' python3 tests/show_test.py $^
 demo_test: build/c/board build/c/refusing_board build/c/uart_pty ## the example boards and their master
 	@$(STEP) demo_test 'example boards and their master' python3 tests/demo_test.py $^
 counts_test: build/c/counts ## the instructions that each export takes beside tests/instructions.txt
@@ -247,7 +249,13 @@ build/c/%: $(HEADERS)
 $(addprefix build/c/,published exchange board_calls plan log_pages): build/c/%: tests/c/%.c $(LIB)
 $(addprefix build/c/,segment old_boards): build/c/%: examples/%.c $(LIB)
 build/c/parts: tests/c/parts.c examples/parts.c $(LIB)
-build/c/dxl: cli/dxl.c cli/plan.c cli/goals.c cli/files.c $(LIB)
+# The second for tests, with the compiler's checks of memory and of undefined behaviour.
+build/c/dxl build/c/dxl_checked: $(wildcard cli/*.c) $(LIB) build/cli/timeline_page.h
+build/c/dxl build/c/dxl_checked: FLAGS += -Ibuild/cli
+build/c/dxl_checked: FLAGS += -O1 -g -fsanitize=address,undefined -fno-sanitize-recover=all
+# The page of dxl timeline, a string for each line.
+build/cli/timeline_page.h: cli/timeline.html
+	@$(call need,$(firstword $(CC)))mkdir -p $(@D) && sed 's/[\\"]/\\&/g; s/.*/"&\\n",/' $< >$@
 HOST := examples/pty_line.c examples/host.c
 build/c/board: examples/board.c $(HOST) $(LIB)
 build/c/refusing_board: examples/board.c $(HOST) tests/c/refusing.c $(LIB)
@@ -255,7 +263,7 @@ build/c/uart_pty: examples/uart_pty.c examples/uart_board.c $(HOST) $(LIB)
 build/c/uart_test: tests/c/uart_test.c tests/c/refusing.c examples/uart_board.c $(LIB)
 build/c/parts build/c/uart_test: FLAGS += -Iexamples
 # These need POSIX; files may have more than two gigabytes.
-build/c/dxl build/c/log_pages: FLAGS += -D_XOPEN_SOURCE=700 -D_FILE_OFFSET_BITS=64
+build/c/dxl build/c/dxl_checked build/c/log_pages: FLAGS += -D_XOPEN_SOURCE=700 -D_FILE_OFFSET_BITS=64
 build/c/log_pages: FLAGS += -D_DEFAULT_SOURCE
 # The library refuses what the test asks it to. dxl_fresh is not among these: dxl_board_start always gives it a table of its size.
 REFUSING := encode reader_feed reader_gap board_feed_parts board_gap_parts measure status

@@ -11,14 +11,9 @@
 #include <sys/time.h>
 #include <unistd.h>
 
-static uint8_t none[1];
+#include "say.h"
 
-int say_failure(const char *name, const char *why)
-{
-    end_work();
-    fprintf(stderr, "dxl: %s: %s\n", name, why);
-    return 0;
-}
+static uint8_t none[1];
 
 /* Where a standard stream is closed, the next file that is opened would be taken for it, and what is said would go into that file. */
 void hold_streams(void)
@@ -35,6 +30,7 @@ void hold_streams(void)
 
 static const char *volatile work;
 static volatile sig_atomic_t seconds, shown, terminal;
+static volatile sig_atomic_t done_megabytes, all_megabytes;
 static const char *volatile unfinished; /* the temporary file */
 
 /* Only what a signal handler may call. */
@@ -47,24 +43,41 @@ static void put(const char *text)
         return; /* there is nobody to tell */
 }
 
+static void put_number(int n)
+{
+    char digits[12];
+    char *at = digits + sizeof digits - 1;
+    *at = 0;
+    do
+        *--at = (char)('0' + n % 10);
+    while ((n /= 10) > 0);
+    put(at);
+}
+
+static void put_work(void)
+{
+    put(terminal ? "\rdxl: " : "dxl: ");
+    put(work);
+    put(", ");
+    if (done_megabytes > 0) {
+        put_number(done_megabytes);
+        put(all_megabytes > 0 ? " of " : "");
+        if (all_megabytes > 0)
+            put_number(all_megabytes);
+        put(" MB, ");
+    }
+    put_number(seconds);
+    put(terminal ? " s" : " s\n");
+    shown = 1;
+}
+
 static void tick(int number)
 {
     (void)number;
-    char digits[12];
-    char *at = digits + sizeof digits - 1;
     int saved = errno;
     seconds = seconds + 1;
-    *at = 0;
-    for (int n = seconds; n > 0; n /= 10)
-        *--at = (char)('0' + n % 10);
-    if (work != NULL && (terminal ? seconds > 1 : seconds % 10 == 0)) {
-        put(terminal ? "\rdxl: " : "dxl: ");
-        put(work);
-        put(", ");
-        put(at);
-        put(terminal ? " s" : " s\n");
-        shown = 1;
-    }
+    if (work != NULL && (terminal ? seconds > 1 : seconds % 10 == 0))
+        put_work();
     errno = saved;
 }
 
@@ -94,7 +107,7 @@ static void listen_to(int number, void (*handler)(int))
 
 /* What the caller ignores stays ignored, as with nohup. A file that may not become so long is told by the call that asks for room,
  * and a reader that has gone by the call that writes. */
-static void listen_to_ends(void)
+void listen_to_ends(void)
 {
     static const int ends[] = {SIGBUS, SIGINT, SIGTERM, SIGHUP, SIGQUIT};
     for (size_t i = 0; i < sizeof ends / sizeof *ends; i++) {
@@ -125,10 +138,17 @@ void begin_work(const char *what)
 {
     struct itimerval every_second = {{1, 0}, {1, 0}};
     seconds = shown = 0;
+    done_megabytes = all_megabytes = 0;
     terminal = isatty(STDERR_FILENO);
     work = what;
     listen_to(SIGALRM, tick);
     setitimer(ITIMER_REAL, &every_second, NULL);
+}
+
+void work_reached(uint64_t done, uint64_t whole)
+{
+    done_megabytes = (sig_atomic_t)(done >> 20 & INT32_MAX);
+    all_megabytes = (sig_atomic_t)(whole >> 20 & INT32_MAX);
 }
 
 void end_work(void)
@@ -160,6 +180,54 @@ static int open_regular(const char *name, struct stat *about)
     return -1;
 }
 
+/* Standard input, which is read once. */
+static struct mapped standard_input;
+
+static int is_standard_input(const char *name)
+{
+    return strcmp(name, "-") == 0;
+}
+
+const char *file_name(const char *name)
+{
+    return is_standard_input(name) ? "standard input" : name;
+}
+
+static int read_standard_input(void)
+{
+    size_t room = 65536;
+    ssize_t got = 1;
+    uint8_t *bytes = malloc(room);
+    size_t n = 0;
+    while (bytes != NULL && got > 0) {
+        got = read(STDIN_FILENO, bytes + n, room - n);
+        if (got < 0)
+            return say_failure("standard input", strerror(errno));
+        n += (size_t)got;
+        if (n == room)
+            bytes = realloc(bytes, room *= 2);
+    }
+    if (bytes == NULL)
+        return say_failure("standard input", "no memory");
+    standard_input.bytes = bytes;
+    standard_input.count = n;
+    return 1;
+}
+
+/* It is no file that could be written over, but where a file was put in its place. */
+static int map_standard_input(struct mapped *mapped)
+{
+    struct stat about;
+    if (standard_input.bytes == NULL && !read_standard_input())
+        return 0;
+    if (fstat(STDIN_FILENO, &about) != 0)
+        return say_failure("standard input", strerror(errno));
+    *mapped = standard_input;
+    mapped->device = about.st_dev;
+    mapped->inode = about.st_ino;
+    return 1;
+}
+
 /* The opened file, or -1; its bytes are not mapped yet. */
 static int open_measured(const char *name, struct mapped *mapped)
 {
@@ -176,6 +244,8 @@ static int open_measured(const char *name, struct mapped *mapped)
 
 int measure_file(const char *name, struct mapped *mapped)
 {
+    if (is_standard_input(name))
+        return map_standard_input(mapped);
     int file = open_measured(name, mapped);
     if (file < 0)
         return 0;
@@ -185,10 +255,12 @@ int measure_file(const char *name, struct mapped *mapped)
 
 int map_file(const char *name, struct mapped *mapped)
 {
+    listen_to_ends();
+    if (is_standard_input(name))
+        return map_standard_input(mapped);
     int file = open_measured(name, mapped);
     if (file < 0)
         return 0;
-    listen_to_ends();
     if (mapped->count > 0) {
         void *bytes = mmap(NULL, mapped->count, PROT_READ, MAP_PRIVATE, file, 0);
         if (bytes == MAP_FAILED) {
@@ -211,6 +283,10 @@ int same_file(const char *name, const struct mapped *mapped)
 int append_file(const char *name, uint8_t *out, size_t count)
 {
     struct stat about;
+    if (is_standard_input(name)) {
+        memcpy(out, standard_input.bytes, count);
+        return 1;
+    }
     int file = open_regular(name, &about);
     if (file < 0)
         return 0;
@@ -257,6 +333,8 @@ int give_up(struct output *output, const char *why)
 int may_be_written(const char *name)
 {
     struct stat about;
+    if (strcmp(name, "-") == 0)
+        return say_failure(name, "a file is written, and not standard output; one of this name is given with ./ before it");
     if (stat(name, &about) == 0 && !S_ISREG(about.st_mode))
         return say_failure(name, "not a regular file");
     return 1;
@@ -340,6 +418,24 @@ static mode_t mode_for(const char *name)
     return 0666 & ~mask;
 }
 
+/* So that the name outlives a power cut too. A file system that cannot do that for a folder keeps the file all the same. */
+static void sync_folder(const char *name)
+{
+    const char *slash = strrchr(name, '/');
+    char *folder = strdup(slash == NULL ? "." : name);
+    if (folder == NULL)
+        return;
+    if (slash != NULL)
+        folder[slash == name ? 1 : slash - name] = 0;
+    int file = open(folder, O_RDONLY | O_CLOEXEC);
+    free(folder);
+    if (file < 0)
+        return;
+    int synced = fsync(file);
+    (void)synced;
+    close(file);
+}
+
 int finish_output(struct output *output)
 {
     int kept = fchmod(output->file, mode_for(output->name)); /* some file systems have no modes: the file is whole all the same */
@@ -348,6 +444,7 @@ int finish_output(struct output *output)
         || fsync(output->file) != 0 || close(output->file) != 0 || rename(output->temporary, output->name) != 0)
         return give_up(output, strerror(errno));
     unfinished = NULL;
+    sync_folder(output->name);
     free(output->temporary);
     return 1;
 }

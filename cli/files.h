@@ -6,14 +6,6 @@
 #include <stdint.h>
 #include <sys/types.h>
 
-/* How the program ends. */
-enum {
-    DONE = 0,
-    NO = 1,    /* the answer is no: not sound, no packet, not accepted */
-    USAGE = 2, /* words that it does not know */
-    FAILED = 3 /* a file that cannot be read or written, or a refusal */
-};
-
 /* A file's bytes in memory. `bytes` is never null, also where there are none. */
 struct mapped {
     const uint8_t *bytes;
@@ -32,7 +24,8 @@ struct output {
     char *temporary; /* null where the file has no name of its own */
 };
 
-/* Each of these returns whether it was done; where not, it has said on standard error why. */
+/* Each of these returns whether it was done; where not, it has said on standard error why. Where a file is read, - is standard input:
+ * all of it in memory. */
 int map_file(const char *name, struct mapped *mapped);
 int measure_file(const char *name, struct mapped *mapped); /* the same without its bytes */
 int may_be_written(const char *name);                      /* not there, or a regular file */
@@ -41,6 +34,9 @@ int begin_scratch(const char *beside, size_t count, struct output *output); /* i
 int append_file(const char *name, uint8_t *out, size_t count); /* all its bytes, which have to be as many as before */
 int finish_output(struct output *output);
 int give_up(struct output *output, const char *why); /* nothing of it stays; says why, and returns 0 */
+
+/* The name that is said: `standard input` for -. */
+const char *file_name(const char *name);
 
 /* Whether the name is that of a file that is mapped. */
 int same_file(const char *name, const struct mapped *mapped);
@@ -51,9 +47,10 @@ void hold_streams(void);
 /* Says on standard error what takes long, and for how many seconds: from the second one on where that is a terminal, and else every
  * ten seconds. */
 void begin_work(const char *what);
+void work_reached(uint64_t done, uint64_t whole); /* in bytes; the whole is 0 where it is not known */
 void end_work(void);
 
-/* dxl: NAME: why */
-int say_failure(const char *name, const char *why);
+/* From here on nothing unfinished stays where the program is ended, and a reader that has gone is told by the call that writes. */
+void listen_to_ends(void);
 
 #endif

@@ -5,19 +5,7 @@
 #include <string.h>
 
 #include "files.h"
-
-/* dxl: NAME:LINE: why */
-static int say_line(const char *name, size_t line, const char *why)
-{
-    size_t room = strlen(name) + 24;
-    char *place = malloc(room);
-    if (place == NULL)
-        return say_failure(name, why);
-    snprintf(place, room, "%s:%zu", name, line);
-    say_failure(place, why);
-    free(place);
-    return 0;
-}
+#include "say.h"
 
 static int is_space(uint8_t byte)
 {
@@ -65,14 +53,14 @@ static int read_line(const char *name, size_t line, const uint8_t *at, const uin
     if (at != NULL)
         at = number(at, end, &goal);
     if (at != end)
-        return say_line(name, line, "not an ID and a goal");
+        return say_line(file_name(name), line, "not an ID and a goal");
     if (id < 0 || id >= IDS)
-        return say_line(name, line, "the ID is not 0 to 252");
+        return say_line(file_name(name), line, "the ID is not 0 to 252");
     if (goal < NO_GOAL || goal > 4095)
-        return say_line(name, line, "42, the goal is neither 0 to 4095 nor -1, which is none");
+        return say_line(file_name(name), line, "42, the goal is neither 0 to 4095 nor -1, which is none");
     if (goals->line[id] != 0) {
         snprintf(why, sizeof why, "ID %ld stands in line %zu already", id, goals->line[id]);
-        return say_line(name, line, why);
+        return say_line(file_name(name), line, why);
     }
     goals->of[id] = (int32_t)goal;
     goals->line[id] = line;

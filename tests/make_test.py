@@ -207,7 +207,7 @@ class Commands(unittest.TestCase):
         self.assertEqual(self.make("dxl"), (0, "the tool: build/c/dxl\n", ""))
         calls = (self.folder / "calls").read_text(encoding="utf-8").splitlines()
         self.assertEqual(len(calls), 3)
-        self.assertRegex(calls[0], r"^-std=c99 -Wall .* -o build/c/dxl cli/dxl.c .* build/lib/libmednukals.a$")
+        self.assertRegex(calls[0], r"^-std=c99 -Wall .* -o build/c/dxl cli/.* cli/dxl.c .* build/lib/libmednukals.a$")
 
     def test_a_program_in_c_is_wrong(self):
         self.make("lib")

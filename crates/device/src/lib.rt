@@ -93,7 +93,7 @@ fn execute(
 }
 
 // One instruction is carried out, if it is for this device.
-fn dispatch(
+pub fn dispatch(
     table: &mut [u8],
     registered: RegisteredWrite,
     heard: Heard,

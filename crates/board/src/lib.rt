@@ -203,20 +203,20 @@ fn passed(registered: RegisteredWrite) -> Came
 
 // An event for this device is carried out. Its body stands in the buffer up to `end`.
 fn carry_out(
-    table: &mut [u8],
+    table: &mut [u8; 136],
     registered: RegisteredWrite,
     heard: Heard,
     id: u8,
     packet: &[u8],
     end: usize,
 ) -> Came
-    requires { ⌜ (length (now table) ≡ tableSize) × (7 ≤ end) × (end ≤ length (now packet)) ⌝ }
+    requires { ⌜ (7 ≤ end) × (end ≤ length (now packet)) ⌝ }
     ensures { λ r. ⌜ r ≡ cameOf (now (table .entry)) registered heard id (bodyTo end (now (packet .entry))) ⌝ }
     ensures { λ _. ⌜ now (table .exit) ≡ carryOut (now (table .entry)) registered heard id (bodyTo end (now (packet .entry))) .table ⌝ }
 {
     let wrong = checksum_error(&table[..], id);
     let instruction = instruction_in(packet, end);
-    let carried = device::dispatch(table, registered, heard, id, &packet[7..end]);
+    let carried = device::carry_out_tested(table, registered, heard, id, &packet[7..end]);
     let reply = carried.reply;
     let kept = carried.registered;
     let error = match heard {

@@ -93,7 +93,7 @@ fn execute(
 }
 
 // One instruction is carried out, if it is for this device.
-pub fn dispatch(
+fn dispatch(
     table: &mut [u8],
     registered: RegisteredWrite,
     heard: Heard,
@@ -116,6 +116,20 @@ pub fn dispatch(
         }
     }
     execute(table, registered, heard, !own, body)
+}
+
+// The same on a table that has its size by its type, for a caller that has tested what the first call tests.
+pub fn carry_out_tested(
+    table: &mut [u8; 136],
+    registered: RegisteredWrite,
+    heard: Heard,
+    id: u8,
+    body: &[u8],
+) -> CarriedOut
+    ensures { λ r. ⌜ r ≡ carriedOf (carryOut (now (table .entry)) registered heard id (now (body .entry))) ⌝ }
+    ensures { λ _. ⌜ now (table .exit) ≡ carryOut (now (table .entry)) registered heard id (now (body .entry)) .table ⌝ }
+{
+    dispatch(table, registered, heard, id, body)
 }
 
 pub struct Response {

@@ -10,7 +10,6 @@ use borrow.Author.Tests.{not-true, not-false}
 use Rattle.reading.specs.Calls.{gap}
 use Rattle.reader_core.specs.declared.StepEvent.the-variants.{Silent}
 use Rattle.reader_records.specs.Records.{lent}
-use Rattle.device.proofs.Calls.{state-accepted}
 use Rattle.board.specs.declared.Came.{Came}
 use Rattle.board.specs.Board.{boardOf, boardRefusal, addressed}
 use Rattle.board.specs.Inside.{Fits, toldBy, idBy}
@@ -109,12 +108,9 @@ carry-out-requires : tie.Need-carry-out-requires
 carry-out-requires c κs =
     let s = c .before .before .before .before .before .before .before .before .before in
     let u = s .before .before .before in
-    let a = u .before .before .before .before .before .before .before .before in
-    let b = boardOf (lent (a .args .held .now) (a .args .count .now)) (a .args .table .now) (a .args .registered) in
     let l : length (u .gap-lean .last .1 .1 .0) ≡ 1031 = search needs in
     let n = s .strip .ensures .0 in
     let w = within (u .gap-lean .last .1 .1 .0) (omega (arith, l)) (u .gap-lean .result .event) (fitting u) in (
-      state-accepted (a .args .table .now) (a .args .registered) (accepted b (ok u) .state) .sized,
       omega (arith, n),
       omega (arith, n, w, ap length (s .strip .ensures .1)),
     )

@@ -1,5 +1,4 @@
 // From the line to the table: a call takes bytes up to the next event and carries it out at once.
-use device::CarriedOut;
 use device_codes::ERROR_CHECKSUM;
 use device_dispatch::Heard;
 use device_instructions::MAX_REGISTERED;
@@ -12,10 +11,9 @@ use reader_core::StepEvent;
 use table_registers::REG_ID;
 ghost use mathlib.Core.Path.{_≡_};
 ghost use mathlib.Core.Bool.{cond};
-ghost use mathlib.Core.Option.{none};
-ghost use Prim.Native.Nat.{_≤_};
+ghost use Prim.Native.Nat.{_+_, _≤_};
 ghost use lib.Dec.{eqb};
-ghost use lib.ListN.{length, take};
+ghost use lib.ListN.{length, take, getD};
 ghost use Rattle.lists.specs.Write.{placed};
 ghost use Rattle.stuffing.specs.Stuffing.{unstuff};
 ghost use Rattle.reading.specs.Calls.{feed as Call·feed, gap as Call·gap};
@@ -23,12 +21,11 @@ ghost use Rattle.packet.specs.Packet.{bodyOf};
 ghost use Rattle.reader_records.specs.Records.{lent};
 ghost use Rattle.table_registers.specs.Registers.{tableSize};
 ghost use Rattle.device_dispatch.specs.Reactions.{ownId};
-ghost use Rattle.device_dispatch.specs.declared.Heard.the-variants.{Packet as Heard·Packet};
 ghost use Rattle.device_status.specs.Status.{silence as Status·silence};
-ghost use Rattle.device.specs.Answers.{stateRefusal, carriedReply, carriedRegistered, carriedError, carriedTable};
-ghost use Rattle.board.specs.Board.{addressed, lentRefusal, boardOf, carriedIfAny, reportOf, outcome};
-ghost use Rattle.board.specs.Numbers.{stepWith, boardStep, bufferLeft};
-ghost use Rattle.board.specs.Inside.{numberOf, eventBy, Fits, bufferBy};
+ghost use Rattle.device.specs.Device.{carryOut};
+ghost use Rattle.board.specs.Board.{addressed, lentRefusal, boardOf, outcome};
+ghost use Rattle.board.specs.Numbers.{boardStep, bufferLeft};
+ghost use Rattle.board.specs.Inside.{numberOf, Fits, bufferBy, bodyBy, bodyTo, kindBy, idBy, sizeBy, heardBy, toldBy, cameOf};
 
 // What a call returns: how many bytes it took; the event as of `dxl_feed`, or the number of a refusal as its kind; the instruction, if
 // it is for this device, and its error number; the reply that waits; and the registered write from now on.
@@ -77,18 +74,18 @@ fn refusal(held: usize, table: &[u8], registered: RegisteredWrite) -> u8
     0
 }
 
-// The instruction of a packet with this ID, or 0 if it is for another device.
-fn instruction_for(table: &[u8], id: u8, instruction: u8) -> u8
+// Whether an event with this ID is for this device: it has the own ID, or that of all devices.
+fn is_for(table: &[u8], id: u8) -> bool
     requires { ⌜ length (now table) ≡ tableSize ⌝ }
-    ensures { λ r. ⌜ r ≡ cond (addressed (now (table .entry)) id) instruction 0 ⌝ }
+    ensures { λ r. ⌜ r ≡ addressed (now (table .entry)) id ⌝ }
 {
     if id == table[REG_ID] {
-        return instruction;
+        return true;
     }
     if id == BROADCAST_ID {
-        return instruction;
+        return true;
     }
-    0
+    false
 }
 
 // The error number of a bad checksum: it is this device's fault only under its own ID.
@@ -102,26 +99,136 @@ fn checksum_error(table: &[u8], id: u8) -> u8
     0
 }
 
-// A packet as received, the first bytes of the buffer, is carried out; its stuffing is removed where it stands.
-fn carry_packet(
-    table: &mut [u8],
-    registered: RegisteredWrite,
-    id: u8,
-    packet: &mut [u8],
-    size: usize,
-) -> CarriedOut
+// What the reader's event is told by.
+fn kind_of(event: StepEvent) -> u8
+    ensures { λ r. ⌜ r ≡ kindBy event ⌝ }
+{
+    match event {
+        StepEvent::Packet { id: _, size: _ } => KIND_PACKET,
+        StepEvent::BadChecksum { id: _ } => KIND_BAD_CHECKSUM,
+        StepEvent::Silent => KIND_NONE,
+        StepEvent::Refused => KIND_NONE,
+    }
+}
+
+fn id_of(event: StepEvent) -> u8
+    ensures { λ r. ⌜ r ≡ idBy event ⌝ }
+{
+    match event {
+        StepEvent::Packet { id, size: _ } => id,
+        StepEvent::BadChecksum { id } => id,
+        StepEvent::Silent => 0,
+        StepEvent::Refused => 0,
+    }
+}
+
+fn size_of(event: StepEvent) -> usize
+    ensures { λ r. ⌜ r ≡ sizeBy event ⌝ }
+{
+    match event {
+        StepEvent::Packet { id: _, size } => size,
+        StepEvent::BadChecksum { id: _ } => 0,
+        StepEvent::Silent => 0,
+        StepEvent::Refused => 0,
+    }
+}
+
+// What the device hears in it.
+fn heard_of(event: StepEvent) -> Heard
+    ensures { λ r. ⌜ r ≡ heardBy event ⌝ }
+{
+    match event {
+        StepEvent::Packet { id: _, size: _ } => Heard::Packet,
+        StepEvent::BadChecksum { id: _ } => Heard::BadChecksum,
+        StepEvent::Silent => Heard::BadChecksum,
+        StepEvent::Refused => Heard::BadChecksum,
+    }
+}
+
+// Removes the stuffing of a packet, the first bytes of the buffer, where it stands. The body begins behind seven bytes, and the answer
+// is where it ends then.
+fn strip_packet(packet: &mut [u8], size: usize) -> usize
     requires { ⌜ (9 ≤ size) × (size ≤ length (now packet)) ⌝ }
-    ensures { λ r. ⌜ r .reply ≡ carriedReply (now (table .entry)) registered Heard·Packet id (unstuff (bodyOf (take size (now (packet .entry))))) ⌝ }
-    ensures { λ r. ⌜ r .registered ≡ carriedRegistered (now (table .entry)) registered Heard·Packet id (unstuff (bodyOf (take size (now (packet .entry))))) ⌝ }
-    ensures { λ r. ⌜ r .error ≡ carriedError (now (table .entry)) registered Heard·Packet id (unstuff (bodyOf (take size (now (packet .entry))))) ⌝ }
-    ensures { λ _. ⌜ now (table .exit) ≡ carriedTable (now (table .entry)) registered Heard·Packet id (unstuff (bodyOf (take size (now (packet .entry))))) ⌝ }
+    ensures { λ r. ⌜ r ≡ 7 + length (unstuff (bodyOf (take size (now (packet .entry))))) ⌝ }
     ensures { λ _. ⌜ now (packet .exit) ≡ placed (now (packet .entry)) 7 (unstuff (bodyOf (take size (now (packet .entry))))) ⌝ }
 {
     let end = size - 2;
-    let n = stuffing_in_place::unstuff_in_place(&mut packet[7..end]);
-    let stop = 7 + n;
-    let heard = Heard::Packet;
-    device::carry_out(table, registered, heard, id, &packet[7..stop])
+    7 + stuffing_in_place::unstuff_in_place(&mut packet[7..end])
+}
+
+// The same of an event; what is no packet has an empty body.
+fn strip(event: StepEvent, packet: &mut [u8]) -> usize
+    requires { ⌜ Fits event (now packet) ⌝ }
+    ensures { λ r. ⌜ r ≡ 7 + length (bodyBy event (now (packet .entry))) ⌝ }
+    ensures { λ _. ⌜ now (packet .exit) ≡ bufferBy event (now (packet .entry)) ⌝ }
+{
+    match event {
+        StepEvent::Packet { id: _, size } => strip_packet(packet, size),
+        StepEvent::BadChecksum { id: _ } => 7,
+        StepEvent::Silent => 7,
+        StepEvent::Refused => 7,
+    }
+}
+
+// The first byte of the body that stands in the buffer up to `end`; 0 where it has none.
+fn instruction_in(packet: &[u8], end: usize) -> u8
+    requires { ⌜ (7 ≤ end) × (end ≤ length (now packet)) ⌝ }
+    ensures { λ r. ⌜ r ≡ getD (bodyTo end (now (packet .entry))) 0 0 ⌝ }
+{
+    if end == 7 {
+        return 0;
+    }
+    packet[7]
+}
+
+// What came of an event: the instruction and its error number, the reply that waits, the registered write from now on.
+struct Came {
+    instruction: u8,
+    error: u8,
+    reply: Reply,
+    registered: RegisteredWrite,
+}
+
+// Nothing, since it is for another device.
+fn passed(registered: RegisteredWrite) -> Came
+    ensures { λ r. ⌜ r ≡ record { instruction = 0; error = 0; reply = Status·silence; registered = registered } ⌝ }
+{
+    Came {
+        instruction: 0,
+        error: 0,
+        reply: device_status::silence(),
+        registered,
+    }
+}
+
+// An event for this device is carried out. Its body stands in the buffer up to `end`.
+fn carry_out(
+    table: &mut [u8; 136],
+    registered: RegisteredWrite,
+    heard: Heard,
+    id: u8,
+    packet: &[u8],
+    end: usize,
+) -> Came
+    requires { ⌜ (7 ≤ end) × (end ≤ length (now packet)) ⌝ }
+    ensures { λ r. ⌜ r ≡ cameOf (now (table .entry)) registered heard id (bodyTo end (now (packet .entry))) ⌝ }
+    ensures { λ _. ⌜ now (table .exit) ≡ carryOut (now (table .entry)) registered heard id (bodyTo end (now (packet .entry))) .table ⌝ }
+{
+    let wrong = checksum_error(&table[..], id);
+    let instruction = instruction_in(packet, end);
+    let carried = device::carry_out_tested(table, registered, heard, id, &packet[7..end]);
+    let reply = carried.reply;
+    let kept = carried.registered;
+    let error = match heard {
+        Heard::Packet => carried.error,
+        Heard::BadChecksum => wrong,
+    };
+    Came {
+        instruction,
+        error,
+        reply,
+        registered: kept,
+    }
 }
 
 // Nothing is carried out: no event, or a refusal by its number.
@@ -140,57 +247,21 @@ fn idle_step(taken: usize, kind: u8, registered: RegisteredWrite) -> BoardStep
     }
 }
 
-// What the reader's call found is carried out.
-fn receive(
-    table: &mut [u8],
-    registered: RegisteredWrite,
-    step: Step,
-    packet: &mut [u8],
-) -> BoardStep
-    requires { ⌜ (stateRefusal (now table) registered ≡ none) × Fits (step .event) (now packet) ⌝ }
-    ensures { λ r. ⌜ r ≡ stepWith (reportOf (now (table .entry)) registered (step .taken) (eventBy (step .event) (now (packet .entry))))
-        (carriedIfAny (now (table .entry)) registered (eventBy (step .event) (now (packet .entry))) .registered) ⌝ }
-    ensures { λ _. ⌜ now (table .exit) ≡ carriedIfAny (now (table .entry)) registered (eventBy (step .event) (now (packet .entry))) .table ⌝ }
-    ensures { λ _. ⌜ now (packet .exit) ≡ bufferBy (step .event) (now (packet .entry)) ⌝ }
+// The event, and what came of it.
+fn told(taken: usize, event: StepEvent, came: Came) -> BoardStep
+    ensures { λ r. ⌜ r ≡ toldBy taken event came ⌝ }
 {
-    let taken = step.taken;
-    let event = step.event;
-    match event {
-        StepEvent::Packet { id, size } => {
-            let instruction = instruction_for(&table[..], id, packet[7]);
-            let carried = carry_packet(table, registered, id, packet, size);
-            let reply = carried.reply;
-            let kept = carried.registered;
-            BoardStep {
-                taken,
-                count: size,
-                kind: KIND_PACKET,
-                id,
-                instruction,
-                error: carried.error,
-                reply,
-                registered: kept,
-            }
-        }
-        StepEvent::BadChecksum { id } => {
-            let error = checksum_error(&table[..], id);
-            let wrong = Heard::BadChecksum;
-            let carried = device::carry_out(table, registered, wrong, id, &packet[..0]);
-            let reply = carried.reply;
-            let kept = carried.registered;
-            BoardStep {
-                taken,
-                count: 0,
-                kind: KIND_BAD_CHECKSUM,
-                id,
-                instruction: 0,
-                error,
-                reply,
-                registered: kept,
-            }
-        }
-        StepEvent::Silent => idle_step(taken, KIND_NONE, registered),
-        StepEvent::Refused => idle_step(taken, KIND_NONE, registered),
+    let reply = came.reply;
+    let kept = came.registered;
+    BoardStep {
+        taken,
+        count: size_of(event),
+        kind: kind_of(event),
+        id: id_of(event),
+        instruction: came.instruction,
+        error: came.error,
+        reply,
+        registered: kept,
     }
 }
 
@@ -223,7 +294,15 @@ pub fn feed(
     if let StepEvent::Silent = event {
         return idle_step(step.taken, KIND_NONE, registered);
     }
-    receive(table, registered, step, packet)
+    let end = strip(event, packet);
+    let id = id_of(event);
+    if !is_for(&table[..], id) {
+        let nothing = passed(registered);
+        return told(step.taken, event, nothing);
+    }
+    let heard = heard_of(event);
+    let came = carry_out(table, registered, heard, id, &packet[..], end);
+    told(step.taken, event, came)
 }
 
 // A gap call, likewise: the next event, with the held bytes as the end of the segment. Call it until nothing is left. [B1-B7]
@@ -253,5 +332,13 @@ pub fn gap(
     if let StepEvent::Silent = event {
         return idle_step(step.taken, KIND_NONE, registered);
     }
-    receive(table, registered, step, packet)
+    let end = strip(event, packet);
+    let id = id_of(event);
+    if !is_for(&table[..], id) {
+        let nothing = passed(registered);
+        return told(step.taken, event, nothing);
+    }
+    let heard = heard_of(event);
+    let came = carry_out(table, registered, heard, id, &packet[..], end);
+    told(step.taken, event, came)
 }

@@ -16,7 +16,7 @@ use Rattle.stuffing.specs.Stuffing.{wellAfter, unstuffAfter}
 use Rattle.reading.specs.Reading.{Event, packet, badChecksum, Found, readFuel, readFrom, reading}
 use Rattle.reading.specs.Calls.{feed, gap, first, fed, call}
 use Rattle.reading.specs.Lists.{model, feeds, after, took, given}
-use Rattle.reading.specs.Promise.{what, joined, since, EndsSilent, AtStart, Finished, AllWellFormed, NoneAcross, givenAt, AllOut}
+use Rattle.reading.specs.Promise.{what, joined, packetsAt, since, EndsSilent, AtStart, Finished, AllWellFormed, NoneAcross, givenAt, AllOut}
 use Rattle.reading.specs.Across.{reachesAcross}
 use Rattle.reading.proofs.Across.{across-decided}
 use Rattle.reading.proofs.Decided.{EachPacket, all-well}
@@ -38,11 +38,11 @@ use Rattle.device_status.specs.Status.{status}
 use Rattle.device.specs.Device.{executed}
 use Rattle.device.specs.Answers.{stateRefusal}
 use Rattle.board.specs.Board.{Board, readerLeft, lentRefusal, boardRefusal, outcome}
-use Rattle.board_in_step.specs.InStep.{Shown, hearing, boards, repliesOf, shownAfter, idOfEvent, NoneFor, NoPacketFor, CaughtUp, NotBehind, InStep}
+use Rattle.board_in_step.specs.InStep.{Shown, hearing, boards, repliesOf, shownAfter, NotFor, NoneFor, NoPacketFor, CaughtUp, NotBehind, InStep}
 use Rattle.board_in_step.specs.Measured.{hears, measures, eventsIn, doing, takenIn, jobsOf, InStepMeasured}
 use Rattle.board_in_step.proofs.Proved.{parts}
 use Rattle.reader_applications.specs.Demand3.{earlier, badPing, pingTo1, longFront, followed}
-use Rattle.board_applications.specs.Lives.{writeGoal, badPingTo2, rest, longest, fresh, begun, chunks, answers, found, Noisy, ForAnother, pingTo2, writeId, pingTo9, filled, pieces, cleanPieces, Renamed, holding, ByFeed, AsReader, Lives, InStepApplied, steps, Measuring, InStepMeasuredApplied}
+use Rattle.board_applications.specs.Lives.{writeGoal, badPingTo2, badPingToAll, rest, longest, fresh, begun, chunks, answers, found, Noisy, ForAnother, ninth, pingTo2, writeId, pingTo9, filled, pieces, cleanPieces, Renamed, holding, ByFeed, AsReader, Lives, InStepApplied, steps, Measuring, InStepMeasuredApplied}
 
 -- ---- what is asked
 
@@ -93,15 +93,32 @@ read-of-2 : reading protocol2 (badPingTo2 ++ (joined (writeGoal ∷ pingTo1 ∷ 
 unfolding readFuel readFrom reading reduceIf shift shifts crcByte crcFrom wellAfter lengthOf bodyOf checksumRight frontAgrees lengthAgrees shapeVerdict
 read-of-2 = refl
 
+asked-of-all : Asked badPingToAll
+unfolding after took first fed call reachesAcross reduceIf shift shifts crcByte crcFrom wellAfter lengthOf bodyOf checksumRight frontAgrees lengthAgrees shapeVerdict
+asked-of-all = record { taken = refl; finished = (0, omega arith, refl); apart = refl }
+
+read-of-all : reading protocol2 (badPingToAll ++ (joined (writeGoal ∷ pingTo1 ∷ []) ++ rest)) ≡ (0, badChecksum 254) ∷ found
+unfolding readFuel readFrom reading reduceIf shift shifts crcByte crcFrom wellAfter lengthOf bodyOf checksumRight frontAgrees lengthAgrees shapeVerdict
+read-of-all = refl
+
 -- what is promised behind this noise
 behind : InStep → (noise : List ℕ) → Asked noise → NotBehind begun (chunks noise) 1 noise (writeGoal ∷ pingTo1 ∷ []) rest
 behind t noise a =
     t .in-step fresh fresh-board earlier at-start (chunks noise) 1 noise (writeGoal ∷ pingTo1 ∷ []) rest (a .taken) good
     (across-decided protocol2 laws noise (joined (writeGoal ∷ pingTo1 ∷ []) ++ rest) .0 (a .apart))
 
+abbrev idOfEvent : Event → ℕ
+idOfEvent (packet bytes) = idOf bytes
+idOfEvent (badChecksum id) = id
+
+not-for : (own : ℕ) (e : Event) → ¬ (idOfEvent e ≡ own) → ¬ (idOfEvent e ≡ 254) → NotFor own e
+not-for own (packet bytes) n m = (n, m)
+not-for own (badChecksum id) n m = n
+
 -- ---- what begins in this noise, and behind these packets
 
-module _ (events : List Found) (id : ℕ) (are : events ≡ (0, badChecksum id) ∷ found) (out : AllOut events 10 (writeGoal ∷ pingTo1 ∷ [])) where
+module _ (events : List Found) (id : ℕ) (are : events ≡ (0, badChecksum id) ∷ found) (n : ℕ) (ten : n ≡ 10)
+    (out : AllOut events n (writeGoal ∷ pingTo1 ∷ [])) where
   -- one of the three
   which : (p : ℕ) (e : Event) → List·Memᴰ (p, e) events → ((p ≡ 0) × (e ≡ badChecksum id)) ⊎ ((p ≡ 10) ⊎ (p ≡ 26))
   which p e m =
@@ -113,14 +130,14 @@ module _ (events : List Found) (id : ℕ) (are : events ≡ (0, badChecksum id) 
   in-sooner : (p : ℕ) (e : Event) → List·Memᴰ (p, e) (out .sooner) → e ≡ badChecksum id
   in-sooner p e m =
       let h = out .begin-sooner p e m in
-      ⊎-elim (λ i. i .1) (λ i. ⊎-elim (λ j. absurd (omega (arith, j))) (λ j. absurd (omega (arith, j))) i)
-      (which p e (subst (λ (l : List Found). List·Memᴰ {A = Found} (p, e) l) (sym (out .are)) (Memᴰ·append-left (found ++ out .later) m)))
+      ⊎-elim (λ i. i .1) (λ i. ⊎-elim (λ j. absurd (omega (arith, ten, j))) (λ j. absurd (omega (arith, ten, j))) i)
+      (which p e (subst (λ (l : List Found). List·Memᴰ {A = Found} (p, e) l) (sym (out .are)) (Memᴰ·append-left _ m)))
 
   none-later : (p : ℕ) (e : Event) → List·Memᴰ (p, e) (out .later) → ⊥
   none-later p e m =
       let h = out .begin-later p e m in
-      ⊎-elim (λ i. absurd (omega (arith, i .0))) (λ i. ⊎-elim (λ j. absurd (omega (arith, j))) (λ j. absurd (omega (arith, j))) i)
-      (which p e (subst (λ (l : List Found). List·Memᴰ {A = Found} (p, e) l) (sym (out .are)) (Memᴰ·append-right (out .sooner) (Memᴰ·append-right found m))))
+      ⊎-elim (λ i. absurd (omega (arith, ten, i .0))) (λ i. ⊎-elim (λ j. absurd (omega (arith, ten, j))) (λ j. absurd (omega (arith, ten, j))) i)
+      (which p e (subst (λ (l : List Found). List·Memᴰ {A = Found} (p, e) l) (sym (out .are)) (Memᴰ·append-right (out .sooner) (Memᴰ·append-right (packetsAt n (writeGoal ∷ pingTo1 ∷ [])) m))))
 
   no-packet : (own : ℕ) → NoPacketFor own (out .sooner)
   no-packet own p w m = let e = in-sooner p (packet w) m in let z : _≡_ {A = ℕ} 0 1 = cc in absurd (omega arith)
@@ -128,10 +145,8 @@ module _ (events : List Found) (id : ℕ) (are : events ≡ (0, badChecksum id) 
   none-there : (own : ℕ) → NoPacketFor own (out .later)
   none-there own p w m = absurd (none-later p (packet w) m)
 
-  none-for : (own : ℕ) → ¬ (id ≡ own) → ¬ (id ≡ 254) → NoneFor own (out .sooner)
-  none-for own n k p e m =
-      let i = ap idOfEvent (in-sooner p e m) in
-      (λ z. n (sym i ∙ z), λ z. k (sym i ∙ z))
+  none-for : (own : ℕ) → ¬ (id ≡ own) → NoneFor own (out .sooner)
+  none-for own n p e m = subst (λ (x : Event). NotFor own x) (sym (in-sooner p e m)) n
 
   none-for-later : (own : ℕ) → NoneFor own (out .later)
   none-for-later own p e m = absurd (none-later p e m)
@@ -176,7 +191,7 @@ noisy t =
     let up = n .by-gap (asked .finished) in
     let events = reading protocol2 (badPing ++ (joined (writeGoal ∷ pingTo1 ∷ []) ++ rest)) in
     let e = shown badPing 1 events read up ∙ three-heard in
-    let same = up .same-state (no-packet events 1 read (up .out) _) (none-there events 1 read (up .out) _) in
+    let same = up .same-state (no-packet events 1 read 10 refl (up .out) _) (none-there events 1 read 10 refl (up .out) _) in
     record {
       all-taken = n .all-taken;
       table = ap (λ (x : Shown). x .table) e;
@@ -191,16 +206,17 @@ noisy t =
     two-registered : hearing freshTable longest (packet writeGoal ∷ packet pingTo1 ∷ []) .registered ≡ longest
     two-registered = ap (λ (x : Shown). x .registered) two-heard
 
-for-another : InStep → ForAnother
-for-another t =
-    let up = behind t badPingTo2 asked-of-2 .by-gap (asked-of-2 .finished) in
-    let events = reading protocol2 (badPingTo2 ++ (joined (writeGoal ∷ pingTo1 ∷ []) ++ rest)) in
-    let n = none-for events 2 read-of-2 (up .out) (ownId (begun .table)) (λ z. absurd (omega (arith, z, own-id))) (λ z. absurd (omega (arith, z))) in
-    let m = none-for-later events 2 read-of-2 (up .out) _ in
+for-another : InStep → (noise : List ℕ) (id : ℕ) → ¬ (id ≡ 1) → Asked noise
+    → reading protocol2 (noise ++ (joined (writeGoal ∷ pingTo1 ∷ []) ++ rest)) ≡ (0, badChecksum id) ∷ found → length noise ≡ 10 → ForAnother noise
+for-another t noise id other a are ten =
+    let up = behind t noise a .by-gap (a .finished) in
+    let events = reading protocol2 (noise ++ (joined (writeGoal ∷ pingTo1 ∷ []) ++ rest)) in
+    let n = none-for events id are (length noise) ten (up .out) (ownId (begun .table)) (λ z. other (z ∙ own-id)) in
+    let m = none-for-later events id are (length noise) ten (up .out) _ in
     record {
       only-packets = up .only-packets n m
           ∙ ap₂ (λ (t : List ℕ) (w : RegisteredWrite). hearing t w (packet writeGoal ∷ packet pingTo1 ∷ [])) (same-start .0) (same-start .1);
-      alike = t .alike begun fresh (since (chunks badPingTo2) 1) events badPingTo2 (writeGoal ∷ pingTo1 ∷ []) good up n m
+      alike = t .alike begun fresh (since (chunks noise) 1) events noise (writeGoal ∷ pingTo1 ∷ []) good up n m
           fresh-board earlier at-start (writeGoal ∷ pingTo1 ∷ []) 1 clean-taken clean-finished refl refl;
     }
 
@@ -290,10 +306,10 @@ renamed t =
     let events = reading protocol2 ((longFront ++ pingTo2) ++ (joined (writeId ∷ pingTo9 ∷ []) ++ pingTo1)) in
     let sooner : NoneFor (ownId freshTable) (up .out .sooner) = λ p e m.
     let i = sooner-to-2 events pieces-read (up .out) p e m in
-    (λ z. absurd (omega (arith, i, z, ids .0)), λ z. absurd (omega (arith, i, z))) in
+    not-for _ e (λ z. absurd (omega (arith, i, z, ids .0))) (λ z. absurd (omega (arith, i, z))) in
     let later : NoneFor (ownId (hearing freshTable longest (packet writeId ∷ packet pingTo9 ∷ []) .table)) (up .out .later) = λ p e m.
     let i = later-to-1 events pieces-read (up .out) p e m in
-    (λ z. absurd (omega (arith, i, z, new-id)), λ z. absurd (omega (arith, i, z))) in
+    not-for _ e (λ z. absurd (omega (arith, i, z, new-id))) (λ z. absurd (omega (arith, i, z))) in
     let only = up .only-packets sooner later in
     record {
       only-packets = only;
@@ -321,16 +337,25 @@ apart-long = refl
 across-long : NoneAcross protocol2 longFront (joined (pingTo1 ∷ []) ++ replicate 1020 0)
 across-long = across-decided protocol2 laws longFront (joined (pingTo1 ∷ []) ++ replicate 1020 0) .0 apart-long
 
+ninth-board : boards .Fresh ninth
+unfolding lentRefusal stateRefusal registers freshened put bytesOf
+ninth-board = (refl, refl)
+
+ninth-behind : InStep → NotBehind ninth (followed longFront pingTo1 1030) 0 longFront (pingTo1 ∷ []) (replicate 1020 0)
+unfolding after
+ninth-behind t =
+    t .in-step ninth ninth-board [] (inl refl) (followed longFront pingTo1 1030) 0 longFront (pingTo1 ∷ []) (replicate 1020 0) longer ping-good across-long
+
 long-behind : InStep → NotBehind begun (followed longFront pingTo1 1030) 0 longFront (pingTo1 ∷ []) (replicate 1020 0)
 long-behind t =
     t .in-step fresh fresh-board earlier at-start (followed longFront pingTo1 1030) 0 longFront (pingTo1 ∷ []) (replicate 1020 0) longer ping-good across-long
 
 by-feed : InStep → ByFeed
 by-feed t =
-    let up = long-behind t .by-feed refl (replicate 6 0) silent-feed (leb-true _ _ refl) in
+    let up = ninth-behind t .by-feed refl (replicate 6 0) silent-feed (leb-true _ _ refl) in
     let sooner = map what (up .out .sooner) in
     let later = map what (up .out .later) in
-    (sooner, later, up .carried-out ∙ ap₂ (λ (t : List ℕ) (w : RegisteredWrite). hearing t w (sooner ++ (packet pingTo1 ∷ later))) (same-start .0) (same-start .1))
+    (sooner, later, up .carried-out)
 
 -- ---- demand 3 of the board itself
 
@@ -391,15 +416,16 @@ pub in-step-applied : InStepApplied
 in-step-applied t =
     record {
       noisy = noisy t;
-      for-another = for-another t;
+      for-another = for-another t badPingTo2 2 (λ z. absurd (omega (arith, z))) asked-of-2 read-of-2 refl;
+      for-all = for-another t badPingToAll 254 (λ z. absurd (omega (arith, z))) asked-of-all read-of-all refl;
       renamed = renamed t;
       by-feed = by-feed t;
       as-reader = as-reader t;
       each-once = t .each-once fresh (fresh-board .1) (feed (take 7 pingTo1) ∷ gap ∷ []) ∙ ap (λ (l : List Event). hearing freshTable longest l) nothing-given;
       each-once-held = t .each-once (holding 0xAA) (holding-board 0xAA) (feed (drop 7 pingTo1) ∷ gap ∷ feed writeGoal ∷ [])
           ∙ ap (λ (l : List Event). hearing freshTable longest l) held-given;
-      never-refused-mixed = t .never-refused filled filled-board (gap ∷ feed writeId ∷ gap ∷ feed pingTo9 ∷ []);
-      never-refused = t .never-refused fresh fresh-board (since (chunks badPing) 1);
+      never-refused-held = t .never-refused (holding 0xAA) (holding-board 0xAA) (gap ∷ feed writeId ∷ gap ∷ feed pingTo9 ∷ []);
+      never-refused = t .never-refused fresh (fresh-board .1) (since (chunks badPing) 1);
       stays-clean = t .stays-clean fresh refl earlier;
       stays-clean-held = t .stays-clean (holding 0) refl (feed (drop 7 pingTo1) ∷ feed rest ∷ []);
       as-a-reader-held = t .as-a-reader (holding 0) refl (holding-board 0) gap;

@@ -23,13 +23,16 @@ use Rattle.board_in_step.specs.InStep.{boards, repliesOf, hearing, shownAfter, 
 use Rattle.board_in_step.specs.Measured.{LoopStep, line, measured as LoopStep·measured, hears, measures, eventsIn, boardAfter, repliesIn, jobsOf, InStepMeasured}
 use Rattle.reader_applications.specs.Demand3.{earlier, badPing, pingTo1, longFront, cut, followed}
 
--- Write of 512 at 116, and a Ping to 2 with a wrong checksum
+-- Write of 512 at 116, and Pings to 2 and to all with a wrong checksum
 abbrev pub writeGoal : List ℕ
 writeGoal =
     0xFF ∷ 0xFF ∷ 0xFD ∷ 0x00 ∷ 0x01 ∷ 0x09 ∷ 0x00 ∷ 0x03 ∷ 0x74 ∷ 0x00 ∷ 0x00 ∷ 0x02 ∷ 0x00 ∷ 0x00 ∷ 0xCA ∷ 0x89 ∷ []
 
 abbrev pub badPingTo2 : List ℕ
 badPingTo2 = 0xFF ∷ 0xFF ∷ 0xFD ∷ 0x00 ∷ 0x02 ∷ 0x03 ∷ 0x00 ∷ 0x01 ∷ 0x19 ∷ 0x4F ∷ []
+
+abbrev pub badPingToAll : List ℕ
+badPingToAll = 0xFF ∷ 0xFF ∷ 0xFD ∷ 0x00 ∷ 0xFE ∷ 0x03 ∷ 0x00 ∷ 0x01 ∷ 0x31 ∷ 0x43 ∷ []
 
 abbrev pub rest : List ℕ
 rest = 0xFF ∷ 0xFF ∷ 0xFD ∷ []
@@ -72,16 +75,23 @@ pub record Noisy : Type 0 where
   pub same-table : shownAfter begun (since (chunks badPing) 1) .table ≡ hearing freshTable longest (packet writeGoal ∷ packet pingTo1 ∷ []) .table
   pub same-registered : shownAfter begun (since (chunks badPing) 1) .registered ≡ longest
 
--- with one to another: only the packets are answered, and a board on a clean line ends alike
-pub record ForAnother : Type 0 where
-  pub only-packets : shownAfter begun (since (chunks badPingTo2) 1) ≡ hearing freshTable longest (packet writeGoal ∷ packet pingTo1 ∷ [])
-  pub alike : shownAfter begun (since (chunks badPingTo2) 1) ≡ shownAfter begun (since (writeGoal ∷ pingTo1 ∷ []) 1)
+-- with one to another or to all: only the packets are answered, and a board on a clean line ends alike
+pub record ForAnother (noise : List ℕ) : Type 0 where
+  pub only-packets : shownAfter begun (since (chunks noise) 1) ≡ hearing freshTable longest (packet writeGoal ∷ packet pingTo1 ∷ [])
+  pub alike : shownAfter begun (since (chunks noise) 1) ≡ shownAfter begun (since (writeGoal ∷ pingTo1 ∷ []) 1)
+
+-- device 9 with a registered write of four bytes
+abbrev pub few : RegisteredWrite
+few = record { address = 116; count = 4; bytes = 5 ∷ replicate 7 0; min = pos 0; max = pos 4095 }
+
+abbrev pub ninth : Board
+ninth = boardOf (lent (replicate 1030 0xAA) 0) (put freshTable deviceId 9) few
 
 -- without a gap, once 1,030 bytes have followed a front that promises the longest packet
 abbrev pub ByFeed : Type 0
 ByFeed =
     (sooner : List Event) × (later : List Event)
-    × (shownAfter begun (since (followed longFront pingTo1 1030) 0) ≡ hearing freshTable longest (sooner ++ (packet pingTo1 ∷ later)))
+    × (shownAfter ninth (since (followed longFront pingTo1 1030) 0) ≡ hearing (put freshTable deviceId 9) few (sooner ++ (packet pingTo1 ∷ later)))
 
 -- ---- another ID, behind noise that holds a packet to another device; only the gap calls give events
 
@@ -133,7 +143,8 @@ pub record AsReader : Type 0 where
 
 pub record Lives : Type 0 where
   pub noisy : Noisy
-  pub for-another : ForAnother
+  pub for-another : ForAnother badPingTo2
+  pub for-all : ForAnother badPingToAll
   pub renamed : Renamed
   pub by-feed : ByFeed
   pub as-reader : AsReader
@@ -142,7 +153,7 @@ pub record Lives : Type 0 where
   -- feeding calls behind a gap, on a board that holds bytes
   pub each-once-held : shownAfter (holding 0xAA) (feed (drop 7 pingTo1) ∷ gap ∷ feed writeGoal ∷ [])
       ≡ hearing freshTable longest (packet pingTo1 ∷ packet writeGoal ∷ [])
-  pub never-refused-mixed : boardRefusal (after boards filled (gap ∷ feed writeId ∷ gap ∷ feed pingTo9 ∷ [])) ≡ none
+  pub never-refused-held : boardRefusal (after boards (holding 0xAA) (gap ∷ feed writeId ∷ gap ∷ feed pingTo9 ∷ [])) ≡ none
   pub never-refused : boardRefusal (after boards fresh (since (chunks badPing) 1)) ≡ none
   -- where 0 followed the held bytes it does afterwards, and the reader is left as by its own calls
   pub stays-clean : drop (begun .reader .count) (begun .reader .bytes) ≡ replicate (1030 - begun .reader .count) 0

@@ -1,8 +1,11 @@
 -- What calls on a board come to is what their events come to, one after the other; events for another device come to nothing.
 use mathlib.Core.Path.{_≡_, refl, sym, ap, ap₂, subst, _∙_}
+use mathlib.Core.Bool.{Bool, true, false, cond}
 use mathlib.Core.List.{List, [], _∷_, _++_, map, append-nil, List·Memᴰ, List·Memᴰ·head, List·Memᴰ·tail}
 use mathlib.Core.Option.{Option, none, some}
 use Prim.Native.Nat.{ℕ}
+use lib.Dec.{eqb}
+use borrow.Author.Tests.{ne-eqb}
 use Rattle.stuffing.specs.Stuffing.{unstuff}
 use Rattle.reading.specs.Reading.{Event, packet, badChecksum, Found}
 use Rattle.reading.specs.Calls.{Call, call}
@@ -14,13 +17,13 @@ use Rattle.packet.specs.Verdict.{protocol2}
 use Rattle.reader_records.specs.Records.{heldIn}
 use Rattle.device_instructions.specs.declared.RegisteredWrite.{RegisteredWrite}
 use Rattle.device_dispatch.specs.declared.Heard.the-variants.{Packet, BadChecksum}
-use Rattle.device_dispatch.specs.Reactions.{ownId, Reaction}
+use Rattle.device_dispatch.specs.Reactions.{ownId, Reaction, reacting, unchanged, reaction, silent}
 use Rattle.device_status.specs.declared.Reply.{Reply}
 use Rattle.device_status.specs.Status.{silence}
-use Rattle.device.specs.Device.{Carried, carryOut}
+use Rattle.device.specs.Device.{Carried, carried, executed, carryOut}
 use Rattle.device.proofs.Replies.{to-another, to-whomever}
 use Rattle.board.specs.Board.{Board, Outcome, carriedOut, carriedIfAny, boardRefusal, outcomeUnless, outcome}
-use Rattle.board_in_step.specs.InStep.{Shown, spoken, hearing, boards, repliesOf, shownAfter, idOfEvent, NoneFor, NoPacketFor, SameState}
+use Rattle.board_in_step.specs.InStep.{Shown, spoken, hearing, boards, repliesOf, shownAfter, NotFor, NoneFor, NoPacketFor, SameState}
 use Rattle.board_in_step.proofs.OneCall.{outcome-is, next-accepted}
 
 -- ---- calls and their events
@@ -47,19 +50,36 @@ each-once (c ∷ cs) b e =
 
 -- ---- events for another device
 
-not-heard : (table : List ℕ) (w : RegisteredWrite) (e : Event) → ¬ (idOfEvent e ≡ ownId table) → ¬ (idOfEvent e ≡ 254)
-    → _≡_ {A = Carried} (record { table = table; registered = w; reply = silence; error = 0 }) (carriedOut table w e)
-not-heard table w (packet bytes) n m = to-another table w Packet (idOf bytes) (unstuff (bodyOf bytes)) n m
-not-heard table w (badChecksum id) n m = to-another table w BadChecksum id [] n m
+-- nothing comes of it but perhaps an error number, which is not told
+pub record Nothing (table : List ℕ) (w : RegisteredWrite) (done : Carried) : Type 0 where
+  pub table′ : table ≡ done .table
+  pub registered′ : w ≡ done .registered
+  pub reply′ : silence ≡ done .reply
+
+-- a bad checksum is answered to the own ID alone
+bad-unanswered : (table : List ℕ) (w : RegisteredWrite) (id : ℕ) → ¬ (id ≡ ownId table) → Nothing table w (carryOut table w BadChecksum id [])
+unfolding executed
+bad-unanswered table w id n = by (eqb id 254) (ne-eqb id (ownId table) n)
+  where
+    by : (all : Bool) → eqb id (ownId table) ≡ false
+        → Nothing table w (carried table (cond (eqb id (ownId table)) (reaction BadChecksum false table w [])
+        (cond all (reaction BadChecksum true table w []) (reacting (unchanged table w) silent))))
+    by true e = rw e (record { table′ = refl; registered′ = refl; reply′ = refl })
+    by false e = rw e (record { table′ = refl; registered′ = refl; reply′ = refl })
+
+not-heard : (table : List ℕ) (w : RegisteredWrite) (e : Event) → NotFor (ownId table) e → Nothing table w (carriedOut table w e)
+not-heard table w (packet bytes) n =
+    let c = to-another table w Packet (idOf bytes) (unstuff (bodyOf bytes)) (n .0) (n .1) in
+    record { table′ = ap (λ (x : Carried). x .table) c; registered′ = ap (λ (x : Carried). x .registered) c; reply′ = ap (λ (x : Carried). x .reply) c }
+not-heard table w (badChecksum id) n = bad-unanswered table w id n
 
 pub none-heard : (table : List ℕ) (w : RegisteredWrite) (found : List Found) (es : List Event) → NoneFor (ownId table) found
     → hearing table w (map what found ++ es) ≡ hearing table w es
 unfolding hearing
 none-heard table w [] es other = refl
 none-heard table w (f ∷ found) es other =
-    let n = other (f .0) (f .1) (List·Memᴰ·head refl) in
-    ap (λ (done : Carried). owing (spoken (done .reply)) (hearing (done .table) (done .registered) (map what found ++ es)))
-    (sym (not-heard table w (f .1) (n .0) (n .1)))
+    let n = not-heard table w (f .1) (other (f .0) (f .1) (List·Memᴰ·head refl)) in
+    (λ i. owing (spoken (sym (n .reply′) i)) (hearing (sym (n .table′) i) (sym (n .registered′) i) (map what found ++ es)))
     ∙ none-heard table w found es (λ p e m. other p e (List·Memᴰ·tail m))
 
 pub none-after : (table : List ℕ) (w : RegisteredWrite) (es : List Event) (found : List Found) → NoneFor (ownId (hearing table w es .table)) found

@@ -108,9 +108,8 @@ in-step =
           ∙ ap₂ (λ (t : List ℕ) (w : RegisteredWrite). hearing t w (map packet packets)) same-table same-registered
           ∙ ap (λ (l : List Event). hearing (after boards clean earlier .table) (after boards clean earlier .registered) l) (sym (line .1))
           ∙ sym (each-once (since chunks g) (after boards clean earlier) (k .0));
-      never-refused = λ b is-fresh cs.
-          let s = follows .fresh b is-fresh in
-          follows-after protocol2 boards (λ b. boardRefusal b ≡ none) (λ b. heldIn (b .reader)) follows b [] cs (s .0) (s .1) .0;
+      never-refused = λ b legal cs.
+          follows-after protocol2 boards (λ b. boardRefusal b ≡ none) (λ b. heldIn (b .reader)) follows b (heldIn (b .reader)) cs legal refl .0;
       stays-clean = λ b clean cs. stays-clean cs b clean;
       as-a-reader = as-a-reader;
     }

@@ -62,13 +62,14 @@ shownAfter b cs =
 
 -- ---- the claim
 
--- an event is for the device with this ID: it is sent to it, or to all
-abbrev pub idOfEvent : Event → ℕ
-idOfEvent (packet bytes) = idOf bytes
-idOfEvent (badChecksum id) = id
+-- an event is not for the device with this ID: a packet is sent neither to it nor to all, and a bad checksum has another ID, which may
+-- be that of all
+abbrev pub NotFor : ℕ → Event → Type 0
+NotFor own (packet bytes) = ¬ (idOf bytes ≡ own) × ¬ (idOf bytes ≡ 254)
+NotFor own (badChecksum id) = ¬ (id ≡ own)
 
 abbrev pub NoneFor : ℕ → List Found → Type 0
-NoneFor own found = (p : ℕ) (e : Event) → List·Memᴰ (p, e) found → ¬ (idOfEvent e ≡ own) × ¬ (idOfEvent e ≡ 254)
+NoneFor own found = (p : ℕ) (e : Event) → List·Memᴰ (p, e) found → NotFor own e
 
 -- of the packets alone
 abbrev pub NoPacketFor : ℕ → List Found → Type 0
@@ -134,7 +135,7 @@ pub record InStep : Type 0 where
       → boards .Fresh clean → (earlier : List Call) → AtStart (model protocol2) [] earlier → (chunks : List (List ℕ)) (g : ℕ) → took (model protocol2) [] (since chunks g) ≡ joined packets
       → Finished (model protocol2) [] chunks g → b .table ≡ after boards clean earlier .table → b .registered ≡ after boards clean earlier .registered → shownAfter b cs ≡ shownAfter (after boards clean earlier) (since chunks g)
   -- no call is refused, whatever came before
-  pub never-refused : (b : Board) → boards .Fresh b → (cs : List Call) → boardRefusal (after boards b cs) ≡ none
+  pub never-refused : (b : Board) → boardRefusal b ≡ none → (cs : List Call) → boardRefusal (after boards b cs) ≡ none
   -- 0 follows the held bytes after any calls if it did before; each call then leaves the reader as the reader's own calls do [B8]
   pub stays-clean : (b : Board) → Clean b → (cs : List Call) → Clean (after boards b cs)
   pub as-a-reader : (b : Board) → Clean b → boardRefusal b ≡ none → (c : Call) → outcome b c .board .reader ≡ leftBy (b .reader) c

@@ -118,6 +118,20 @@ fn dispatch(
     execute(table, registered, heard, !own, body)
 }
 
+// The same on a table that has its size by its type, for a caller that has tested what the first call tests.
+pub fn carry_out_tested(
+    table: &mut [u8; 136],
+    registered: RegisteredWrite,
+    heard: Heard,
+    id: u8,
+    body: &[u8],
+) -> CarriedOut
+    ensures { λ r. ⌜ r ≡ carriedOf (carryOut (now (table .entry)) registered heard id (now (body .entry))) ⌝ }
+    ensures { λ _. ⌜ now (table .exit) ≡ carryOut (now (table .entry)) registered heard id (now (body .entry)) .table ⌝ }
+{
+    dispatch(table, registered, heard, id, body)
+}
+
 pub struct Response {
     pub replied: Replied,
     pub registered: RegisteredWrite,

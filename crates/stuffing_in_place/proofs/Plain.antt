@@ -1,5 +1,6 @@
--- Up to two bytes before the first FD nothing is left out, and what follows is as if it stood alone.
-use mathlib.Core.Path.{_≡_, refl, sym, ap, _∙_}
+-- Up to two bytes before the first FD nothing is left out, and what follows is as if it stood alone; and where there is no FD nothing is
+-- left out at all.
+use mathlib.Core.Path.{_≡_, refl, sym, ap, subst, _∙_}
 use mathlib.Core.Bool.{Bool, true, false, and-false}
 use mathlib.Core.List.{List, [], _∷_, _++_}
 use Prim.Native.Nat.{ℕ, zero, suc, _+_, _-_, _≤_, _<_}
@@ -40,6 +41,20 @@ plain-from (suc n) a b c (d ∷ s) nc none l =
 
 pub plain : (s : List ℕ) (n : ℕ) → NoFd s (n + 2) → n + 2 ≤ length s → Plain s n
 plain s n none l = (omega arith, plain-from n 0 0 0 s (λ z. absurd (omega (arith, z))) none l)
+
+whole-from : (a b c : ℕ) (s : List ℕ) → ¬ (c ≡ 0xFD) → NoFd s (length s) → unstuffAfter a b c s ≡ take (length s) s ++ unstuff (drop (length s) s)
+unfolding unstuffAfter
+whole-from a b c [] nc none = refl
+whole-from a b c (d ∷ s) nc none =
+    first-kept a b c d s nc
+    ∙ ap (λ (t : List ℕ). d ∷ t) (whole-from b c d s (none 0 (omega arith)) (λ k h. none (suc k) (omega arith)))
+
+pub plain-whole : (s : List ℕ) (n : ℕ) → n ≡ length s → NoFd s n → Plain s n
+plain-whole s n e none = (
+  omega arith,
+  subst (λ (m : ℕ). unstuff s ≡ take m s ++ unstuff (drop m s)) (sym e)
+      (whole-from 0 0 0 s (λ z. absurd (omega (arith, z))) (λ k h. none k (omega arith))),
+)
 
 pub plain-0 : (s : List ℕ) → Plain s 0
 plain-0 s = (omega arith, refl)

@@ -33,11 +33,15 @@ fn before_fd(body: &[u8]) -> usize
     n
 }
 
-// Where to begin with no byte before: two bytes before the first FD, since nothing is left out up to there.
+// Where to begin with no byte before: two bytes before the first FD, since nothing is left out up to there, or at the end where there
+// is none.
 fn first_read(body: &[u8]) -> usize
     ensures { λ r. ⌜ Plain (now (body .entry)) r ⌝ }
 {
     let plain = before_fd(body);
+    if plain == body.len() {
+        return plain;
+    }
     if plain < 2 {
         return 0;
     }

@@ -30,6 +30,8 @@ CXX := g++
 WARNINGS := -std=c99 -Wall -Wextra -Wpedantic -Werror
 CXX_WARNINGS := -std=c++11 -Wall -Wextra -Wpedantic -Werror
 
+include tools/targets/targets.mk
+
 # $(call need,TOOL): one clear line where a tool is missing.
 need = command -v $(1) >/dev/null 2>&1 || { echo "mednukals: $(1) is needed and is not on the PATH" >&2; exit 1; }
 # COMMAND || $(call failed,WHAT)

@@ -1,0 +1,25 @@
+# The library for other processors, TARGET=NAME; the Makefile includes this.
+TARGETS := thumbv6m thumbv7em rv32imac i686
+BARE_TARGETS := thumbv6m thumbv7em
+TARGET_TOOLS := $(addprefix tools/targets/,archive.py layer.py record.py retarget.py PROVED.txt)
+TARGET_LIB := build/lib/$(TARGET)/libmednukals$(LEAF:%=_%).a
+$(if $(filter-out $(TARGETS),$(TARGET)),$(error mednukals: TARGET=$(TARGET): only $(TARGETS:%=TARGET=%) are known))
+$(if $(TARGET),$(if $(filter-out lib install demo memory,$(MAKECMDGOALS)),$(error mednukals: TARGET is for make lib$(comma) make install$(comma) make demo and make memory)))
+
+# What the kit's compiler is handed for x86-64. Over the other checksum functions it comes with their archives.
+FIRMWARE_CRATES := $(filter-out capi_test,$(EXPORT_CRATES))
+modules = $(FIRMWARE_CRATES:%=build/$(1)/%.bc)
+$(call modules,table) &: $(SOURCES) KIT tools/targets/record.py
+	@$(call need,rt)
+	@$(call need,python3)
+	@$(call step,modules,proving the exports$(comma) and keeping what their compiler is handed) \
+	    python3 tools/targets/record.py build/table $(FIRMWARE_CRATES)
+
+# $(call target_rules,LEAF,LIBRARY)
+define target_rules
+$(if $(filter-out table,$(1)),$(call modules,$(1)): build/lib/libmednukals_$(1).a ;)
+$(TARGETS:%=build/lib/%/$(2)): build/lib/%/$(2): $(call modules,$(1)) include/mednukals.h $(TARGET_TOOLS)
+	@python3 tools/targets/archive.py $$* $$@ $(call modules,$(1))
+endef
+$(eval $(call target_rules,table,libmednukals.a))
+$(foreach leaf,$(LEAVES),$(eval $(call target_rules,$(leaf),libmednukals_$(leaf).a)))

@@ -5,7 +5,7 @@ SHELL := /bin/sh
 .DELETE_ON_ERROR:
 # rt works in one target/ folder, so two of its runs must never overlap.
 .NOTPARALLEL:
-.PHONY: help run checksum segment old_boards demo lib dxl install test fuzz replay bench counts memory mutants promises fmt clean kit format promises_test constants_test vectors_test c_test header_test demo_test programs_test cli_test install_test docs_test make_test counts_test rust_test leaf_test
+.PHONY: help run checksum segment old_boards demo lib dxl install test fuzz replay bench counts memory mutants promises fmt clean kit format promises_test constants_test vectors_test c_test header_test demo_test programs_test cli_test install_test docs_test make_test counts_test rust_test leaf_test targets_test
 .PHONY: fuzz_program replay_file
 
 comma := ,
@@ -19,9 +19,9 @@ LIBS := build/lib/libmednukals.a build/lib/libmednukals_test.a
 LEAVES := small fold
 leaf_libs = build/lib/libmednukals_$(1).a build/$(1)/libmednukals_test.a
 LEAF_LIBS := $(LEAVES:%=build/lib/libmednukals_%.a)
-MADE_LIBS := $(if $(LEAF),$(call leaf_libs,$(LEAF)),$(LIBS))
+MADE_LIBS = $(if $(TARGET),$(TARGET_LIB),$(if $(LEAF),$(call leaf_libs,$(LEAF)),$(LIBS)))
 $(if $(filter-out $(LEAVES),$(LEAF)),$(error mednukals: LEAF=$(LEAF): only $(LEAVES:%=LEAF=%) are known))
-$(if $(LEAF),$(if $(filter-out lib bench counts memory,$(MAKECMDGOALS)),$(error mednukals: LEAF is for make lib$(comma) make bench$(comma) make counts and make memory)))
+$(if $(LEAF),$(if $(filter-out lib install $(if $(TARGET),demo,bench counts) memory,$(MAKECMDGOALS)),$(error mednukals: LEAF is for make lib$(comma) make install$(comma) make bench$(comma) make counts and make memory)))
 # Folders stand in the list too, so that a file added or removed counts as a change.
 SOURCES := crates.txt $(shell find crates -path '*/must-fail' -prune -o -print)
 
@@ -52,16 +52,20 @@ use it
   make checksum            print the checksum and byte count of a file, likewise
       CAPTURE=FILE         a file of your own; - is standard input
   make demo                run a device in C on a pseudo-terminal, talk to it and show the exchanges
+      TARGET=NAME          on an emulated Cortex-M0, thumbv6m, or Cortex-M4, thumbv7em; over the serial port
   make lib                 prove the exports and build the archives that C links, under build/lib
       LEAF=small           over the small checksum function, for boards with little flash
       LEAF=fold            over the one without a table, the fastest
+      TARGET=NAME          for another processor, thumbv6m, thumbv7em, rv32imac or i686, under build/lib/NAME
   make dxl                 build the tool dxl, for line logs and plans of goals on a bench computer: build/c/dxl
   make install             put header, archive, dxl and a pkg-config file below /usr/local
       PREFIX=DIR           below that folder
       DESTDIR=DIR          staged below that one, for a package
+      LEAF=NAME            header, archive and pkg-config file over the checksum function small or fold
+      TARGET=NAME          the same for another processor, with the text that says what of it is proved
 
 prove and test it
-  make test                the gate: every proof from nothing, every must-fail edit, and all that follows down to leaf_test
+  make test                the gate: every proof from nothing, every must-fail edit, and all that follows down to targets_test
   make kit                 the tools that are needed, and the kit's version
   make format              the layout of the Rattle files
   make promises_test       docs/PROMISES.md and docs/BELIEVE.md beside the tree
@@ -78,7 +82,8 @@ prove and test it
   make counts_test         the instructions that each export takes beside tests/instructions.txt
   make rust_test           every export beside the second implementation
   make leaf_test           the exports over the other checksum functions: no large table, and the same beside it
-  make fuzz                the same on random cases, for ten minutes
+  make targets_test        the library on four other processors, emulated: the same as for x86-64, byte for byte
+  make fuzz                the second implementation on random cases, for ten minutes
       SECONDS=N            for so long
       SEED=S               the cases of an earlier run
   make replay FILE=FILE    run a case again in which make fuzz has found a difference
@@ -96,6 +101,7 @@ measure it
       PLAIN=1              of the plain C that the benchmark has beside them: printed likewise
   make memory              records, answers, stack depths and the archive's size
       LEAF=NAME            likewise
+      TARGET=NAME          of a board with thumbv6m or thumbv7em: text, stack and instructions, beside plain C
 
 keep it tidy
   make promises            write docs/PROMISES.md from the comments in the tree, and say what a rule lacks
@@ -149,8 +155,8 @@ $(foreach leaf,$(LEAVES),$(eval $(call leaf_rule,$(leaf))))
 install: export MEDNUKALS_PREFIX := $(if $(value PREFIX),$(value PREFIX),/usr/local)
 install: export MEDNUKALS_DESTDIR := $(value DESTDIR)
 unexport PREFIX DESTDIR
-install: build/lib/libmednukals.a build/c/dxl
-	@sh tools/install.sh include/mednukals.h $^ "$$MEDNUKALS_PREFIX" "$$MEDNUKALS_DESTDIR"
+install: $(if $(TARGET)$(LEAF),$(firstword $(MADE_LIBS)),build/lib/libmednukals.a build/c/dxl)
+	@sh tools/install.sh include/mednukals.h "$$MEDNUKALS_PREFIX" "$$MEDNUKALS_DESTDIR" '$(TARGET)' $^
 
 dxl: build/c/dxl
 	@echo 'the tool: $<'
@@ -249,8 +255,8 @@ build/c/uart_test: tests/c/uart_test.c tests/c/refusing.c examples/uart_board.c 
 	@$(CC) $(WARNINGS) -O2 -Iinclude -Iexamples -o $@ $(REFUSING:%=-Wl$(comma)--wrap=dxl_%) $(filter %.c %.a,$^) \
 	    || $(call failed,compiling the example board with a UART)
 
-demo: build/c/board build/c/uart_pty
-	@sh examples/demo.sh build/c/board || $(call failed,the demo)
+demo: $(if $(TARGET),$(BARE_BOARD),build/c/board build/c/uart_pty)
+	@$(if $(TARGET),sh examples/bare/demo.sh $(MACHINE) $<,sh examples/demo.sh build/c/board) || $(call failed,the demo)
 
 demo_test: build/c/board build/c/refusing_board build/c/uart_pty
 	@$(call need,python3)
@@ -293,7 +299,7 @@ docs_test: build/lib/libmednukals.a
 	@$(call need,python3)
 	@$(call step,docs_test,documents: links$(comma) commands and code) python3 tests/docs_test.py $(CC) $<
 
-install_test: build/lib/libmednukals.a build/c/dxl
+install_test: build/lib/libmednukals.a build/c/dxl build/lib/libmednukals_fold.a build/lib/thumbv6m/libmednukals_fold.a
 	@$(call need,python3)
 	@$(call step,install_test,make install$(comma) a program with what is there$(comma) the version) python3 tests/install_test.py $(CC) $^
 
@@ -409,10 +415,10 @@ counts: $(if $(PLAIN),build/c/counts_plain,$(COUNTS))
 	@python3 tests/counts_test.py $(if $(PLAIN)$(LEAF),--print,--write) $< $(if $(PLAIN),$(PLAIN_OBJECTS)) $(COUNTED) \
 	    || $(call failed,the counts)
 
-memory: build/c/memory$(OVER) build/c/stack$(OVER)
-	@$(call need,size)
-	@build/c/memory$(OVER) && build/c/stack$(OVER) || $(call failed,the memory figures)
-	@echo 'the archive that firmware links, in bytes' && size -t $(firstword $(MADE_LIBS))
+memory: $(if $(TARGET),$(TARGET_LIB),build/c/memory$(OVER) build/c/stack$(OVER))
+	@$(call need,$(if $(TARGET),arm-none-eabi-,)size)
+	@$(if $(TARGET),python3 tools/targets/measure.py $(TARGET) $<,build/c/memory$(OVER) && build/c/stack$(OVER)) || $(call failed,the memory figures)
+	@echo 'the archive that firmware links, in bytes' && $(if $(TARGET),arm-none-eabi-)size -t $(firstword $(MADE_LIBS))
 
 build/c/memory$(OVER) build/c/stack$(OVER): build/c/%$(OVER): tests/bench/%.c include/mednukals.h $(firstword $(MADE_LIBS))
 	@$(call need,$(CC))

@@ -12,6 +12,9 @@ from pathlib import Path
 import suite
 from counts_test import HEAD
 
+sys.path.append("tools/targets")
+from record import COMPILER
+
 ROOT = Path.cwd()
 INSIDE = {"help", "fuzz_program", "replay_file"}  # targets that nobody asks for
 COLUMN = 27  # where the descriptions begin
@@ -38,6 +41,10 @@ proofs, edits and tests, together
 6 passed, 0 failed
 """
 BESIDE = "build/lib/libmednukals.a\nbuild/lib/libmednukals_test.a\nall tests\n"
+
+STATICLIB = f"""mkdir -p target/staticlib && : >$2.o && ar qc target/staticlib/lib$2.a $2.o
+echo the module of $2 >module.bc && [ "$("$RATTLE_HOME/{COMPILER}" -x ir module.bc)" = compiled ]
+"""
 
 VALGRIND = """for word; do
     case $word in --callgrind-out-file=*) out=${word#*=};; esac
@@ -115,24 +122,26 @@ class Gate(unittest.TestCase):
     """gate.py with stand-ins for rt and make, in a folder of its own."""
 
     def gate(self, text, status=0, make="[ -e build/c ] || echo all tests",
-             rt="mkdir -p target/staticlib && : >$2.o && ar qc target/staticlib/lib$2.a $2.o"):
+             rt=STATICLIB):
         with tempfile.TemporaryDirectory() as folder:
             made = [f"target/{part}" for part in ("rlib", "obj", "bin", "log", "stamp")]
-            for part in ["crates", "bin", "build/c/of_an_earlier_run", *made]:
+            for part in ["crates", "bin", "build/c/of_an_earlier_run", COMPILER.parent, *made]:
                 Path(folder, part).mkdir(parents=True)
             for file in ["target/bin/line", "target/bin/checksum"]:
                 Path(folder, file).touch()
             Path(folder, "crates.txt").write_text("capi: lists\ncapi_other: lists\ncapi_test: lists\n", encoding="utf-8")
             Path(folder, "said").write_text(text, encoding="utf-8")
-            for name, does in {"rt": rt, "make": make, "ci": f"cat said; sleep 0.2; exit {status}"}.items():
-                path = Path(folder, "bin", name)
+            tools = {"bin/rt": rt, "bin/make": make, "bin/ci": f"cat said; sleep 0.2; exit {status}", COMPILER: "echo compiled"}
+            for name, does in tools.items():
+                path = Path(folder, name)
                 path.write_text(f"#!/bin/sh\n{does}\n", encoding="utf-8")
                 path.chmod(0o755)
-            places = {**os.environ, "PATH": f"{folder}/bin:{os.environ['PATH']}"}
+            places = {**os.environ, "PATH": f"{folder}/bin:{os.environ['PATH']}", "RATTLE_HOME": folder}
             code, output, errors = run(sys.executable, str(ROOT / "tests/gate.py"), "ci", cwd=folder, env=places)
             self.assertEqual(Path(folder, "build/log/rt-ci.log").read_text(encoding="utf-8"), text)
             if code == 0:
                 self.assertEqual(run("ar", "t", f"{folder}/build/lib/libmednukals.a")[1], "capi.o\ncapi_other.o\n")
+                self.assertEqual(Path(folder, "build/table/capi.bc").read_text(encoding="utf-8"), "the module of capi\n")
             return code, untimed(output), errors
 
     def test_good(self):

@@ -3,7 +3,7 @@
  * interrupt handler writes into the ring here; store and arm are simulated. examples/talk.py talks to it over the serial port.
  */
 #include "port.h"
-#include "uart_board.h"
+#include "../uart_board.h"
 
 #include "string.h"
 

@@ -72,6 +72,14 @@ static void reply_of(const struct dxl_reply *it)
     mix(it->speaks), mix(it->id), mix(it->error), mix(it->count), bytes(it->bytes, sizeof it->bytes), size(it->slot);
 }
 
+/* A buffer's size: enough, just enough for `needed` bytes, one byte too few, or any. */
+static size_t room_for(int64_t needed, size_t enough)
+{
+    uint32_t how = below(8), any = below((uint32_t)enough);
+    size_t exact = needed > 0 && (size_t)needed < enough ? (size_t)needed : enough;
+    return how < 4 ? enough : how == 4 ? any : how == 5 ? exact - 1 : exact;
+}
+
 /* ---- random bytes ---- */
 
 /* Any bytes; those of a header; those and some that packets have; small ones. */
@@ -149,7 +157,9 @@ enum { REGISTERS = sizeof ADDRESS };
 
 static size_t put_register(uint8_t *params, size_t n, uint32_t which)
 {
-    params[n] = ADDRESS[which], params[n + 1] = 0, params[n + 2] = BYTES[which], params[n + 3] = 0;
+    uint32_t any = below(140);
+    params[n] = (uint8_t)(once_in(9) ? any : ADDRESS[which]);
+    params[n + 1] = 0, params[n + 2] = BYTES[which], params[n + 3] = 0;
     return n + 4;
 }
 
@@ -414,7 +424,7 @@ static void ask_log(size_t n)
 
 static void salvage_log(size_t n)
 {
-    size_t n_out = once_in(9) ? 1000 + below(300) : sizeof line, n_report = once_in(9) ? below(20) : sizeof words / sizeof words[0];
+    size_t n_out = room_for((int64_t)n, sizeof line), n_report = once_in(9) ? below(20) : sizeof words / sizeof words[0];
     fill(line, sizeof line, 0);
     struct dxl_salvaged made = dxl_log_salvage(out, n, line, n_out, words, n_report);
     number(made.count), size(made.dropped), size(made.index_changed), size(made.leftover), mix(made.header_changed);
@@ -426,10 +436,11 @@ static void salvage_log(size_t n)
 /* The log of some segments, whole, damaged or cut. */
 static void log_life(void)
 {
-    size_t n = 0, segments = below(6), room = once_in(9) ? DXL_LOG_FRONT + below(300) : sizeof out;
+    size_t n = 0, segments = below(6);
     make_line(PROTOCOL_2, 300);
     for (size_t i = 0; i < segments; i++)
         n += words[i] = below(60);
+    size_t room = room_for((int64_t)(DXL_LOG_FRONT + DXL_LOG_ENTRY * segments + n), sizeof out);
     fill(out, sizeof out, 0);
     int64_t made = dxl_log_write(line, n, words, segments, out, room);
     number(made), bytes(out, sizeof out);
@@ -447,7 +458,7 @@ static void log_life(void)
 static void plan_life(void)
 {
     uint32_t rare = once_in(3) ? 1 : 12;
-    size_t n = once_in(12) ? below(260) : 253, room = once_in(9) ? below(1300) : sizeof out;
+    size_t n = once_in(12) ? below(260) : 253;
     for (size_t i = 0; i < 253; i++) {
         int32_t goal = (int32_t)below(4096);
         goals[i] = once_in(rare) ? goal : -1;
@@ -457,8 +468,9 @@ static void plan_life(void)
         goals[which] = (int32_t)draw();
     }
     fill(out, sizeof out, 0);
-    int64_t made = dxl_plan(goals, n, out, room);
-    number(made), bytes(out, sizeof out);
+    int64_t made = dxl_plan(goals, n, out, sizeof out);
+    size_t room = room_for(made, sizeof out);
+    number(made), number(dxl_plan(goals, n, out, room)), bytes(out, sizeof out);
     size_t length = made > 0 ? (size_t)made : 1 + below(100);
     number(dxl_plan_check(goals, n, out, length));
     flip(out, length);
@@ -495,12 +507,15 @@ static void plain_reading(void)
 static void long_packets(void)
 {
     uint32_t n = 900 + below(200), id = draw(), instruction = draw(), how = below(3), far = draw();
-    size_t room = once_in(5) ? below(OUT) : sizeof out, at = once_in(9) ? far : below(300);
+    size_t at = once_in(9) ? far : below(300);
     fill(line, n, how);
     fill(out, sizeof out, 0);
-    number(dxl_encode((uint8_t)id, (uint8_t)instruction, line, n, out, room, at)), bytes(out, sizeof out);
-    room = once_in(4) ? below(1200) : sizeof out;
-    number(dxl_unstuff(line, n, out, room)), bytes(out, sizeof out);
+    int64_t made = dxl_encode((uint8_t)id, (uint8_t)instruction, line, n, out, sizeof out, at);
+    size_t room = room_for(made + (int64_t)at, sizeof out);
+    number(made), number(dxl_encode((uint8_t)id, (uint8_t)instruction, line, n, out, room, at)), bytes(out, sizeof out);
+    made = dxl_unstuff(line, n, out, sizeof out);
+    room = room_for(made, sizeof out);
+    number(made), number(dxl_unstuff(line, n, out, room)), bytes(out, sizeof out);
 }
 
 /* ---- the parts, and their hashes ---- */

@@ -1,10 +1,13 @@
 # The library for other processors, TARGET=NAME; the Makefile includes this.
 TARGETS := thumbv6m thumbv7em rv32imac i686
-BARE_TARGETS := thumbv6m thumbv7em
+MACHINES := thumbv6m-microbit thumbv7em-mps2-an386
+MACHINE := $(patsubst $(TARGET)-%,%,$(filter $(TARGET)-%,$(MACHINES)))
+BARE_BOARD := build/bare/$(TARGET)$(LEAF:%=_%).elf
 TARGET_TOOLS := $(addprefix tools/targets/,archive.py layer.py record.py retarget.py PROVED.txt)
 TARGET_LIB := build/lib/$(TARGET)/libmednukals$(LEAF:%=_%).a
 $(if $(filter-out $(TARGETS),$(TARGET)),$(error mednukals: TARGET=$(TARGET): only $(TARGETS:%=TARGET=%) are known))
 $(if $(TARGET),$(if $(filter-out lib install demo memory,$(MAKECMDGOALS)),$(error mednukals: TARGET is for make lib$(comma) make install$(comma) make demo and make memory)))
+$(if $(TARGET),$(if $(filter demo memory,$(MAKECMDGOALS)),$(if $(MACHINE),,$(error mednukals: make demo and make memory are for TARGET=thumbv6m and TARGET=thumbv7em))))
 
 # What the kit's compiler is handed for x86-64. Over the other checksum functions it comes with their archives.
 FIRMWARE_CRATES := $(filter-out capi_test,$(EXPORT_CRATES))
@@ -23,3 +26,13 @@ $(TARGETS:%=build/lib/%/$(2)): build/lib/%/$(2): $(call modules,$(1)) include/me
 endef
 $(eval $(call target_rules,table,libmednukals.a))
 $(foreach leaf,$(LEAVES),$(eval $(call target_rules,$(leaf),libmednukals_$(leaf).a)))
+
+# The board of examples/uart_board.c without an operating system.
+$(BARE_BOARD): $(TARGET_LIB) $(wildcard examples/bare/*) examples/uart_board.c examples/uart_board.h tools/targets/program.py
+	@python3 tools/targets/program.py $(TARGET) $< $@ examples/uart_board.c examples/bare/hardware.c
+
+TARGET_LIBS := $(foreach target,$(TARGETS),$(addprefix build/lib/$(target)/,libmednukals.a $(LEAVES:%=libmednukals_%.a)))
+targets_test: build/lib/libmednukals.a $(LEAF_LIBS) $(TARGET_LIBS)
+	@$(call need,python3)
+	@python3 tests/targets_test.py --missing
+	@$(call step,targets_test,the library on other processors) python3 tests/targets_test.py build build/lib

@@ -157,8 +157,8 @@ enum { REGISTERS = sizeof ADDRESS };
 
 static size_t put_register(uint8_t *params, size_t n, uint32_t which)
 {
-    uint32_t any = below(140);
-    params[n] = (uint8_t)(once_in(9) ? any : ADDRESS[which]);
+    uint32_t how = below(24), any = below(140); /* seldom right behind a register, or right before it */
+    params[n] = (uint8_t)(how == 0 ? any : how < 3 ? ADDRESS[which] + BYTES[which] : ADDRESS[which] - (how == 3));
     params[n + 1] = 0, params[n + 2] = BYTES[which], params[n + 3] = 0;
     return n + 4;
 }

@@ -42,7 +42,7 @@ def text_of(module):
     return clang("-S", "-emit-llvm", *X86_64, "-Xclang", "-disable-llvm-passes", "-x", "ir", module, "-o", "-")
 
 
-def compiled(target, module, room):
+def compiled(target, module, room, words=()):
     """The object of one module. Answers its path and the exports in it."""
     name = Path(module).stem
     rattle = text_of(module)
@@ -52,7 +52,7 @@ def compiled(target, module, room):
     layer = clang("-S", "-emit-llvm", *TARGETS[target], LEVEL, *OF_C, "-Xclang", "-disable-llvm-passes", source, "-o", "-")
     whole, made = Path(room, f"{name}_whole.ll"), Path(room, f"{name}.o")
     whole.write_text(joined(rattle, layer), encoding="utf-8")
-    clang("-c", *TARGETS[target], LEVEL, *CODE, "-x", "ir", whole, "-o", made)
+    clang("-c", *TARGETS[target], LEVEL, *CODE, *words, "-x", "ir", whole, "-o", made)
     return made, set(exports(rattle))
 
 

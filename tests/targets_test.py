@@ -6,8 +6,10 @@ tests/targets/lives.c; every line that it prints has to be the one that the arch
 
 `targets_test.py --missing` says in one line which targets cannot be tried here, and what they need. They are passed over.
 """
+import os
 import random
 import re
+import subprocess
 import sys
 import tempfile
 import unittest
@@ -33,8 +35,8 @@ PARTS = 8  # of the lives
 # Changes of one number or one comparison in a module, drawn by this seed: so many are made, and so many at least are seen. The others
 # are one turn more of a loop that has nothing left to do, or a bound that no memory reaches. The module of the old boards is left
 # out: it has the code of Protocol 2.0 too, which none of its calls comes to.
-SEED, CHANGES, SEEN = 37, 6, 4
-ENDLESS = 5  # seconds; the unchanged one takes a twentieth of one
+SEED, CHANGES, SEEN = 37, 8, 4
+ENDLESS = 5  # seconds; the unchanged one takes a fifth of one
 
 
 def tried():
@@ -126,6 +128,44 @@ class Targets(unittest.TestCase):
             made, _ = archive.compiled("i686", module, folder)
             got = self.programs.output("i686", made, Path(ARCHIVES, "i686/libmednukals_fold.a"), patience=ENDLESS)
             return [f"{crate}, {where}"] if got == self.expected else []
+
+
+@unittest.skipIf(program.missing("thumbv7em"), "no tools for Cortex-M")
+class CortexM(unittest.TestCase):
+    def test_the_bare_boards_talk(self):
+        """The demo of examples/bare on both boards, side by side."""
+        with tempfile.TemporaryDirectory(prefix="mednukals-") as folder:
+            demos = {}
+            for target, (_, machine, _) in program.BOARDS.items():
+                linked = Path(folder, target)
+                program.main(target, Path(ARCHIVES, target, "libmednukals_fold.a"), linked, "examples/uart_board.c", "examples/bare/hardware.c")
+                demos[target] = subprocess.Popen(["sh", "examples/bare/demo.sh", machine, linked], stdout=subprocess.PIPE,
+                                                 stderr=subprocess.STDOUT, text=True)
+            for target, demo in demos.items():
+                with self.subTest(target):
+                    said = demo.communicate(timeout=program.PATIENCE)[0]
+                    self.assertEqual(demo.returncode, 0, said)
+                    self.assertRegex(said, r"talk: \d+ exchanges, each reply as expected\n")
+
+    def test_any_way_to_pass_fractions(self):
+        """The archive links with programs that pass fractions in registers, and with others."""
+        source = ("#include <mednukals.h>\nfloat part(float x);\nfloat part(float x) { return x / 2; }\n"
+                  "void reset(void);\nvoid reset(void) { for (;;) dxl_measure((uint8_t *)64, (size_t)part(4.0f), 0, 0); }\n")
+        with tempfile.TemporaryDirectory(prefix="mednukals-") as folder:
+            path = Path(folder, "program.c")
+            path.write_text(source, encoding="utf-8")
+            for way in ("soft", "softfp", "hard"):
+                program.run(["arm-none-eabi-gcc", "-mcpu=cortex-m4", "-mthumb", "-mfpu=fpv4-sp-d16", f"-mfloat-abi={way}", "-Iinclude", "-nostdlib",
+                             "-Wl,--gc-sections", "-Wl,-z,noexecstack", "-Wl,--fatal-warnings", "-Wl,-e,reset", "-o", Path(folder, way), path,
+                             Path(ARCHIVES, "thumbv7em/libmednukals_fold.a"), "-lgcc"])
+
+
+class Missing(unittest.TestCase):
+    def test_it_is_said_in_one_line(self):
+        said = subprocess.run([sys.executable, "tests/targets_test.py", "--missing"], env={**os.environ, "PATH": "/nowhere"},
+                              capture_output=True, text=True, check=True).stdout
+        self.assertEqual(said, "targets: not tried: thumbv6m, thumbv7em, rv32imac; Debian's packages gcc-arm-none-eabi, qemu-system-arm,"
+                               " qemu-user are missing\n")
 
 
 class Understood(unittest.TestCase):

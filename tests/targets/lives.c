@@ -6,7 +6,7 @@
 #include "mednukals.h"
 #include "targets.h"
 
-enum { ROUNDS = 40, LINE = 1400, OUT = 1500, REPLY = 40, REPORT = 40 };
+enum { ROUNDS = 120, LINE = 1400, OUT = 1500, REPLY = 40, REPORT = 40 };
 
 static uint32_t state, hash_a, hash_b;
 
@@ -157,8 +157,9 @@ enum { REGISTERS = sizeof ADDRESS };
 
 static size_t put_register(uint8_t *params, size_t n, uint32_t which)
 {
-    uint32_t how = below(24), any = below(140); /* seldom right behind a register, or right before it */
-    params[n] = (uint8_t)(how == 0 ? any : how < 3 ? ADDRESS[which] + BYTES[which] : ADDRESS[which] - (how == 3));
+    uint32_t how = below(24), any = below(140); /* sometimes right behind a register, or right before it */
+    uint32_t beside = ADDRESS[which] + (how < 5 ? BYTES[which] : 0u) - (how == 5);
+    params[n] = (uint8_t)(how == 0 ? any : beside);
     params[n + 1] = 0, params[n + 2] = BYTES[which], params[n + 3] = 0;
     return n + 4;
 }

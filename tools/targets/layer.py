@@ -22,6 +22,9 @@ FRONT = """/* Made from mednukals.h by tools/targets/layer.py. */
 #include "mednukals.h"
 typedef uint64_t wide __attribute__((aligned(8))); /* i686 would align it to 4 in a struct */
 typedef int64_t wide_signed __attribute__((aligned(8)));
+#ifdef __arm__ /* no call passes a fraction: the object links with programs that pass them in registers, and with others */
+__asm__(".eabi_attribute 28, 3");
+#endif
 """
 
 

@@ -19,8 +19,9 @@
  *
  * The rest is tested on the archive or read off the code, and not proved, as is anything said of time. No function keeps state,
  * allocates, locks or blocks: calls on different memory may run at the same time, in several threads and in interrupt handlers;
- * two calls on one board, reader or table may not. No function calls itself, so stack use is bounded. The archive is for x86-64.
- * The three inline functions are C, and tested.
+ * two calls on one board, reader or table may not. No function calls itself, so stack use is bounded. The three inline functions are
+ * C, and tested. All this is said of the archives for x86-64; beside one for another processor stands a text that says what of it is
+ * proved and what is believed.
  */
 
 /*

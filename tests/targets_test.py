@@ -19,6 +19,7 @@ import suite
 
 sys.path.append("tools/targets")
 import archive
+import measure
 import program
 from layer import Layer
 from retarget import exports, joined
@@ -146,6 +147,18 @@ class CortexM(unittest.TestCase):
                     said = demo.communicate(timeout=program.PATIENCE)[0]
                     self.assertEqual(demo.returncode, 0, said)
                     self.assertRegex(said, r"talk: \d+ exchanges, each reply as expected\n")
+
+    def test_sizes_of_integrating(self):
+        """Code within a percent, and the stack of a board's call exactly."""
+        page = Path("docs/INTEGRATING.md").read_text(encoding="utf-8")
+        for target in program.BOARDS:
+            with self.subTest(target), tempfile.TemporaryDirectory(prefix="mednukals-") as folder:
+                said = re.search(rf"^\| [^|]* \| `{target}` \| (\S+) \| (\S+) \|$", page, flags=re.M).groups()
+                code, stack = (int(number.replace(",", "")) for number in said)
+                sizes = measure.bytes_in_board(target, folder, [Path(ARCHIVES, target, "libmednukals_fold.a")], ["libmednukals_fold.a"])
+                self.assertAlmostEqual(code, sizes["text"] + sizes["rodata"], delta=code / 100, msg="make memory TARGET=NAME LEAF=fold")
+                made, _ = archive.compiled(target, Path(MODULES, "fold/capi_board.bc"), folder, ["-fstack-usage"])
+                self.assertEqual(stack, max(measure.Stacks([made]).all().values()))
 
     def test_any_way_to_pass_fractions(self):
         """The archive links with programs that pass fractions in registers, and with others."""

@@ -124,11 +124,13 @@ static uint8_t some_id(void)
 /* What follows in the line at n: a packet, whole, damaged or cut, or noise. Answers its length. */
 static size_t some_piece(int protocol, size_t most, size_t n)
 {
-    uint8_t params[200];
+    static uint8_t params[DXL_MAX_BODY];
     uint32_t bound = once_in(6) ? 200 : 12;
-    uint32_t count = below(bound), noise = below(8) > 4;
+    uint32_t count = once_in(20) ? sizeof params - below(12) : below(bound), noise = below(8) > 4;
     uint8_t id = some_id(), instruction = (uint8_t)(once_in(4) ? draw() : 1 + below(8));
     fill_any(params, count);
+    if (noise && once_in(4)) /* the front of the longest packet */
+        params[0] = params[1] = 0xFF, params[2] = 0xFD, params[3] = 0, params[4] = 1, params[5] = 0, params[6] = 4;
     int64_t made = noise ? 0 : encode(protocol, id, instruction, params, count, most, n);
     number(made);
     if (made <= 0) {

@@ -189,10 +189,10 @@ def main(target, library):
         depths = Stacks(made).all(), Stacks(plain).all()
         counts = (counted(target, rooms[0], [library]),
                   counted(target, rooms[1], plain, RENAMED))
-    show(f"the library in the board of examples/bare, {target}, in bytes; and plain C", [(kind, *(size[kind] for size in sizes)) for kind in sizes[0]])
-    show("deepest stack of each export, in bytes; and plain C",
+    show(f"the library in the board of examples/bare, {target}, in bytes; beside it plain C", [(kind, *(size[kind] for size in sizes)) for kind in sizes[0]])
+    show("deepest stack of each export, in bytes; beside it plain C",
          [(name, depth, depths[1].get(name.replace("dxl_", "baseline_"), "")) for name, depth in depths[0].items() if name.startswith("dxl_")])
-    show("instructions and cycles; and plain C", [(name, *per_byte(name, counts[0][name]), *per_byte(name, counts[1][name])) for name in list(counts[0])[1:]])
+    show("instructions and cycles; beside them those of plain C", [(name, *per_byte(name, counts[0][name]), *per_byte(name, counts[1][name])) for name in list(counts[0])[1:]])
 
 
 if __name__ == "__main__":

@@ -52,7 +52,7 @@ use it
   make checksum            print the checksum and byte count of a file, likewise
       CAPTURE=FILE         a file of your own; - is standard input
   make demo                run a device in C on a pseudo-terminal, talk to it and show the exchanges
-      TARGET=NAME          on an emulated Cortex-M0, thumbv6m, or Cortex-M4, thumbv7em; over the serial port
+      TARGET=NAME          on an emulated Cortex-M0, thumbv6m, or Cortex-M4, thumbv7em; LEAF=NAME as for make lib
   make lib                 prove the exports and build the archives that C links, under build/lib
       LEAF=small           over the small checksum function, for boards with little flash
       LEAF=fold            over the one without a table, the fastest

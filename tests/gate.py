@@ -33,8 +33,9 @@ TESTS = ["c_test", "header_test", "install_test", "docs_test", "programs_test", 
 MODULES = Path("build/table")  # what the compiler is handed for the archives; targets_test begins with it
 # what the tests link is there: make must not call rt in this tree beside the command
 MADE = [f"build/lib/{archive}" for archive in (FIRMWARE, FOR_TESTS)] + [f"build/bin/{program}" for program in PROGRAMS]
-OTHERS = [Path(f"build/lib/libmednukals_{leaf}.a") for leaf in ("small", "fold")]  # those of an earlier run say nothing of this tree
-LINKED = Path("build/c")  # likewise, and make would not link them anew: to it the archives are old
+# Those of an earlier run say nothing of this tree, and make would not build some of them anew: to it what they are made of is old.
+OTHERS = ["build/lib/libmednukals_*.a", "build/lib/*/*.a"]
+LINKED = Path("build/c")
 MOST_LINES, MOST_CHARACTERS = 40, 500  # of what a failed proof says
 
 
@@ -89,8 +90,8 @@ class Tests(threading.Thread):
     def targets(self):
         """The tests by make, whose lines are handed on as they come."""
         old = [f"--old-file={file}" for file in [*MADE, *MODULES.glob("*.bc")]]
-        for archive in OTHERS:
-            archive.unlink(missing_ok=True)
+        for archive in [path for pattern in OTHERS for path in Path().glob(pattern) if str(path) not in MADE]:
+            archive.unlink()
         shutil.rmtree(LINKED, ignore_errors=True)
         make = subprocess.Popen(["make", "--no-print-directory", *old, *TESTS], stdout=subprocess.PIPE, stderr=subprocess.STDOUT,
                                 text=True, env={**os.environ, "RT_JOBS": "1"})  # leaf_test proves crates

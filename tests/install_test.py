@@ -97,8 +97,9 @@ class Install(unittest.TestCase):
         with tempfile.TemporaryDirectory() as folder:
             self.assertIn(f"lib/{TARGET}/libmednukals_fold.txt", install(f"PREFIX={folder}", f"TARGET={TARGET}", "LEAF=fold"))
             self.hold(Path(folder), OF_TARGET)
-            self.assertIn(f'-L"{folder}/lib/{TARGET}" -lmednukals_fold', fields(Path(folder, f"lib/{TARGET}/pkgconfig/mednukals_fold.pc"))["Libs"])
-            text = Path(folder, f"lib/{TARGET}/libmednukals_fold.txt").read_text(encoding="utf-8")
+            lib = Path(folder, "lib", TARGET)
+            self.assertEqual(fields(lib / "pkgconfig/mednukals_fold.pc")["Libs"], f'-L"{lib}" -lmednukals_fold')
+            text = (lib / "libmednukals_fold.txt").read_text(encoding="utf-8")
             self.assertIn(f"libmednukals_fold.a for {TARGET}: ", text)
             self.assertIn(run("rt", "version").strip(), text)
             self.assertNotIn("@", text)

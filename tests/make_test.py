@@ -121,13 +121,13 @@ class Step(unittest.TestCase):
 class Gate(unittest.TestCase):
     """gate.py with stand-ins for rt and make, in a folder of its own."""
 
-    def gate(self, text, status=0, make="[ -e build/c ] || echo all tests",
+    def gate(self, text, status=0, make="[ -e build/c ] || [ -e build/lib/earlier/libmednukals.a ] || echo all tests",
              rt=STATICLIB):
         with tempfile.TemporaryDirectory() as folder:
             made = [f"target/{part}" for part in ("rlib", "obj", "bin", "log", "stamp")]
-            for part in ["crates", "bin", "build/c/of_an_earlier_run", COMPILER.parent, *made]:
+            for part in ["crates", "bin", "build/c/of_an_earlier_run", "build/lib/earlier", COMPILER.parent, *made]:
                 Path(folder, part).mkdir(parents=True)
-            for file in ["target/bin/line", "target/bin/checksum"]:
+            for file in ["target/bin/line", "target/bin/checksum", "build/lib/earlier/libmednukals.a"]:
                 Path(folder, file).touch()
             Path(folder, "crates.txt").write_text("capi: lists\ncapi_other: lists\ncapi_test: lists\n", encoding="utf-8")
             Path(folder, "said").write_text(text, encoding="utf-8")

@@ -174,25 +174,36 @@ def per_byte(name, figures):
     return tuple(round(figure / NOISE) for figure in figures) if "worst noise" in name else figures
 
 
+def of_library(target, library, room):
+    """Bytes, stacks and counts of the library."""
+    leaf = Path(library).stem.removeprefix("libmednukals").strip("_") or "table"
+    modules = [path for path in sorted(Path("build", leaf).glob("capi*.bc")) if path.stem != "capi_test"]
+    made = [archive.compiled(target, module, room, ["-fstack-usage"])[0] for module in modules]
+    return bytes_in_board(target, room, [library], [Path(library).name]), Stacks(made).all(), counted(target, room, [library])
+
+
+def of_plain(target, room):
+    """The same of plain C, by the names of the library."""
+    made = program.objects(target, PLAIN, room, ["-fstack-usage", f"-I{BENCH}"])
+    depths = {name.replace("baseline_", "dxl_"): depth for name, depth in Stacks(made).all().items()}
+    return bytes_in_board(target, room, made, ["baseline"], RENAMED), depths, counted(target, room, made, RENAMED)
+
+
 def main(target, library):
     if lacks := program.missing(target):
-        sys.exit(f"mednukals: Debian's {' and '.join(lacks)} is needed")
-    modules = sorted((Path("build") / (Path(library).stem.removeprefix("libmednukals").strip("_") or "table")).glob("capi*.bc"))
+        sys.exit(f"mednukals: Debian's {' and '.join(lacks)} {'is' if len(lacks) == 1 else 'are'} needed")
     with tempfile.TemporaryDirectory(prefix="mednukals-") as folder:
-        rooms = [Path(folder, name) for name in ("ours", "plain", "stack")]
+        rooms = Path(folder, "library"), Path(folder, "plain")
         for room in rooms:
             room.mkdir()
-        plain = program.objects(target, PLAIN, rooms[1], ["-fstack-usage", f"-I{BENCH}"])
-        sizes = [bytes_in_board(target, rooms[0], [library], [Path(library).name]),
-                 bytes_in_board(target, rooms[1], plain, ["baseline"], RENAMED)]
-        made = [archive.compiled(target, each, rooms[2], ["-fstack-usage"])[0] for each in modules if each.stem != "capi_test"]
-        depths = Stacks(made).all(), Stacks(plain).all()
-        counts = (counted(target, rooms[0], [library]),
-                  counted(target, rooms[1], plain, RENAMED))
-    show(f"the library in the board of examples/bare, {target}, in bytes; beside it plain C", [(kind, *(size[kind] for size in sizes)) for kind in sizes[0]])
+        sizes, depths, counts = of_library(target, library, rooms[0])
+        plain_sizes, plain_depths, plain_counts = of_plain(target, rooms[1])
+    show(f"the library in the board of examples/bare, {target}, in bytes; beside it plain C",
+         [(kind, size, plain_sizes[kind]) for kind, size in sizes.items()])
     show("deepest stack of each export, in bytes; beside it plain C",
-         [(name, depth, depths[1].get(name.replace("dxl_", "baseline_"), "")) for name, depth in depths[0].items() if name.startswith("dxl_")])
-    show("instructions and cycles; beside them those of plain C", [(name, *per_byte(name, counts[0][name]), *per_byte(name, counts[1][name])) for name in list(counts[0])[1:]])
+         [(name, depth, plain_depths.get(name, "")) for name, depth in depths.items()])
+    show("instructions and cycles; beside them those of plain C",
+         [(name, *per_byte(name, counts[name]), *per_byte(name, plain_counts[name])) for name in counts if name != "nothing"])
 
 
 if __name__ == "__main__":

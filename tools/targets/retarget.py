@@ -8,7 +8,8 @@ extended. Nothing else is changed.
 import re
 import sys
 
-# Where a pointer is a number, or the text is for one processor, the module might mean another thing with pointers of 32 bits.
+# Where a pointer is a number, or the text is for one processor, the module might mean another thing with pointers of 32 bits. Data of
+# its own, which it does not have either, would have to be looked at.
 BOUND = ["ptrtoint", "inttoptr", "asm", "addrspace", "thread_local", "fp128", "x86_fp80"]
 EXPORT = r"^define (?:noundef )?(\w+) @(dxl_\w+)\((.*)\) #\d+ \{$"
 
@@ -40,7 +41,7 @@ def alike(module, layer):
 def of_module(module):
     """Rattle's module without its target, its exports internal."""
     code = re.sub(r'"[^"\n]*"|;[^\n]*', "", module)  # without names and comments
-    if found := re.search(rf"\b(?:{'|'.join(BOUND)})\b", code):
+    if found := re.search(rf"\b(?:{'|'.join(BOUND)})\b|^@.*", code, flags=re.M):
         stop(found[0])
     module = re.sub(r"^(?:target|source_filename) .*\n", "", module, flags=re.M)
     module = re.sub(r' "(?:target-cpu|probe-stack)"="[^"]*"', "", module)

@@ -6,8 +6,10 @@ BARE_BOARD := build/bare/$(TARGET)$(LEAF:%=_%).elf
 TARGET_TOOLS := $(addprefix tools/targets/,archive.py layer.py record.py retarget.py PROVED.txt)
 TARGET_LIB := build/lib/$(TARGET)/libmednukals$(LEAF:%=_%).a
 $(if $(filter-out $(TARGETS),$(TARGET)),$(error mednukals: TARGET=$(TARGET): only $(TARGETS:%=TARGET=%) are known))
-$(if $(TARGET),$(if $(filter-out lib install demo memory,$(MAKECMDGOALS)),$(error mednukals: TARGET is for make lib$(comma) make install$(comma) make demo and make memory)))
-$(if $(TARGET),$(if $(filter demo memory,$(MAKECMDGOALS)),$(if $(MACHINE),,$(error mednukals: make demo and make memory are for TARGET=thumbv6m and TARGET=thumbv7em))))
+ifneq ($(TARGET),)
+$(if $(filter-out lib install demo memory,$(MAKECMDGOALS)),$(error mednukals: TARGET is for make lib$(comma) make install$(comma) make demo and make memory))
+$(if $(MACHINE),,$(if $(filter demo memory,$(MAKECMDGOALS)),$(error mednukals: make demo and make memory are for TARGET=thumbv6m and TARGET=thumbv7em)))
+endif
 
 # What the kit's compiler is handed for x86-64. Over the other checksum functions it comes with their archives.
 FIRMWARE_CRATES := $(filter-out capi_test,$(EXPORT_CRATES))

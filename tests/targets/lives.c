@@ -170,7 +170,8 @@ static size_t put_register(uint8_t *params, size_t n, uint32_t which)
 static size_t put_entries(uint8_t *params, size_t n, uint8_t instruction, uint32_t data)
 {
     for (uint32_t left = below(6); left > 0; left--) {
-        params[n++] = (uint8_t)below(4);
+        uint32_t low = below(4), high = 251 + below(4);
+        params[n++] = (uint8_t)(once_in(20) ? high : low);
         if (instruction == DXL_INST_BULK_READ || instruction == DXL_INST_BULK_WRITE) {
             uint32_t which = below(REGISTERS);
             n = put_register(params, n, which);

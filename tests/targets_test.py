@@ -33,10 +33,11 @@ SOURCES = [*(OURS / name for name in ("tests.c", "lives.c", "library.c", "packet
            *((Path("tests/c", f"{name}.c"), f"-Dmain={name}_main") for name in OF_C)]
 PASSED = [f"{name}: passed" for name in OF_C]
 PARTS = 8  # of the lives
+ASKED = r"mem(cpy|move|set)|__aeabi_mem(cpy|move|clr|set)[48]?|__udivdi3|__aeabi_(uldivmod|lmul)"
 # Changes of one number or one comparison in a module, drawn by this seed: so many are made, and so many at least are seen. The others
 # are one turn more of a loop that has nothing left to do, or a bound that no memory reaches. The module of the old boards is left
 # out: it has the code of Protocol 2.0 too, which none of its calls comes to.
-SEED, CHANGES, SEEN = 37, 8, 4
+SEED, CHANGES, SEEN = 37, 6, 3
 ENDLESS = 5  # seconds; the unchanged one takes a fifth of one
 
 
@@ -112,6 +113,18 @@ class Targets(unittest.TestCase):
                 with self.subTest(target=target, leaf=leaf):
                     folder = Path(ARCHIVES, "" if target == "x86_64" else target)
                     self.assertEqual(self.programs.output(target, folder / f"libmednukals{name}.a"), self.expected)
+
+    def test_names(self):
+        """An archive has the header's functions and shows no other name; it asks for memory functions and 64-bit arithmetic alone."""
+        wanted = sorted(name for _, name, _ in Layer(HEADER).functions)
+        for target in archive.TARGETS:
+            for name in LEAVES.values():
+                with self.subTest(target=target, name=name):
+                    shown = subprocess.run(["nm", "-g", Path(ARCHIVES, target, f"libmednukals{name}.a")], capture_output=True, text=True,
+                                           check=True).stdout
+                    self.assertEqual(sorted(re.findall(r"^\w+ [A-Z] (\w+)$", shown, flags=re.M)), wanted)
+                    asked = re.findall(r"^ +U (\w+)$", shown, flags=re.M)
+                    self.assertEqual([each for each in asked if not re.fullmatch(ASKED, each)], [])
 
     def test_a_changed_module_is_seen(self):
         """On i686, which runs without an emulator."""
@@ -192,7 +205,8 @@ class Understood(unittest.TestCase):
 
     def test_the_header(self):
         for text in ("int64_t dxl_one(double x);", "int64_t dxl_one(uint8_t **x);", "struct dxl_new dxl_one(size_t n);",
-                     "struct s { uint8_t a : 1; };", "int64_t dxl_one(struct dxl_reply *r);", "typedef int dxl_t;"):
+                     "struct s { uint8_t a : 1; };", "int64_t dxl_one(struct dxl_reply *r);", "typedef int dxl_t;",
+                     "int64_t dxl_one(int64_t *x);", "struct s { size_t a[4]; };\nstruct s dxl_one(size_t n);", "void dxl_one(size_t n);"):
             with self.subTest(text):
                 made = HEADER.replace("\n#ifdef __cplusplus\n}", f"\n{text}\n\n#ifdef __cplusplus\n}}")
                 self.assertNotEqual(made, HEADER)

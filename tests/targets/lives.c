@@ -6,7 +6,7 @@
 #include "mednukals.h"
 #include "targets.h"
 
-enum { ROUNDS = 120, LINE = 1400, OUT = 1500, REPLY = 40, REPORT = 40 };
+enum { ROUNDS = 80, LINE = 1400, OUT = 1500, REPLY = 40, REPORT = 40 };
 
 static uint32_t state, hash_a, hash_b;
 

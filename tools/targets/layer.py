@@ -124,6 +124,8 @@ class Layer:
             if field.startswith("struct ") and self.is_wide(field):
                 lines += self.carried(field, f"{source}.{name}", f"{goal}.{name}", number)
             elif array:
+                if field not in NUMBERS:
+                    stop(f"an array of {field}", kind)
                 lines.append(f"__builtin_memcpy({goal}.{name}, {source}.{name}, sizeof {goal}.{name});")
             else:
                 lines.append(f"{goal}.{name} = {f'({number})' if field == 'size_t' else ''}{source}.{name};")
@@ -140,7 +142,9 @@ class Layer:
         if pointer and kind == "size_t":
             return [f"wide {name}_wide = *{name};"], [("wide *", f"&{name}_wide")], [f"*{name} = (size_t){name}_wide;"]
         if pointer:
-            return [], [(f"{self.raw(kind)} *", f"({kind} *){name}")], []
+            if kind not in NUMBERS:
+                stop(f"a pointer to {kind}", "a function")
+            return [], [(f"{kind} *", f"({kind} *){name}")], []
         if kind.startswith("struct ") and self.is_wide(kind):
             lines = [f"{self.raw(kind)} {name}_raw = {{0}};", *self.carried(kind, name, f"{name}_raw", "wide")]
             return lines, [(f"{self.raw(kind)} *", f"&{name}_raw")], []

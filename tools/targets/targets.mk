@@ -1,14 +1,19 @@
 # The library for other processors, TARGET=NAME; the Makefile includes this.
 TARGETS := thumbv6m thumbv7em rv32imac i686
-MACHINES := thumbv6m-microbit thumbv7em-mps2-an386
-MACHINE := $(patsubst $(TARGET)-%,%,$(filter $(TARGET)-%,$(MACHINES)))
-BARE_BOARD := build/bare/$(TARGET)$(LEAF:%=_%).elf
+# The name is a common one: where the environment has it, this is not meant.
+$(if $(filter environment,$(origin TARGET)),$(eval TARGET :=))
 TARGET_TOOLS := $(addprefix tools/targets/,archive.py layer.py record.py retarget.py PROVED.txt)
 TARGET_LIB := build/lib/$(TARGET)/libmednukals$(LEAF:%=_%).a
 $(if $(filter-out $(TARGETS),$(TARGET)),$(error mednukals: TARGET=$(TARGET): only $(TARGETS:%=TARGET=%) are known))
 ifneq ($(TARGET),)
+MACHINES := thumbv6m-microbit thumbv7em-mps2-an386
+MACHINE := $(patsubst $(TARGET)-%,%,$(filter $(TARGET)-%,$(MACHINES)))
 $(if $(filter-out lib install demo memory,$(MAKECMDGOALS)),$(error mednukals: TARGET is for make lib$(comma) make install$(comma) make demo and make memory))
 $(if $(MACHINE),,$(if $(filter demo memory,$(MAKECMDGOALS)),$(error mednukals: make demo and make memory are for TARGET=thumbv6m and TARGET=thumbv7em)))
+# The board of examples/uart_board.c without an operating system.
+BARE_BOARD := build/bare/$(TARGET)$(LEAF:%=_%).elf
+$(BARE_BOARD): $(TARGET_LIB) $(wildcard examples/bare/*) examples/uart_board.c examples/uart_board.h tools/targets/program.py
+	@python3 tools/targets/program.py $(TARGET) $< $@ examples/uart_board.c examples/bare/hardware.c
 endif
 
 # What the kit's compiler is handed for x86-64. Over the other checksum functions it comes with their archives.
@@ -28,10 +33,6 @@ $(TARGETS:%=build/lib/%/$(2)): build/lib/%/$(2): $(call modules,$(1)) include/me
 endef
 $(eval $(call target_rules,table,libmednukals.a))
 $(foreach leaf,$(LEAVES),$(eval $(call target_rules,$(leaf),libmednukals_$(leaf).a)))
-
-# The board of examples/uart_board.c without an operating system.
-$(BARE_BOARD): $(TARGET_LIB) $(wildcard examples/bare/*) examples/uart_board.c examples/uart_board.h tools/targets/program.py
-	@python3 tools/targets/program.py $(TARGET) $< $@ examples/uart_board.c examples/bare/hardware.c
 
 TARGET_LIBS := $(foreach target,$(TARGETS),$(addprefix build/lib/$(target)/,libmednukals.a $(LEAVES:%=libmednukals_%.a)))
 targets_test: build/lib/libmednukals.a $(LEAF_LIBS) $(TARGET_LIBS)

@@ -21,6 +21,7 @@ OF_PLAIN = ["crc16", "encode", "reader_feed", "fresh", "measure", "status", "exc
 RENAMED = [f"-Ddxl_{name}=baseline_{name}" for name in OF_PLAIN]
 BOARD = [Path("examples/uart_board.c"), program.BARE / "hardware.c"]
 MEASURED = [Path("tests/targets/measure.c")]
+AS_PROGRAMS = ["-fhosted", "-fbuiltin", "-ftree-loop-distribute-patterns"]  # what program.py switches off for memory functions
 NOISE = 704  # bytes of the worst noise; the figure is for one
 MEMORY_FUNCTIONS = 24  # bytes of stack: memcpy of examples/bare
 
@@ -184,7 +185,7 @@ def of_library(target, library, room):
 
 def of_plain(target, room):
     """The same of plain C, by the names of the library."""
-    made = program.objects(target, PLAIN, room, ["-fstack-usage", f"-I{BENCH}"])
+    made = program.objects(target, PLAIN, room, [*AS_PROGRAMS, "-fstack-usage", f"-I{BENCH}"])
     depths = {name.replace("baseline_", "dxl_"): depth for name, depth in Stacks(made).all().items()}
     return bytes_in_board(target, room, made, ["baseline"], RENAMED), depths, counted(target, room, made, RENAMED)
 

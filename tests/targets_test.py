@@ -181,10 +181,10 @@ class CortexM(unittest.TestCase):
             path = Path(folder, "program.c")
             path.write_text(source, encoding="utf-8")
             for way in ("soft", "softfp", "hard"):
-                program.run(["arm-none-eabi-gcc", "-mcpu=cortex-m4", "-mthumb", "-mfpu=fpv4-sp-d16", f"-mfloat-abi={way}", "-Iinclude",
-                             "-nostdlib",
-                             "-Wl,--gc-sections", "-Wl,-z,noexecstack", "-Wl,--fatal-warnings", "-Wl,-e,reset", "-o", Path(folder, way),
-                             path, Path(ARCHIVES, "thumbv7em/libmednukals_fold.a"), "-lgcc"])
+                compiler = ["arm-none-eabi-gcc", "-mcpu=cortex-m4", "-mthumb", "-mfpu=fpv4-sp-d16", f"-mfloat-abi={way}", "-ffreestanding"]
+                linker = ["-nostdlib", "-Wl,--gc-sections", "-Wl,-z,noexecstack", "-Wl,--fatal-warnings", "-Wl,-e,reset"]
+                program.run([*compiler, "-Iinclude", *linker, "-o", Path(folder, way), path,
+                             Path(ARCHIVES, "thumbv7em/libmednukals_fold.a"), "-lgcc"])
 
 
 class Missing(unittest.TestCase):

@@ -21,7 +21,7 @@ OF_PLAIN = ["crc16", "encode", "reader_feed", "fresh", "measure", "status", "exc
 RENAMED = [f"-Ddxl_{name}=baseline_{name}" for name in OF_PLAIN]
 BOARD = [Path("examples/uart_board.c"), program.BARE / "hardware.c"]
 MEASURED = [Path("tests/targets/measure.c")]
-AS_PROGRAMS = ["-fhosted", "-fbuiltin", "-ftree-loop-distribute-patterns"]  # what program.py switches off for memory functions
+AS_PROGRAMS = ["-fbuiltin", "-ftree-loop-distribute-patterns"]  # what program.py switches off for memory functions
 NOISE = 704  # bytes of the worst noise; the figure is for one
 MEMORY_FUNCTIONS = 24  # bytes of stack: memcpy of examples/bare
 

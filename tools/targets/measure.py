@@ -72,6 +72,8 @@ def calls_of(made):
             calls.setdefault(at, set())
         elif found := re.search(r"R_ARM_THM_(?:CALL|JUMP\d+)\s+(\S.*)$", line):
             calls[at].add(plain_name(found[1]))
+        elif re.search(r"\tblx\t", line):
+            sys.exit(f"mednukals: FAILED: {at} calls through a pointer: its stack is not known")
     return calls
 
 

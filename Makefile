@@ -7,26 +7,29 @@
 .DELETE_ON_ERROR:
 # rt works in one target/ folder, so two of its runs must never overlap.
 .NOTPARALLEL:
-TARGETS := $(shell awk -v names=1 -f tools/help.awk Makefile)
+COMMANDS := $(shell awk -v names=1 -f tools/help.awk Makefile)
 # cargo sees by itself what has changed, and is always asked.
 FUZZ := build/rust/release/fuzz
-.PHONY: $(TARGETS) replay_file $(FUZZ)
+.PHONY: $(COMMANDS) replay_file $(FUZZ)
 
 # TMPDIR puts temporary files elsewhere.
 export TMPDIR := $(or $(shell sh tools/tmp.sh 2>/dev/null),/tmp)
 
+# Each crate of crates.txt whose name begins with capi is an object of libmednukals.a; capi_test alone is libmednukals_test.a.
+EXPORTS := $(filter-out capi_test,$(shell sed -n 's/^\(capi[a-z0-9_]*\):.*/\1/p' crates.txt))
 LIB := build/lib/libmednukals.a
 LIBS := $(LIB) build/lib/libmednukals_test.a
 # The same over another checksum function, crc16_LEAF; what is measured over it has its name behind it.
 LEAVES := small fold
 LEAF_LIBS := $(LEAVES:%=build/lib/libmednukals_%.a)
-MADE_LIBS := $(if $(LEAF),build/lib/libmednukals_$(LEAF).a build/$(LEAF)/libmednukals_test.a,$(LIBS))
+MADE_LIBS = $(if $(TARGET),$(TARGET_LIB),$(if $(LEAF),build/lib/libmednukals_$(LEAF).a build/$(LEAF)/libmednukals_test.a,$(LIBS)))
 OVER := $(LEAF:%=_%)
-$(if $(filter-out $(LEAVES),$(LEAF)),$(error mednukals: LEAF=$(LEAF): only $(LEAVES:%=LEAF=%) are known))
-$(if $(LEAF),$(if $(filter-out lib bench counts memory,$(MAKECMDGOALS)),$(error mednukals: LEAF is for make lib, make bench, make counts and make memory)))
 
 # Folders stand in the list too, so that a file added or removed counts as a change.
 SOURCES := crates.txt $(shell find crates -path '*/must-fail' -prune -o -print)
+include tools/targets/targets.mk
+$(if $(filter-out $(LEAVES),$(LEAF)),$(error mednukals: LEAF=$(LEAF): only $(LEAVES:%=LEAF=%) are known))
+$(if $(LEAF),$(if $(filter-out lib install $(if $(TARGET),demo,bench counts) memory,$(MAKECMDGOALS)),$(error mednukals: LEAF is for make lib, make install, make bench, make counts and make memory)))
 
 CC := gcc
 CXX := g++
@@ -39,15 +42,15 @@ STEP := sh tools/step.sh
 # COMMAND || $(call failed,WHAT)
 failed = { echo "mednukals: FAILED: $(1)" >&2; exit 1; }
 
-# Tools. $(call need,TOOLS) ends in one clear line where one is missing; $(call needs,TARGETS,TOOLS) does so for a target that is asked
+# Tools. $(call need,TOOLS) ends in one clear line where one is missing; $(call needs,COMMANDS,TOOLS) does so for one that is asked
 # for, before anything is built. What proves or compiles says itself what it needs: where all is built, nothing is needed.
 need = $(foreach tool,$(1),$(if $(shell command -v $(tool) 2>/dev/null),,$(error mednukals: $(tool) is needed and is not on the PATH)))
 needs = $(if $(filter $(1),$(MAKECMDGOALS)),$(call need,$(2)))
 $(call needs,kit test,rt $(firstword $(CC)) $(firstword $(CXX)) cargo python3 valgrind)
-$(call needs,$(filter-out rust_test,$(filter %_test,$(TARGETS))) bench counts mutants promises,python3)
+$(call needs,$(filter-out rust_test,$(filter %_test,$(COMMANDS))) bench counts mutants promises,python3)
 $(call needs,format fmt bench counts mutants,rt)
 $(call needs,rust_test leaf_test fuzz replay,cargo)
-$(call needs,leaf_test memory,size)
+$(call needs,leaf_test,size)$(call needs,memory,$(if $(TARGET),arm-none-eabi-)size)
 $(call needs,counts_test counts,valgrind nm)
 
 ### use it
@@ -62,16 +65,13 @@ unexport CAPTURE
 run: build/bin/line ## print the packets and bad checksums in a capture, by the proved program line
 #- CAPTURE=FILE a capture of your own; - is standard input
 	@sh tools/run_program.sh $< 'end [0-9]+' 'events in' "$${MEDNUKALS_CAPTURE:-examples/capture.bin}"
-
 segment: build/c/segment ## print the same with the offset of each, of a capture of any length, by an example in C
 #- CAPTURE=FILE a capture of your own; - is standard input
 	@$< "$${MEDNUKALS_CAPTURE:-examples/capture.bin}"
-
 old_boards: build/c/old_boards ## print the packets and bad checksums in a capture of Protocol 1.0, by an example in C
 #- CAPTURE=FILE a capture of your own; - is standard input
 #- MERCURY=1 of Mercury
 	@$< $(if $(MERCURY),--mercury) "$${MEDNUKALS_CAPTURE:-examples/old_boards.bin}"
-
 checksum: build/bin/checksum ## print the checksum and byte count of a file, by the proved program checksum
 #- CAPTURE=FILE a file of your own; - is standard input
 	@sh tools/run_program.sh $< '[0-9a-f]{4} [0-9]+' 'checksum and byte count of' "$${MEDNUKALS_CAPTURE:-examples/ping.bin}"
@@ -80,16 +80,17 @@ build/bin/line build/bin/checksum: build/bin/%: $(SOURCES)
 	@$(call need,rt)$(STEP) program-$* 'proving and building the program $*' rt check $*
 	@mkdir -p $(@D) && cp target/bin/$* $@
 
-demo: build/c/board build/c/uart_pty ## run a device in C on a pseudo-terminal, talk to it and show the exchanges
-	@sh examples/demo.sh $< || $(call failed,the demo)
+demo: $(if $(TARGET),$(BARE_BOARD),build/c/board build/c/uart_pty) ## run a device in C on a pseudo-terminal, talk to it and show the exchanges
+#- TARGET=NAME on an emulated Cortex-M0, thumbv6m, or Cortex-M4, thumbv7em; LEAF=NAME as for make lib
+	@sh $(if $(TARGET),examples/bare/demo.sh $(MACHINE),examples/demo.sh) $< || $(call failed,the demo)
 
 lib: $(MADE_LIBS) ## prove the exports and build the archives that C links, under build/lib
 #- LEAF=small over the small checksum function, for boards with little flash
 #- LEAF=fold over the one without a table, the fastest
+#- TARGET=NAME for another processor, thumbv6m, thumbv7em, rv32imac or i686, under build/lib/NAME
 	@echo 'archives: $^'
 
-# Each crate of crates.txt whose name begins with capi is an object of libmednukals.a; capi_test alone is libmednukals_test.a.
-$(LIB): CRATES := $(filter-out capi_test,$(shell sed -n 's/^\(capi[a-z0-9_]*\):.*/\1/p' crates.txt))
+$(LIB): CRATES := $(EXPORTS)
 build/lib/libmednukals_test.a: CRATES := capi_test
 $(LIBS): $(SOURCES) tools/join.sh
 	@$(call need,rt ar)$(foreach crate,$(CRATES),$(STEP) archive-$(crate) 'proving the exports of $(crate)' rt staticlib $(crate) &&) true
@@ -100,7 +101,6 @@ $(LEAF_LIBS): build/lib/libmednukals_%.a: $(SOURCES) KIT tests/other_leaf.py tes
 	@$(call need,rt python3)$(STEP) archive-$* 'proving the exports over crc16_$* and building $@' python3 tests/other_leaf.py crc16_$* build/$*
 	@mkdir -p $(@D) && cp build/$*/libmednukals.a $@
 $(LEAVES:%=build/%/libmednukals_test.a): build/%/libmednukals_test.a: build/lib/libmednukals_%.a ;
-
 dxl: build/c/dxl ## build the tool dxl, for captures, line logs and plans of goals on a bench computer: build/c/dxl
 	@echo 'the tool: $<'
 
@@ -108,15 +108,17 @@ dxl: build/c/dxl ## build the tool dxl, for captures, line logs and plans of goa
 install: export MEDNUKALS_PREFIX := $(if $(value PREFIX),$(value PREFIX),/usr/local)
 install: export MEDNUKALS_DESTDIR := $(value DESTDIR)
 unexport PREFIX DESTDIR
-install: $(LIB) build/c/dxl ## put header, archive, dxl and a pkg-config file below /usr/local
+install: $(if $(TARGET)$(LEAF),$(firstword $(MADE_LIBS)),$(LIB) build/c/dxl) ## put header, archive, dxl and a pkg-config file below /usr/local
 #- PREFIX=DIR below that folder
 #- DESTDIR=DIR staged below that one, for a package
-	@sh tools/install.sh include/mednukals.h $^ "$$MEDNUKALS_PREFIX" "$$MEDNUKALS_DESTDIR"
+#- LEAF=NAME header, archive and pkg-config file over the checksum function small or fold
+#- TARGET=NAME the same for another processor, with the text that says what of it is proved
+	@sh tools/install.sh include/mednukals.h "$$MEDNUKALS_PREFIX" "$$MEDNUKALS_DESTDIR" '$(TARGET)' $^
 
 ### prove and test it
 
 # rt ci comes last: it removes target/, and its count is the last line. The tests that link the archives run beside it.
-test: kit format promises_test constants_test vectors_test make_test ## the gate: every proof from nothing, every must-fail edit, and all that follows down to leaf_test
+test: kit format promises_test constants_test vectors_test make_test ## the gate: every proof from nothing, every must-fail edit, and all that follows down to targets_test
 	@python3 tests/gate.py rt ci
 
 # Another kit may prove the same crates, so a difference is only said.
@@ -154,8 +156,7 @@ header_test: $(LIBS) build/c/header_c99 build/c/header_cxx11 build/c/empty ## th
 	@$(STEP) header 'header as C99 and as C++11' sh -c 'build/c/header_c99 && build/c/header_cxx11 && build/c/empty'
 	@$(STEP) header_alone 'header without a C library' sh -c '$(call alone,$(C99),c) && $(call alone,$(CXX11),c++)'
 	@$(STEP) check_header 'header beside the archive' python3 tests/check_header.py include/mednukals.h $(LIB)
-
-install_test: $(LIB) build/c/dxl ## make install, and the version
+install_test: $(LIB) build/c/dxl build/lib/libmednukals_fold.a build/lib/thumbv6m/libmednukals_fold.a ## make install, and the version
 	@$(STEP) install_test 'make install, a program with what is there, the version' python3 tests/install_test.py $(CC) $^
 docs_test: $(LIB) ## links, commands and code in the documents
 	@$(STEP) docs_test 'documents: links, commands and code' python3 tests/docs_test.py $(CC) $<
@@ -180,23 +181,23 @@ leaf_test: $(LIBS) $(LEAF_LIBS) build/bin/line ## the exports over the other che
 	    python3 tests/check_header.py include/mednukals.h build/lib/libmednukals_$(leaf).a &&) true
 	@$(foreach leaf,$(LEAVES),$(STEP) $(leaf)-rust 'archive over crc16_$(leaf) beside the second implementation' \
 	    env MEDNUKALS_ARCHIVES=build/$(leaf) sh -c 'cd tests && exec cargo test --release --offline --quiet --package compare $(SUMMED)' &&) true
+targets_test: $(LIB) $(LEAF_LIBS) $(PROCESSOR_LIBS) ## the library on four other processors, emulated: the same as for x86-64, byte for byte
+	@python3 tests/targets_test.py --missing
+	@$(STEP) targets_test 'the library on other processors' python3 tests/targets_test.py build build/lib
 
 # Ends at the first difference, with a file under build/fuzz that replays it. The same seed gives the same cases.
 SECONDS ?= 600
-fuzz: $(FUZZ) ## the same on random cases, for ten minutes
+fuzz: $(FUZZ) ## the second implementation on random cases, for ten minutes
 #- SECONDS=N for so long
 #- SEED=S the cases of an earlier run
 	@$< --seconds '$(SECONDS)' $(if $(SEED),--seed '$(SEED)') || { status=$$?; \
 	    [ $$status -lt 128 ] || echo 'mednukals: the search crashed; $< with the options in build/fuzz/running-SEED.txt' \
 	        'prints the case for make replay' >&2; exit $$status; }
-
 replay: replay_file $(FUZZ) ## FILE=FILE run a case again in which make fuzz has found a difference
 	@$(FUZZ) --replay '$(FILE)'
-
 replay_file:
 	@[ -n '$(FILE)' ] || { echo 'mednukals: make replay FILE=build/fuzz/difference-SEED-CASE.txt' >&2; exit 1; }
 	@[ -f '$(FILE)' ] || { echo 'mednukals: there is no file $(FILE)' >&2; exit 1; }
-
 $(FUZZ): $(LIBS)
 	@$(STEP) fuzz_program 'building the search for differences' sh -c 'cd tests && exec cargo build --release --offline --quiet --bin fuzz'
 
@@ -221,10 +222,11 @@ counts: build/c/counts$(if $(PLAIN),_plain,$(OVER)) ## count the instructions th
 #- PLAIN=1 of the plain C that the benchmark has beside them: printed likewise
 	@python3 tests/counts_test.py $(if $(PLAIN)$(LEAF),--print,--write) $< $(if $(PLAIN),$(PLAIN_OBJECTS)) $(MADE_LIBS) || $(call failed,the counts)
 
-memory: build/c/memory$(OVER) build/c/stack$(OVER) ## records, answers, stack depths and the archive's size
+memory: $(if $(TARGET),$(MADE_LIBS),build/c/memory$(OVER) build/c/stack$(OVER)) ## records, answers, stack depths and the archive's size
 #- LEAF=NAME likewise
-	@build/c/memory$(OVER) && build/c/stack$(OVER) || $(call failed,the memory figures)
-	@echo 'the archive that firmware links, in bytes' && size -t $(firstword $(MADE_LIBS))
+#- TARGET=NAME of a board with thumbv6m or thumbv7em: text, stack and instructions, beside plain C
+	@$(if $(TARGET),python3 tools/targets/measure.py $(TARGET) $<,build/c/memory$(OVER) && build/c/stack$(OVER)) || $(call failed,the memory figures)
+	@echo 'the archive that firmware links, in bytes' && $(if $(TARGET),arm-none-eabi-)size -t $(firstword $(MADE_LIBS))
 
 ### keep it tidy
 

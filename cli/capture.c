@@ -137,14 +137,14 @@ static const char *digits_of(const char *token)
     return n == 1 || (n > 0 && n % 2 == 0) ? digits : NULL;
 }
 
-/* A time in seconds, as decimal number; whether it is one. */
+/* A time in seconds, as decimal number; whether it is one. Differences of two, in nanoseconds, fit into 64 bits. */
 static int parse_time(const char *token, int64_t *time)
 {
     char *end;
     if (token[strspn(token, "0123456789.+-eE")] != 0)
         return 0;
     long double seconds = strtold(token, &end);
-    if (end == token || *end != 0 || !(seconds > -9e9L && seconds < 9e9L))
+    if (end == token || *end != 0 || !(seconds > -4e9L && seconds < 4e9L))
         return 0;
     *time = (int64_t)(seconds * 1e9L + (seconds < 0 ? -0.5L : 0.5L));
     return 1;
@@ -213,15 +213,15 @@ static int next_token(struct capture *capture)
     return n < TOKEN ? 1 : wrong_line(capture, "a longer word than a time or bytes in hex");
 }
 
-/* Whether the first token says what the text is: two digits are a byte, any other number is a time. */
+/* Whether the first token says what the text is: pairs of digits are bytes, any other number is a time. */
 static int decides(struct capture *capture)
 {
     const char *digits = digits_of(capture->token);
     int64_t time;
-    if (digits != NULL && strlen(digits) >= 2)
-        return 1;
-    capture->timed = parse_time(capture->token, &time);
-    return capture->timed;
+    int bytes = digits != NULL && strlen(digits) >= 2;
+    capture->timed = !bytes && parse_time(capture->token, &time);
+    capture->decided = bytes || capture->timed;
+    return capture->decided;
 }
 
 /* Words in the first line are a heading. */
@@ -251,28 +251,26 @@ static int take_time(struct capture *capture)
     return 1;
 }
 
-/* The next token of bytes, with digit at its first one: 1, NOTHING_LEFT or UNREADABLE. */
+/* The next token of bytes, with digit at its first one: 1, NOTHING_LEFT or UNREADABLE. A line may have a time and no bytes. */
 static int next_bytes(struct capture *capture)
 {
-    for (;;) {
-        int first = capture->line == 0 && capture->field == 0 && !capture->begun;
-        int answer = next_token(capture);
-        if (answer == 1 && first)
-            answer = begin_text(capture);
-        if (answer == 1 && capture->timed && capture->field == 0)
-            answer = take_time(capture);
-        else if (answer == 1) {
-            const char *digits = digits_of(capture->token);
-            if (digits == NULL)
-                return wrong_line(capture, "not bytes in hex");
-            capture->digit = (size_t)(digits - capture->token);
-            capture->field++;
-            return 1;
-        }
-        if (answer != 1)
-            return answer;
+    int answer = next_token(capture);
+    if (answer == 1 && !capture->decided)
+        answer = begin_text(capture);
+    while (answer == 1 && capture->timed && capture->field == 0) {
+        answer = take_time(capture);
         capture->field++;
+        if (answer == 1)
+            answer = next_token(capture);
     }
+    if (answer != 1)
+        return answer;
+    const char *digits = digits_of(capture->token);
+    if (digits == NULL)
+        return wrong_line(capture, "not bytes in hex");
+    capture->digit = (size_t)(digits - capture->token);
+    capture->field++;
+    return 1;
 }
 
 /* The next byte of the text, with its time in capture->time; NOTHING_LEFT or UNREADABLE. */

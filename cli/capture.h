@@ -18,6 +18,7 @@ struct capture {
     const char *name;
     int file;          /* -1 where the bytes are in memory */
     int text, timed;   /* hex in lines; and each line begins with a time */
+    int decided;       /* whether it does is known */
     int64_t gap, byte_time;
     const uint8_t *at; /* what was read, or the memory */
     size_t left;

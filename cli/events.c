@@ -13,11 +13,13 @@ struct exchange {
     const char *name;
     uint64_t offset;
     int64_t ended;
-    uint8_t waits[IDS];    /* who has not answered yet */
+    uint8_t answers[IDS];  /* who has not answered yet: NOBODY, or one of the two below it */
     uint32_t address[IDS]; /* what each was asked for */
     uint32_t count[IDS];
-    int all;               /* a Ping to all devices: anyone may answer */
 };
+
+/* Who is there to answer a Ping to all devices is not known. */
+enum { NOBODY, HAS_TO, MAY };
 
 /* The last bad checksum, which may be answered too, and may stand for a reply. */
 struct bad {
@@ -42,7 +44,7 @@ static void ask(struct exchange *exchange, unsigned id, uint32_t address, uint32
 {
     if (id >= DXL_BROADCAST_ID)
         return;
-    exchange->waits[id] = 1;
+    exchange->answers[id] = HAS_TO;
     exchange->address[id] = address;
     exchange->count[id] = count;
 }
@@ -75,7 +77,8 @@ static void begin_exchange(const struct protocol *protocol, struct exchange *exc
             count += meaning->fields[i].count;
         ask(exchange, item->id, first, count);
     } else if (is_second(protocol)) {
-        exchange->all = meaning->code == DXL_INST_PING;
+        if (meaning->code == DXL_INST_PING && meaning->n_data == 0)
+            memset(exchange->answers, MAY, DXL_BROADCAST_ID);
         if (meaning->code == DXL_INST_SYNC_READ || meaning->code == DXL_INST_BULK_READ)
             ask_list(exchange, meaning);
     }
@@ -112,12 +115,12 @@ static void pair(struct teller *teller, struct event *event)
         event->asked_name = "bad checksum";
         event->delay = event->item->first - bad->ended;
         bad->there = 0;
-    } else if (exchange->waits[id] || exchange->all) {
+    } else if (exchange->answers[id] != NOBODY) {
         event->answers = TO_INSTRUCTION;
         event->asked = exchange->offset;
         event->asked_name = exchange->name;
         event->delay = event->item->first - exchange->ended;
-        exchange->waits[id] = 0;
+        exchange->answers[id] = NOBODY;
         find_data(teller->protocol, exchange, id, &teller->meaning);
     }
 }
@@ -135,13 +138,13 @@ static int tell_missing(struct teller *teller, uint64_t offset, int64_t until)
     struct exchange *exchange = &teller->exchange;
     int goes_on = 1;
     for (int id = 0; id < IDS && goes_on; id++) {
-        if (!exchange->waits[id] || !teller->totals->timed)
+        if (exchange->answers[id] != HAS_TO || !teller->totals->timed)
             continue;
         struct event event = {.offset = offset, .id = id, .asked = exchange->offset, .asked_name = exchange->name, .time = until};
         event.delay = until - exchange->ended;
         event.damaged = teller->bad.there && teller->bad.id == id && teller->bad.offset > exchange->offset;
         event.damaged_at = teller->bad.offset;
-        exchange->waits[id] = 0;
+        exchange->answers[id] = NOBODY;
         teller->totals->missing++;
         goes_on = tell(teller, &event);
     }
@@ -155,7 +158,7 @@ static int hear_packet(struct teller *teller, struct event *event)
     teller->totals->packets++;
     event->meaning = meaning;
     find_meaning(teller->protocol, item->bytes, item->n, meaning);
-    if (!is_second(teller->protocol) && teller->exchange.waits[item->id])
+    if (!is_second(teller->protocol) && teller->exchange.answers[item->id] != NOBODY)
         take_as_status(meaning);
     if (meaning->status) {
         pair(teller, event);

@@ -30,31 +30,39 @@ static int asks_for_help(const char *word)
 
 /* ---- numbers */
 
-const char *parse_number(const char *word, uint32_t *number)
+enum fault { GOOD, IN_HEX, NO_NUMBER, TOO_LARGE };
+
+static enum fault read_number(const char *word, uint32_t *number)
 {
     uint64_t value = 0;
     size_t n = strlen(word);
     if (strncmp(word, "0x", 2) == 0 || strncmp(word, "0X", 2) == 0)
-        return "numbers are given in decimal";
+        return IN_HEX;
     if (n == 0 || strspn(word, "0123456789") != n)
-        return "not a number";
+        return NO_NUMBER;
     for (size_t i = 0; i < n; i++)
         value = value > UINT32_MAX ? value : value * 10 + (unsigned)(word[i] - '0');
     *number = (uint32_t)value;
-    return value > UINT32_MAX ? "too large" : NULL;
+    return value > UINT32_MAX ? TOO_LARGE : GOOD;
+}
+
+const char *parse_number(const char *word, uint32_t *number)
+{
+    static const char *const faults[] = {NULL, "numbers are given in decimal", "not a number", "too large"};
+    return faults[read_number(word, number)];
 }
 
 const char *parse_id(const char *word, uint8_t *id)
 {
-    uint32_t value;
-    const char *why = parse_number(word, &value);
-    if (why != NULL && strcmp(why, "too large") != 0)
-        return why[0] == 'n' && why[1] == 'u' ? "an ID is given in decimal: 0 to 252, or 254 for all devices"
-                                              : "not a number; an ID is 0 to 252, or 254 for all devices";
-    if (why != NULL || value > 255)
-        return "not an ID: 0 to 252, or 254 for all devices";
+    static const char *const faults[] = {NULL, "an ID is given in decimal: 0 to 252, or 254 for all devices",
+                                         "not a number; an ID is 0 to 252, or 254 for all devices",
+                                         "not an ID: 0 to 252, or 254 for all devices"};
+    uint32_t value = 0;
+    enum fault fault = read_number(word, &value);
+    if (fault == GOOD && value > 255)
+        fault = TOO_LARGE;
     *id = (uint8_t)value;
-    return NULL;
+    return faults[fault];
 }
 
 /* ---- options */
@@ -77,8 +85,8 @@ static const char *set_value(const char *name, const char *value, struct options
     why = parse_number(value, &number);
     if (strcmp(name, "--gap=") == 0)
         options->gap = (int64_t)number * 1000;
-    else if (why == NULL && number == 0)
-        return "a line has some speed";
+    else if (why == NULL && number < 300)
+        return "a line has 300 bits per second or more";
     else if (why == NULL)
         options->byte_time = (INT64_C(10000000000) + number / 2) / number; /* ten bits */
     return why;

@@ -17,7 +17,8 @@
  *
  * Tested, or read off the code, but not proved: No function keeps state, allocates, locks or blocks. Calls on different memory may
  * run at the same time, in several threads and in interrupt handlers; two calls on one board, reader or table may not. No function
- * calls itself, so stack use is bounded. The three inline functions are C. Nothing is proved about time. The archive is for x86-64.
+ * calls itself, so stack use is bounded. The three inline functions are C. Nothing is proved about time. The archives for x86-64 are
+ * meant here; beside one for another processor stands a text that says what of it is proved and what is believed.
  */
 
 /*

@@ -25,15 +25,20 @@ from pathlib import Path
 
 from archives import FIRMWARE, TESTS as FOR_TESTS, archives, join
 
+sys.path.append(str(Path(__file__).resolve().parent.parent / "tools/targets"))
+from record import recording
+
 LOG = Path("build/log/rt-ci.log")
 KEPT = ["rlib", "obj", "bin", "log", "stamp"]  # of target/: what rt goes by to see that a crate is proved
 PROGRAMS = ["line", "checksum"]
 TESTS = ["c_test", "header_test", "install_test", "docs_test", "programs_test", "cli_test", "show_test", "demo_test", "counts_test",
-         "rust_test", "leaf_test"]
+         "rust_test", "leaf_test", "targets_test"]
+MODULES = Path("build/table")  # what the compiler is handed for the archives; targets_test begins with it
 # what the tests link is there: make must not call rt in this tree beside the command
 MADE = [f"build/lib/{archive}" for archive in (FIRMWARE, FOR_TESTS)] + [f"build/bin/{program}" for program in PROGRAMS]
-OTHERS = [Path(f"build/lib/libmednukals_{leaf}.a") for leaf in ("small", "fold")]  # those of an earlier run say nothing of this tree
-LINKED = Path("build/c")  # likewise, and make would not link them anew: to it the archives are old
+# Those of an earlier run say nothing of this tree, and make would not build some of them anew: to it what they are made of is old.
+OTHERS = ["build/lib/libmednukals_*.a", "build/lib/*/*.a"]
+LINKED = Path("build/c")
 MOST_LINES, MOST_CHARACTERS = 40, 500  # of what a failed proof says
 CHECKS = str(2 * (os.cpu_count() or 1))  # at a time
 
@@ -43,20 +48,27 @@ def say(label, seconds):
     print(f"{label:<64}{seconds:>6} s", flush=True)
 
 
+def archived(crate, room):
+    """Builds the exports of one crate, and keeps their module. Answers what is wrong."""
+    with recording(MODULES / f"{crate}.bc") as home:
+        made = subprocess.run(["rt", "staticlib", crate], cwd=room, env={**os.environ, "RATTLE_HOME": str(home)},
+                              capture_output=True, text=True, check=False)
+    return f"the archive of {crate}: {made.stdout[-2000:]}{made.stderr[-2000:]}" if made.returncode != 0 else ""
+
+
 def linked(room):
     """Archives and programs under build/, from what is proved."""
     shutil.copytree("crates", room / "crates")
     shutil.copy("crates.txt", room)
     for part in KEPT:
         shutil.copytree(Path("target") / part, room / "target" / part)
-    Path("build/lib").mkdir(parents=True, exist_ok=True)
-    Path("build/bin").mkdir(parents=True, exist_ok=True)
+    for folder in ("build/lib", "build/bin", MODULES):
+        Path(folder).mkdir(parents=True, exist_ok=True)
     for archive, crates in archives((room / "crates.txt").read_text(encoding="utf-8")).items():
         began = time.monotonic()
         for crate in crates:
-            made = subprocess.run(["rt", "staticlib", crate], cwd=room, capture_output=True, text=True, check=False)
-            if made.returncode != 0:
-                return f"the archive of {crate}: {made.stdout[-2000:]}{made.stderr[-2000:]}"
+            if fault := archived(crate, room):
+                return fault
         join(Path("build/lib") / archive, [room / "target" / "staticlib" / f"lib{crate}.a" for crate in crates])
         say(f"build/lib/{archive}", round(time.monotonic() - began))
     for program in PROGRAMS:
@@ -81,9 +93,9 @@ class Tests(threading.Thread):
 
     def targets(self):
         """The tests by make, whose lines are handed on as they come."""
-        old = [f"--old-file={file}" for file in MADE]
-        for archive in OTHERS:
-            archive.unlink(missing_ok=True)
+        old = [f"--old-file={file}" for file in [*MADE, *MODULES.glob("*.bc")]]
+        for archive in [path for pattern in OTHERS for path in Path().glob(pattern) if str(path) not in MADE]:
+            archive.unlink()
         shutil.rmtree(LINKED, ignore_errors=True)
         make = subprocess.Popen(["make", "--no-print-directory", *old, *TESTS], stdout=subprocess.PIPE, stderr=subprocess.STDOUT,
                                 text=True, env={**os.environ, "RT_JOBS": "1", "TMPDIR": self.temporary})  # leaf_test proves crates

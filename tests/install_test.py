@@ -1,5 +1,7 @@
 """Installs the library and links a program with what is there, and holds the version to CHANGELOG.md: usage install_test.py CC
-ARCHIVE DXL, in the repository's root
+ARCHIVE DXL LEAF_ARCHIVE TARGET_ARCHIVE, in the repository's root
+
+LEAF_ARCHIVE is that over crc16_fold, and TARGET_ARCHIVE the same for another processor, in a folder with the processor's name.
 """
 import os
 import re
@@ -13,11 +15,16 @@ from pathlib import Path
 
 import suite
 
-CC, ARCHIVE, DXL = sys.argv[1:] if len(sys.argv) == 4 else ("", "", "")
+CC, ARCHIVE, DXL, LEAF_ARCHIVE, TARGET_ARCHIVE = sys.argv[1:] if len(sys.argv) == 6 else [""] * 5
+TARGET = Path(TARGET_ARCHIVE).parent.name
 HEADER = Path("include/mednukals.h")
 PATIENCE = 60  # seconds for one command
 FILES = {"bin/dxl": Path(DXL), "include/mednukals.h": HEADER, "lib/libmednukals.a": Path(ARCHIVE),
          "lib/pkgconfig/mednukals.pc": None}
+OF_LEAF = {"include/mednukals.h": HEADER, "lib/libmednukals_fold.a": Path(LEAF_ARCHIVE), "lib/pkgconfig/mednukals_fold.pc": None}
+OF_TARGET = {"include/mednukals.h": HEADER, f"lib/{TARGET}/libmednukals_fold.a": Path(TARGET_ARCHIVE),
+             f"lib/{TARGET}/libmednukals_fold.txt": Path(TARGET_ARCHIVE).with_suffix(".txt"),
+             f"lib/{TARGET}/pkgconfig/mednukals_fold.pc": None}
 
 
 def run(*words, **environment):
@@ -30,7 +37,8 @@ def run(*words, **environment):
 
 
 def install(*words):
-    return run("make", "--no-print-directory", "-o", ARCHIVE, "-o", DXL, "install", *words)
+    made = [word for file in (ARCHIVE, DXL, LEAF_ARCHIVE, TARGET_ARCHIVE) for word in ("-o", file)]
+    return run("make", "--no-print-directory", *made, "install", *words)
 
 
 def version():
@@ -46,11 +54,11 @@ def fields(path):
     return dict(re.findall(r"^(\w+): (.*)$", text, flags=re.M))
 
 
-def flags(folder):
+def flags(folder, name="mednukals"):
     """What a compiler needs, by pkg-config where it is there."""
     if shutil.which("pkg-config"):
-        return shlex.split(run("pkg-config", "--cflags", "--libs", "mednukals", PKG_CONFIG_PATH=str(folder)))
-    found = fields(folder / "mednukals.pc")
+        return shlex.split(run("pkg-config", "--cflags", "--libs", name, PKG_CONFIG_PATH=str(folder)))
+    found = fields(folder / f"{name}.pc")
     return shlex.split(f"{found['Cflags']} {found['Libs']}")
 
 
@@ -65,15 +73,38 @@ class Install(unittest.TestCase):
                 run(CC, "-std=c99", "-o", program, "tests/c/header.c", *flags(prefix / "lib/pkgconfig"))
                 self.assertEqual(run(program), f"{version()} {version()}\n")
 
-    def hold(self, prefix):
+    def hold(self, prefix, files=FILES):
         """All files are there, as they should be, and no other."""
         there = {str(path.relative_to(prefix)) for path in prefix.rglob("*") if path.is_file()}
-        self.assertEqual(there, set(FILES))
-        for name, source in FILES.items():
+        self.assertEqual(there, set(files))
+        for name, source in files.items():
             self.assertEqual((prefix / name).stat().st_mode & 0o777, 0o755 if name.startswith("bin/") else 0o644)
-            if source is not None:
+            if source is None:
+                self.assertEqual(fields(prefix / name)["Version"], version())
+            else:
                 self.assertEqual((prefix / name).read_bytes(), source.read_bytes())
-        self.assertEqual(fields(prefix / "lib/pkgconfig/mednukals.pc")["Version"], version())
+
+    def test_a_leaf(self):
+        with tempfile.TemporaryDirectory() as folder:
+            install(f"PREFIX={folder}", "LEAF=fold")
+            self.hold(Path(folder), OF_LEAF)
+            program = str(Path(folder, "program"))
+            run(CC, "-std=c99", "-o", program, "tests/c/header.c", *flags(Path(folder, "lib/pkgconfig"), "mednukals_fold"))
+            self.assertEqual(run(program), f"{version()} {version()}\n")
+
+    def test_another_processor(self):
+        """The text names the archive, the processor and the kit, and says what is proved and what is believed."""
+        with tempfile.TemporaryDirectory() as folder:
+            self.assertIn(f"lib/{TARGET}/libmednukals_fold.txt", install(f"PREFIX={folder}", f"TARGET={TARGET}", "LEAF=fold"))
+            self.hold(Path(folder), OF_TARGET)
+            lib = Path(folder, "lib", TARGET)
+            self.assertEqual(fields(lib / "pkgconfig/mednukals_fold.pc")["Libs"], f'-L"{lib}" -lmednukals_fold')
+            text = (lib / "libmednukals_fold.txt").read_text(encoding="utf-8")
+            self.assertIn(f"libmednukals_fold.a for {TARGET}: ", text)
+            self.assertIn(run("rt", "version").strip(), text)
+            self.assertNotIn("@", text)
+            for part in ("Proved, by this kit:", "Believed besides, and tested"):
+                self.assertIn(part, text)
 
     def test_destdir(self):
         with tempfile.TemporaryDirectory() as folder:
@@ -121,4 +152,4 @@ class Version(unittest.TestCase):
 
 
 if __name__ == "__main__":
-    sys.exit(suite.run(usage=None if CC else "install_test.py CC ARCHIVE"))
+    sys.exit(suite.run(usage=None if CC else "install_test.py CC ARCHIVE DXL LEAF_ARCHIVE TARGET_ARCHIVE"))

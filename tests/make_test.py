@@ -13,6 +13,9 @@ from pathlib import Path
 import suite
 from counts_test import HEAD
 
+sys.path.append("tools/targets")
+from record import COMPILER
+
 ROOT = Path.cwd()
 INSIDE = {"replay_file"}  # targets that nobody asks for
 PATIENCE = 60  # seconds for one command
@@ -39,6 +42,10 @@ proofs, edits and tests, together
 6 passed, 0 failed
 """
 BESIDE = "build/lib/libmednukals.a\nbuild/lib/libmednukals_test.a\nall tests\n"
+
+STATICLIB = f"""mkdir -p target/staticlib && : >$2.o && ar qc target/staticlib/lib$2.a $2.o
+echo the module of $2 >module.bc && [ "$("$RATTLE_HOME/{COMPILER}" -x ir module.bc)" = compiled ]
+"""
 
 VALGRIND = """for word; do
     case $word in --callgrind-out-file=*) out=${word#*=};; esac
@@ -147,14 +154,19 @@ class Commands(unittest.TestCase):
         line, *rest = errors.splitlines()
         self.assertRegex("\n".join(rest), r"\A(make: \*\*\* \[.*\] Error 1)?\Z")
         self.assertFalse((self.folder / "build").exists())
-        return re.sub(r"^(?:Makefile:\d+|make): \*\*\* (.*)\.  Stop\.$", r"\1", line)
+        return re.sub(r"^(?:[\w./]+:\d+|make): \*\*\* (.*)\.  Stop\.$", r"\1", line)
 
     def test_unknown(self):
         self.assertEqual(self.why("nothing"), "No rule to make target 'nothing'")
         self.assertEqual(self.why("build/c/nothing"), "mednukals: the Makefile names no sources of build/c/nothing")
         self.assertEqual(self.why("lib", "LEAF=none"), "mednukals: LEAF=none: only LEAF=small LEAF=fold are known")
         self.assertEqual(self.why("c_test", "bench", "LEAF=small"),
-                         "mednukals: LEAF is for make lib, make bench, make counts and make memory")
+                         "mednukals: LEAF is for make lib, make install, make bench, make counts and make memory")
+        self.assertEqual(self.why("lib", "TARGET=none"),
+                         "mednukals: TARGET=none: only TARGET=thumbv6m TARGET=thumbv7em TARGET=rv32imac TARGET=i686 are known")
+        self.assertEqual(self.why("test", "TARGET=i686"), "mednukals: TARGET is for make lib, make install, make demo and make memory")
+        self.assertEqual(self.why("demo", "TARGET=i686"),
+                         "mednukals: make demo and make memory are for TARGET=thumbv6m and TARGET=thumbv7em")
         self.assertEqual(self.why("replay", "FILE=no where"), "mednukals: there is no file no where")
 
     def test_a_variable_is_missing(self):
@@ -240,21 +252,26 @@ class Step(unittest.TestCase):
 class Gate(unittest.TestCase):
     """gate.py with stand-ins for rt and make, in a folder of its own."""
 
-    def gate(self, text, status=0, make="[ -e build/c ] || echo all tests",
-             rt="mkdir -p target/staticlib && : >$2.o && ar qc target/staticlib/lib$2.a $2.o"):
+    def gate(self, text, status=0, make="[ -e build/c ] || [ -e build/lib/earlier/libmednukals.a ] || echo all tests",
+             rt=STATICLIB):
         with tempfile.TemporaryDirectory() as folder:
             made = [f"target/{part}" for part in ("rlib", "obj", "bin", "log", "stamp")]
-            for part in ["crates", "build/c/of_an_earlier_run", *made]:
+            for part in ["crates", "build/c/of_an_earlier_run", "build/lib/earlier", COMPILER.parent, *made]:
                 Path(folder, part).mkdir(parents=True)
-            for file in ["target/bin/line", "target/bin/checksum"]:
+            for file in ["target/bin/line", "target/bin/checksum", "build/lib/earlier/libmednukals.a"]:
                 Path(folder, file).touch()
             Path(folder, "crates.txt").write_text(CRATES, encoding="utf-8")
             Path(folder, "said").write_text(text, encoding="utf-8")
             path = stand_ins(folder, {"rt": rt, "make": make, "ci": f"cat said; sleep 0.2; exit {status}"})
-            code, output, errors = run(sys.executable, str(ROOT / "tests/gate.py"), "ci", cwd=folder, env={**os.environ, "PATH": path})
+            compiler = Path(folder, COMPILER)
+            compiler.write_text("#!/bin/sh\necho compiled\n", encoding="utf-8")
+            compiler.chmod(0o755)
+            places = {**os.environ, "PATH": path, "RATTLE_HOME": folder}
+            code, output, errors = run(sys.executable, str(ROOT / "tests/gate.py"), "ci", cwd=folder, env=places)
             self.assertEqual(Path(folder, "build/log/rt-ci.log").read_text(encoding="utf-8"), text)
             if code == 0:
                 self.assertEqual(run("ar", "t", f"{folder}/build/lib/libmednukals.a")[1], "capi.o\ncapi_other.o\n")
+                self.assertEqual(Path(folder, "build/table/capi.bc").read_text(encoding="utf-8"), "the module of capi\n")
             return code, untimed(output), errors
 
     def test_good(self):

@@ -2,14 +2,13 @@
 
 All leaves make the same promise to the letter. A copy of the tree is made outside the repository, in which the callers of the leaf
 `crc16` name LEAF instead: in their sources, their proofs and crates.txt, and nothing else. There the callers are proved over it, and
-the exports again, and the archives of the exports go to FOLDER.
+the exports again, and the archives of the exports go to FOLDER, with the modules that the compiler was handed: CRATE.bc.
 
 The crates between the callers and the exports rest on what the callers promise and not on their code. So the archives are built from
 these as they were proved over the first leaf: by `rattle build` itself, since `rt` goes by files alone. `rattle` takes a module of
 theirs, proofs included, as it was checked only where all that it rests on is as it was then, and checks every other one again; how
 many of either there are is printed.
 """
-import os
 import platform
 import re
 import shutil
@@ -19,6 +18,9 @@ import tempfile
 from pathlib import Path
 
 from archives import archives, join
+
+sys.path.append(str(Path(__file__).resolve().parent.parent / "tools/targets"))
+from record import recording
 
 LEAF = "crc16"
 KEPT = ["rlib", "stamp"]  # of target/: what rt goes by to see that a crate is proved
@@ -69,15 +71,14 @@ def run(words, room):
     return made.stdout
 
 
-def build(room, crate, stands_on, archive):
+def build(home, room, crate, stands_on):
     """Proves and builds an export crate over the libraries in the copy's target/, as `rt staticlib` does. Answers what is said."""
-    home = Path(os.environ.get("RATTLE_HOME") or Path(shutil.which("rt")).resolve().parent.parent)
     own = home / "on" / platform.machine()
     libraries = {"std": own / "rlib" / "std.rlib", **{name: room / "target" / "rlib" / f"{name}.rlib" for name in stands_on[crate]}}
     words = [word for name, library in libraries.items() for word in ("--extern", f"{name}={library}")]
     words += [word for folder in (room / "target" / "rlib", own / "rlib") for word in ("-L", f"dependency={folder}")]
     words += ["--antt-project", home / "logic" / "antt-project.json", "--logic-built", own / "logic-built"]
-    words += ["--toolchain", own / "toolchain", "--crate-type", "staticlib", "-o", archive]
+    words += ["--toolchain", own / "toolchain", "--crate-type", "staticlib", "-o", room / f"lib{crate}.a"]
     return run([own / "bin" / "rattle", "build", "--crate-name", crate, f"crates/{crate}/src/lib.rt", *words], room)
 
 
@@ -103,7 +104,8 @@ def main(leaf, folder):
         proved = set(re.findall(r"^rt: (\w+) proved \(\d+ s\)", said, flags=re.M))
         modules = {"loaded": 0, "checked": 0}
         for crate in sorted(exports):
-            said = build(room, crate, stands_on, room / f"lib{crate}.a")
+            with recording(folder / f"{crate}.bc") as home:
+                said = build(home, room, crate, stands_on)
             if re.search(r"^logic=proved ", said, flags=re.M):
                 proved.add(crate)
             for library in re.findall(r"^library \w+: modules loaded=(\d+) checked=(\d+)", said, flags=re.M):

@@ -344,6 +344,8 @@ class Meaning(Folder):
                 ([READ_POSITION, status(1, 0, b"\1\2")], ["Status: ok; 01 02 (not as many bytes of data as were asked for) [to the Read at 0]"]),
                 ([packet(1, PING), status(1, 0, b"\1")], ["Status: ok; 01 (not as many bytes of data as were asked for) [to the Ping at 0]"]),
                 ([packet(254, PING), status(1, 0, MODEL), status(7, 0, MODEL)], ["Status: ok; model number = 1030, firmware version = 38 [to the Ping at 0]"] * 2),
+                ([packet(254, PING), status(1), status(1)], ["Status: ok [to the Ping at 0]", nothing()]),
+                ([packet(254, PING, b"\1"), status(1)], [nothing()]),
                 ([sync, status(1, 0, b"\0"), status(2, 0x80, b"\1"), status(3, 0, b"\1")],
                  ["Status: ok; lamp = 0 [to the Sync Read at 0]", "Status: ok, alert (hardware error is not 0); lamp = 1 [to the Sync Read at 0]", nothing("; 01")]),
                 ([bulk, status(1, 0, word(-2, 4)), status(2, 0, b"\1")],
@@ -379,6 +381,7 @@ class Times(Folder):
         plain = "".join(f"{data.hex(' ')}\n" for _, data in self.LINES)
         self.assertEqual(self.words(plain), [said.replace(", 0.500 ms later", "") for said in self.SAID])
         self.assertEqual(self.words("-0.5 " + packet(1, PING).hex(" "))[0][-6:], "1 Ping")
+        self.assertEqual(self.timed("7 00\n\n8\n12\n12 " + packet(1, PING).hex(" "))[1], ("12.000000", "> ID 1 Ping"))
 
     # [L14]
     def test_wrong_text(self):
@@ -519,7 +522,7 @@ class Options(Folder):
                             (["--gap", "-1", "f"], "--gap -1: not a number"),
                             (["--gap", "0x1", "f"], "--gap 0x1: numbers are given in decimal"),
                             (["--gap", "9999999999", "f"], "--gap 9999999999: too large"),
-                            (["--baud", "0", "f"], "--baud 0: a line has some speed"),
+                            (["--baud", "299", "f"], "--baud 299: a line has 300 bits per second or more"),
                             (["--hex=1", "f"], "--hex=1: no such option; a file of this name is given with ./ before it"),
                             (["--hexx", "f"], "--hexx: no such option; a file of this name is given with ./ before it"),
                             (["--hex"], "show: FILE is missing")]:
@@ -636,7 +639,8 @@ class Timeline(Folder):
         self.assertEqual((page.count("<script>"), page.count("</script>"), page.rstrip()[-7:]), (1, 1, "</html>"))
         about = page.split("const ABOUT =\n")[1].split("\n;\n")[0]
         self.assertIn('name: "examples/wet.txt", timed: true, first: 4000.000', about)
-        self.assertTrue(page.startswith(Path("cli/timeline.html").read_text(encoding="utf-8").split("@EVENTS@")[0]))
+        source = Path("cli/timeline.html").read_text(encoding="utf-8")
+        self.assertEqual((page.startswith(source.split("@EVENTS@\n")[0]), page.endswith(source.split("@ABOUT@\n")[1])), (True, True))
 
     # [L16]
     def test_without_times(self):

@@ -13,6 +13,7 @@ use reader_records::Reader;
 ghost use mathlib.Core.Path.{_≡_};
 ghost use mathlib.Core.List.{_∷_};
 ghost use mathlib.Core.Option.{none};
+ghost use Rattle.answers.specs.Answers.{answered, exported as Answers·exported};
 ghost use Rattle.crc.specs.Crc.{crcFrom};
 ghost use Rattle.crc.specs.Laws.{SumLaws};
 ghost use Rattle.crc.specs.Flips.{flippedSum, Flipped};
@@ -210,21 +211,21 @@ pub extern "C" fn dxl_next_event(segment: &[u8], from: usize) -> EventNumbers
 // [G5 I1-I5 I11-I15 N4 N10-N12 N14 N15]
 #[no_mangle]
 pub extern "C" fn dxl_log_write(bytes: &[u8], lengths: &[u32], out: &mut [u8]) -> i64
-    ensures { λ r. ⌜ r ≡ exported (writeAnswer (now (bytes .entry)) (now (lengths .entry)) (now (out .entry))) ⌝ }
+    ensures { λ r. ⌜ r ≡ Answers·exported (writeAnswer (now (bytes .entry)) (now (lengths .entry)) (now (out .entry))) ⌝ }
     ensures { λ _. ⌜ now (out .exit) ≡ writeOut (now (bytes .entry)) (now (lengths .entry)) (now (out .entry)) ⌝ }
     ensures { λ _. ⌜ WritesSound ⌝ }
 {
-    numbers::log_written(log_writer::write(bytes, lengths, out))
+    answers::exported(log_writer::write(bytes, lengths, out))
 }
 
 // Whether a file is a sound log: 0, or minus a refusal number. That it accepts the sound logs and no others is promised too.
 // [G5 I9 I10 I16 I17 N15 N17]
 #[no_mangle]
 pub extern "C" fn dxl_log_check(file: &[u8]) -> i64
-    ensures { λ r. ⌜ r ≡ exportedRefusal (checkRefusal (now (file .entry))) ⌝ }
+    ensures { λ r. ⌜ r ≡ Answers·exported (answered (checkRefusal (now (file .entry))) 0) ⌝ }
     ensures { λ _. ⌜ SoundExactly ⌝ }
 {
-    numbers::checked(log::check(file))
+    answers::exported(log::check(file))
 }
 
 // The last packet for an ID: its segment and its offset there. On a sound log that is what a reading of every segment gives, and on
@@ -382,11 +383,11 @@ pub extern "C" fn dxl_status(reply: Reply, out: &mut [u8]) -> i64
 // packets, and what devices do that hear one, is promised too. [G5 N4 N19 N20 W1 W2 W6-W8 W10]
 #[no_mangle]
 pub extern "C" fn dxl_plan(goals: &[i32], out: &mut [u8]) -> i64
-    ensures { λ r. ⌜ r ≡ exported (planAnswer (now (goals .entry)) (now (out .entry))) ⌝ }
+    ensures { λ r. ⌜ r ≡ Answers·exported (planAnswer (now (goals .entry)) (now (out .entry))) ⌝ }
     ensures { λ _. ⌜ now (out .exit) ≡ planOut (now (goals .entry)) (now (out .entry)) ⌝ }
     ensures { λ _. ⌜ Planned × PlanCarriedOut ⌝ }
 {
-    numbers::plan_written(plan_writer::write_plan(goals, out))
+    answers::exported(plan_writer::write_plan(goals, out))
 }
 
 // The test of anyone's plan: 1 exactly where the bytes are one, 0 where they are not, or minus a refusal number. What devices do

@@ -11,6 +11,7 @@ use lib.IntN.{ℤ}
 use lib.ListN.{length, replicate}
 use lib.Seq.{take-length}
 use borrow.Author.Tests.{eqb-true, not-true}
+use Rattle.answers.specs.declared.Refusal.{Refusal}
 use Rattle.lists.proofs.Bools.{and-left, and-right, both-ways}
 use Rattle.lists.proofs.Decided.{same, same-lists}
 use Rattle.reading.specs.Rules.{Verdict, isPacket, isBadChecksum, isWaiting, isNothing}
@@ -82,13 +83,13 @@ none-is (isBadChecksum id) e = let z : _≡_ {A = ℕ} 0 1 = cc in absurd (omega
 none-is isWaiting e = let z : _≡_ {A = ℕ} 0 1 = cc in absurd (omega arith)
 none-is isNothing e = refl
 
-abbrev accepted : Option ℕ → Bool
+abbrev accepted : Option Refusal → Bool
 accepted none = true
-accepted (some number) = false
+accepted (some r) = false
 
-is-accepted : (o : Option ℕ) → accepted o ≡ true → o ≡ none
+is-accepted : (o : Option Refusal) → accepted o ≡ true → o ≡ none
 is-accepted none e = refl
-is-accepted (some number) e = let z : _≡_ {A = ℕ} 0 1 = cc in absurd (omega arith)
+is-accepted (some r) e = let z : _≡_ {A = ℕ} 0 1 = cc in absurd (omega arith)
 
 abbrev sameRegistered : RegisteredWrite → RegisteredWrite → Bool
 sameRegistered v w =

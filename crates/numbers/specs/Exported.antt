@@ -3,6 +3,8 @@ use mathlib.Core.Bool.{cond}
 use mathlib.Core.Option.{Option, none, some}
 use Prim.Native.Nat.{ℕ, _-_, _^_, min}
 use lib.IntN.{ℤ, pos, negℤ}
+use Rattle.answers.specs.Answers.{exported as Answers·exported}
+use Rattle.answers.specs.declared.Answer.the-variants.{Refused as Answer·Refused}
 use Rattle.lists.specs.Answer.{Answer, count, refused}
 use Rattle.reader_core.specs.declared.Step.{Step}
 use Rattle.reader_core.specs.declared.StepEvent.{StepEvent}
@@ -10,18 +12,19 @@ use Rattle.reader_core.specs.declared.StepEvent.the-variants.{Packet, BadChecks
 use Rattle.reader_plain.specs.declared.Next.{Next}
 use Rattle.reader_plain.specs.declared.Next.the-variants.{Packet as Next·Packet, BadChecksum as Next·BadChecksum, Nothing}
 use Rattle.plan_check.specs.declared.Tested.{Tested}
-use Rattle.plan_check.specs.declared.Tested.the-variants.{Accepted, NotPlan, BadCount, BadGoal}
+use Rattle.plan_check.specs.declared.Tested.the-variants.{Accepted, NotPlan, Refused as Tested·Refused}
 use Rattle.device.specs.Answers.{sent, DeviceAnswer, refused as Device·refused}
 use Rattle.device_instructions.specs.declared.RegisteredWrite.{RegisteredWrite}
 use Rattle.numbers.specs.declared.StepNumbers.{StepNumbers}
 use Rattle.numbers.specs.declared.EventNumbers.{EventNumbers}
-use Rattle.log_index.specs.Last.{at, nowhere}
-use Rattle.log.specs.Question.{Answer as Log·Answer, found, refused as Log·refused}
+use Rattle.log.specs.declared.Found.{Found}
+use Rattle.log.specs.declared.Found.the-variants.{At, Nowhere, Refused as Found·Refused}
 use Rattle.numbers.specs.declared.DeviceNumbers.{DeviceNumbers}
 use Rattle.numbers.specs.declared.CarriedNumbers.{CarriedNumbers}
 use Rattle.device_status.specs.declared.Reply.{Reply}
 use Rattle.numbers.specs.declared.FoundNumbers.{FoundNumbers}
-use Rattle.log_salvage.specs.Salvage.{Answer as Salvage·Answer, wrote, refused as Salvage·refused}
+use Rattle.log_salvage.specs.declared.Salvaged.{Salvaged}
+use Rattle.log_salvage.specs.declared.Salvaged.the-variants.{Written, Refused as Salvaged·Refused}
 use Rattle.numbers.specs.declared.SalvagedNumbers.{SalvagedNumbers}
 
 -- a count that no 64-bit signed number holds is answered as the largest one (no buffer of a real machine is that long) [G5 N11]
@@ -68,20 +71,19 @@ abbrev pub carriedNumbers : DeviceAnswer → Reply → RegisteredWrite → Carri
 carriedNumbers answer reply w = record { refusal = refusalNumber answer; reply = reply; registered = w }
 
 -- the answer to a question about a log: 1 with segment and offset, 0 for none, or minus the refusal number [G5 I18 N11]
-abbrev pub foundNumbers : Log·Answer → FoundNumbers
-foundNumbers (found (at k p)) = record { found = pos 1; segment = k; offset = p }
-foundNumbers (found nowhere) = record { found = pos 0; segment = 0; offset = 0 }
-foundNumbers (Log·refused number) = record { found = negℤ (pos number); segment = 0; offset = 0 }
+abbrev pub foundNumbers : Found → FoundNumbers
+foundNumbers (At k p) = record { found = pos 1; segment = k; offset = p }
+foundNumbers Nowhere = record { found = pos 0; segment = 0; offset = 0 }
+foundNumbers (Found·Refused refusal) = record { found = Answers·exported (Answer·Refused refusal); segment = 0; offset = 0 }
 
 -- the answer of the salvage: the bytes written and the figures of the report, or minus the refusal number and 0 in each [G5 I31 N11]
-abbrev pub salvagedNumbers : Salvage·Answer → SalvagedNumbers
-salvagedNumbers (wrote f) =
+abbrev pub salvagedNumbers : Salvaged → SalvagedNumbers
+salvagedNumbers (Written f) =
     record { count = exported (count (f .count)); dropped = f .dropped; index = f .index; leftover = f .leftover; header = cond (f .header) 1 0 }
-salvagedNumbers (Salvage·refused number) = record { count = negℤ (pos number); dropped = 0; index = 0; leftover = 0; header = 0 }
+salvagedNumbers (Salvaged·Refused refusal) = record { count = Answers·exported (Answer·Refused refusal); dropped = 0; index = 0; leftover = 0; header = 0 }
 
 -- what the test of a plan answers: 1 or 0, or minus the refusal number [G5 N11 W9]
 abbrev pub testedNumber : Tested → ℤ
 testedNumber Accepted = pos 1
 testedNumber NotPlan = pos 0
-testedNumber BadCount = negℤ (pos 41)
-testedNumber BadGoal = negℤ (pos 42)
+testedNumber (Tested·Refused refusal) = Answers·exported (Answer·Refused refusal)

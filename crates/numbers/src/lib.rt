@@ -9,14 +9,11 @@ use device_packet::CarriedPacket;
 use device_packet::Exchanged;
 use device_status::Reply;
 use device_status::Written;
-use log::Checked;
 use log::Found;
 use log_salvage::Figures;
 use log_salvage::Salvaged;
-use log_writer::LogWritten;
 use packet_encoder::Encoded;
 use plan_check::Tested;
-use plan_writer::PlanWritten;
 use reader_core::Step;
 use reader_core::StepEvent;
 use reader_plain::Next;
@@ -30,11 +27,7 @@ ghost use Rattle.table_rules.specs.Outcomes.{changeRefusal};
 ghost use Rattle.device_status.specs.Sending.{writtenAnswer};
 ghost use Rattle.device.specs.Answers.{repliedAnswer};
 ghost use Rattle.device_packet.specs.Exchange.{exchangedAnswer};
-ghost use Rattle.log_writer.specs.Writing.{logWrittenAnswer};
-ghost use Rattle.log.specs.Soundness.{checkedRefusal};
-ghost use Rattle.log.specs.Question.{foundAnswer};
-ghost use Rattle.log_salvage.specs.Salvage.{salvagedAnswer, wrote};
-ghost use Rattle.plan_writer.specs.Filling.{planWrittenAnswer};
+ghost use Rattle.log_salvage.specs.declared.Salvaged.the-variants.{Written as Salvaged·Written};
 ghost use Rattle.lists.specs.Answer.{count as Answer·count};
 ghost use Rattle.numbers.specs.Exported.{exported, exportedRefusal, stepNumbers, nextNumbers, deviceNumbers, refusalNumber, carriedNumbers, foundNumbers, salvagedNumbers, testedNumber};
 
@@ -350,28 +343,8 @@ pub fn written(answer: Written) -> i64
     }
 }
 
-pub fn log_written(answer: LogWritten) -> i64
-    ensures { λ r. ⌜ r ≡ exported (logWrittenAnswer answer) ⌝ }
-{
-    match answer {
-        LogWritten::Count(n) => count(n),
-        LogWritten::BadLayout => -31,
-        LogWritten::NoRoom => -13,
-    }
-}
-
-pub fn checked(answer: Checked) -> i64
-    ensures { λ r. ⌜ r ≡ exportedRefusal (checkedRefusal answer) ⌝ }
-{
-    match answer {
-        Checked::Accepted => 0,
-        Checked::BadLayout => -31,
-        Checked::WrongIndex => -34,
-    }
-}
-
 pub fn found(answer: Found) -> FoundNumbers
-    ensures { λ r. ⌜ r ≡ foundNumbers (foundAnswer answer) ⌝ }
+    ensures { λ r. ⌜ r ≡ foundNumbers answer ⌝ }
 {
     match answer {
         Found::At(segment, offset) => FoundNumbers {
@@ -384,13 +357,8 @@ pub fn found(answer: Found) -> FoundNumbers
             segment: 0,
             offset: 0,
         },
-        Found::BadLayout => FoundNumbers {
-            found: -31,
-            segment: 0,
-            offset: 0,
-        },
-        Found::BadId => FoundNumbers {
-            found: -32,
+        Found::Refused(refusal) => FoundNumbers {
+            found: answers::exported_refusal(refusal),
             segment: 0,
             offset: 0,
         },
@@ -404,7 +372,7 @@ fn flag(set: bool) -> u8
 }
 
 fn figures(f: Figures) -> SalvagedNumbers
-    ensures { λ r. ⌜ r ≡ salvagedNumbers (wrote f) ⌝ }
+    ensures { λ r. ⌜ r ≡ salvagedNumbers (Salvaged·Written f) ⌝ }
 {
     SalvagedNumbers {
         count: count(f.count),
@@ -416,35 +384,17 @@ fn figures(f: Figures) -> SalvagedNumbers
 }
 
 pub fn salvaged(answer: Salvaged) -> SalvagedNumbers
-    ensures { λ r. ⌜ r ≡ salvagedNumbers (salvagedAnswer answer) ⌝ }
+    ensures { λ r. ⌜ r ≡ salvagedNumbers answer ⌝ }
 {
     match answer {
         Salvaged::Written(f) => figures(f),
-        Salvaged::BadSize => SalvagedNumbers {
-            count: -33,
+        Salvaged::Refused(refusal) => SalvagedNumbers {
+            count: answers::exported_refusal(refusal),
             dropped: 0,
             index: 0,
             leftover: 0,
             header: 0,
         },
-        Salvaged::NoRoom => SalvagedNumbers {
-            count: -13,
-            dropped: 0,
-            index: 0,
-            leftover: 0,
-            header: 0,
-        },
-    }
-}
-
-pub fn plan_written(answer: PlanWritten) -> i64
-    ensures { λ r. ⌜ r ≡ exported (planWrittenAnswer answer) ⌝ }
-{
-    match answer {
-        PlanWritten::Count(n) => count(n),
-        PlanWritten::BadCount => -41,
-        PlanWritten::BadGoal => -42,
-        PlanWritten::NoRoom => -13,
     }
 }
 
@@ -454,7 +404,6 @@ pub fn tested(answer: Tested) -> i64
     match answer {
         Tested::Accepted => 1,
         Tested::NotPlan => 0,
-        Tested::BadCount => -41,
-        Tested::BadGoal => -42,
+        Tested::Refused(refusal) => answers::exported_refusal(refusal),
     }
 }

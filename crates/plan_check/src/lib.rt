@@ -1,8 +1,9 @@
 // The test of a plan: whether bytes are Sync Writes end to end that set the wanted goals, each once, and nothing else.
+use answers::Answer;
+use answers::Refusal;
 use device_parameters::Found;
 use packet_protocols::Protocol;
 use packet_rules::Judgement;
-use plan::Goals;
 use stuffing::Unstuffed;
 ghost use mathlib.Core.Path.{_≡_};
 ghost use mathlib.Core.Option.{none};
@@ -24,8 +25,7 @@ const ENTRY: usize = 5;
 pub enum Tested {
     Accepted,
     NotPlan,
-    BadCount,
-    BadGoal,
+    Refused(Refusal),
 }
 
 // The four bytes of a goal.
@@ -178,9 +178,8 @@ pub fn check(goals: &[i32], plan: &[u8]) -> Tested
     ensures { λ r. ⌜ TestSays (now (goals .entry)) (now (plan .entry)) r ⌝ }
 {
     match plan::test_goals(goals) {
-        Goals::BadCount => Tested::BadCount,
-        Goals::BadGoal => Tested::BadGoal,
-        Goals::Good => {
+        Answer::Refused(refusal) => Tested::Refused(refusal),
+        Answer::Count(_) => {
             if is_plan(goals, plan) {
                 Tested::Accepted
             } else {

@@ -82,7 +82,8 @@ pub fn number(refusal: Refusal) -> u8
     }
 }
 
-fn count(n: usize) -> i64
+// A count; the largest number where it is too large for 64 bits with a sign.
+pub fn exported_count(n: usize) -> i64
     ensures { λ r. ⌜ r ≡ Answers·exported (Answer.Count n) ⌝ }
 {
     if n <= 9223372036854775807 {
@@ -104,7 +105,7 @@ pub fn exported(answer: Answer) -> i64
     ensures { λ r. ⌜ r ≡ Answers·exported answer ⌝ }
 {
     match answer {
-        Answer::Count(n) => count(n),
+        Answer::Count(n) => exported_count(n),
         Answer::Refused(refusal) => exported_refusal(refusal),
     }
 }

@@ -1,4 +1,7 @@
 // From the line to the table: a call takes bytes up to the next event and carries it out at once.
+use answers::BAD_READER;
+use answers::BAD_REGISTERED;
+use answers::BAD_TABLE_ID;
 use device::CarriedOut;
 use device_codes::ERROR_CHECKSUM;
 use device_dispatch::Heard;
@@ -28,7 +31,7 @@ ghost use Rattle.device_status.specs.Status.{silence as Status·silence};
 ghost use Rattle.device.specs.Answers.{stateRefusal, carriedReply, carriedRegistered, carriedError, carriedTable};
 ghost use Rattle.board.specs.Board.{addressed, lentRefusal, boardOf, carriedIfAny, reportOf, outcome};
 ghost use Rattle.board.specs.Numbers.{stepWith, boardStep, bufferLeft};
-ghost use Rattle.board.specs.Inside.{numberOf, eventBy, Fits, bufferBy};
+ghost use Rattle.board.specs.Inside.{numberIfAny, eventBy, Fits, bufferBy};
 
 // What a call returns: how many bytes it took; the event as of `dxl_feed`, or the number of a refusal as its kind; the instruction, if
 // it is for this device, and its error number; the reply that waits; and the registered write from now on.
@@ -47,13 +50,6 @@ pub struct BoardStep {
 // The most bytes that a reader holds.
 const MAX_HELD: usize = 1030;
 
-// The numbers of the refusals.
-const BAD_READER: u8 = 25;
-
-const BAD_TABLE_ID: u8 = 22;
-
-const BAD_REGISTERED: u8 = 23;
-
 pub const KIND_NONE: u8 = 0;
 
 pub const KIND_PACKET: u8 = 1;
@@ -63,7 +59,7 @@ pub const KIND_BAD_CHECKSUM: u8 = 2;
 // The number of the caller's fault, 0 for none.
 fn refusal(held: usize, table: &[u8], registered: RegisteredWrite) -> u8
     requires { ⌜ length (now table) ≡ tableSize ⌝ }
-    ensures { λ r. ⌜ r ≡ numberOf (lentRefusal held (now (table .entry)) registered) ⌝ }
+    ensures { λ r. ⌜ r ≡ numberIfAny (lentRefusal held (now (table .entry)) registered) ⌝ }
 {
     if MAX_HELD < held {
         return BAD_READER;
@@ -190,7 +186,7 @@ fn receive(
             }
         }
         StepEvent::Silent => idle_step(taken, KIND_NONE, registered),
-        StepEvent::Refused => idle_step(taken, KIND_NONE, registered),
+        StepEvent::Refused(_) => idle_step(taken, KIND_NONE, registered),
     }
 }
 

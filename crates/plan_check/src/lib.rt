@@ -4,9 +4,7 @@ use answers::Refusal;
 use device_parameters::Found;
 use packet_protocols::Protocol;
 use packet_rules::Judgement;
-use stuffing::Unstuffed;
 ghost use mathlib.Core.Path.{_≡_};
-ghost use mathlib.Core.Option.{none};
 ghost use Prim.Native.Nat.{ℕ, _+_, _≤_, _<_};
 ghost use lib.ListN.{length, take, getD};
 ghost use Rattle.lists.specs.Numbers.{numberAt};
@@ -130,7 +128,7 @@ fn mark_packet(goals: &[i32], packet: &[u8], stood: &mut [u8]) -> bool
         return false;
     }
     let mut buffer = [0u8; 1022];
-    let Unstuffed::Count(n) = packet::unstuff(packet, &mut buffer) else {
+    let Answer::Count(n) = packet::unstuff(packet, &mut buffer) else {
         return false;
     };
     let body: &[u8] = &buffer;

@@ -13,8 +13,8 @@ by-case r s e = ap exported (sym e)
 enum-known-answer : tie.Need-enum-known-answer
 enum-known-answer c = search needs
 
-count-requires : tie.Need-count-requires
-count-requires c κs = search needs
+exported-count-requires : tie.Need-exported-count-requires
+exported-count-requires c κs = search needs
 
 enum-known-answer-2 : tie.Need-enum-known-answer-2
 enum-known-answer-2 c = search needs
@@ -24,7 +24,7 @@ exported-refusal-requires c κs = search needs
 
 returns : tie.Need-returns
 returns c =
-    toZ-ofZ {w = w64} (record { sfits = c .count .ok }) ∙ c .count .ensures ∙ by-case _ _ (c .before .before .answer .given .1)
+    toZ-ofZ {w = w64} (record { sfits = c .exported-count .ok }) ∙ c .exported-count .ensures ∙ by-case _ _ (c .before .before .answer .given .1)
 
 returns-2 : tie.Need-returns-2
 returns-2 c =
@@ -35,7 +35,7 @@ exported-spec =
     tie.close
     (tie.spec
     enum-known-answer
-    count-requires
+    exported-count-requires
     enum-known-answer-2
     exported-refusal-requires
     returns

@@ -94,7 +94,7 @@ returns-3 c =
 returns-4 : tie.Need-returns-4
 returns-4 c =
     let a = c .before .before .before .before .before in
-    refused-received (a .args .table .now) (a .args .registered) (a .args .step .taken) (a .args .packet .now) (c .idle-step2 .result) (c .idle-step2 .ensures) _ (c .before .enum-told2 .given .1)
+    refused-received (a .args .table .now) (a .args .registered) (a .args .step .taken) (a .args .packet .now) (c .idle-step2 .result) (c .idle-step2 .ensures) _ _ (c .before .enum-told2 .given .1)
 
 pub receive-spec : {M : Type 1} → statement M
 receive-spec =

@@ -1,7 +1,8 @@
 """Holds the names for numbers in the header to the definitions, and the constants of the code to the header: usage
 check_constants.py HEADER, in the repository's root
 
-Registers, with area, access and range in their comments: crates/table_registers/specs/Registers.antt. Instructions and the errors 02 and
+Refusals: crates/answers/specs/Refusals.antt. Registers, with area, access and range in their comments:
+crates/table_registers/specs/Registers.antt. Instructions and the errors 02 and
 03: crates/device_dispatch/specs/Reactions.antt. Errors 04 to 07: crates/table_rules/specs/Outcomes.antt. The alert:
 crates/device_status/specs/Status.antt. A definition may write a number or the name of one that is defined elsewhere under specs/.
 
@@ -13,6 +14,7 @@ from pathlib import Path
 
 from faults import report
 
+REFUSALS = Path("crates/answers/specs/Refusals.antt")
 REGISTERS = Path("crates/table_registers/specs/Registers.antt")
 REACTIONS = Path("crates/device_dispatch/specs/Reactions.antt")
 OUTCOMES = Path("crates/table_rules/specs/Outcomes.antt")
@@ -21,16 +23,15 @@ STATUS = Path("crates/device_status/specs/Status.antt")
 WORDS = {"DEVICE_ID": "ID", "NO_ACCESS": "ACCESS"}
 # Names of the header for which the code may have no constant: it gives these numbers in one place, or has them as the length of an
 # array.
-NOT_IN_CODE = {"BAD_ID", "TOO_LONG", "NO_ROOM", "BAD_STUFFING", "BAD_TABLE_ID", "BAD_REGISTERED", "SHORT_REPLY", "BAD_READER",
-               "BAD_LOG", "BAD_LOG_ID", "BAD_LOG_SIZE", "WRONG_INDEX", "NOT_GOALS", "BAD_GOAL", "MAX_PACKET", "V1_MAX_PACKET", "V1_MAX_HELD",
-               "MAX_BODY", "MAX_HELD", "MAX_STATUS", "NO_EVENT", "PACKET", "BAD_CHECKSUM"}
+NOT_IN_CODE = {"MAX_PACKET", "V1_MAX_PACKET", "V1_MAX_HELD", "MAX_BODY", "MAX_HELD", "MAX_STATUS", "NO_EVENT", "PACKET",
+               "BAD_CHECKSUM"}
 # A constant that begins so is in the header.
 GROUPS = ("REG_", "SIZE_", "FRESH_", "INST_", "ERROR_")
 
 
 def upper(name):
     """goalPosition and GoalPosition as GOAL_POSITION."""
-    word = re.sub(r"(?<=[a-z])(?=[A-Z])", "_", name).upper()
+    word = re.sub(r"(?<=[a-z])(?=[A-Z])|(?<=[A-Z])(?=[A-Z][a-z])", "_", name).upper()
     return WORDS.get(word, word)
 
 
@@ -80,6 +81,11 @@ def errors():
             **values}
 
 
+def refusals():
+    found = re.findall(r"^numberOf (\w+) = (\S+)$", REFUSALS.read_text(encoding="utf-8"), flags=re.M)
+    return {f"DXL_{upper(name)}": number(code) for name, code in found}
+
+
 def constants():
     """Name -> number and file of each constant of the code that is no array."""
     written = {}
@@ -115,11 +121,14 @@ def main(header):
     text = Path(header).read_text(encoding="utf-8")
     code = re.sub(r"/\*.*?\*/", "", text, flags=re.S)
     numbers = {name: int(value, 0) for name, value in re.findall(r"\b(DXL_\w+)\s*=\s*(\w+)", code)}
-    there = {name: value for name, value in numbers.items() if name.removeprefix("DXL_").startswith(GROUPS)}
+    refused = re.search(r"/\* Refusals\..*?enum \{(.*?)\};", text, flags=re.S).group(1)
+    there = {name: value for name, value in numbers.items()
+             if name.removeprefix("DXL_").startswith(GROUPS) or re.search(rf"^ +{name} =", refused, flags=re.M)}
     said = dict(re.findall(r"^ +(DXL_REG_\w+) = \d+, +/\* (.*) \*/$", text, flags=re.M))
     values, comments = registers()
     values.update(instructions())
     values.update(errors())
+    values.update(refusals())
     table = number(re.search(r"^tableSize = (\S+)$", REGISTERS.read_text(encoding="utf-8"), flags=re.M).group(1))
 
     faults = [f"{name} is {values[name]} and the header has it not" for name in sorted(values.keys() - there.keys())]

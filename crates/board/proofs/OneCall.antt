@@ -9,6 +9,8 @@ use native.Mathlib.Omega.{arith}
 use lib.ListN.{length, take, drop, replicate, length-append}
 use lib.Seq.{take-at}
 use borrow.Author.Tests.{le-leb}
+use Rattle.answers.specs.Refusals.{numberOf}
+use Rattle.answers.specs.declared.Refusal.{Refusal}
 use Rattle.lists.specs.Write.{overwritten, placed}
 use Rattle.stuffing.specs.Stuffing.{unstuff}
 use Rattle.reading.specs.Reading.{Event, packet, badChecksum}
@@ -27,7 +29,7 @@ use Rattle.device_instructions.specs.declared.RegisteredWrite.{RegisteredWrite}
 use Rattle.board.specs.declared.BoardStep.{BoardStep}
 use Rattle.board.specs.Board.{Board, Outcome, readerLeft, carriedIfAny, reportOf, boardRefusal, outcomeUnless, outcome}
 use Rattle.board.specs.Numbers.{stepWith, refusedStep, stepUnless, boardStep, bufferFor, bufferUnless, bufferLeft}
-use Rattle.board.specs.Inside.{numberOf, eventBy, Fits, bufferBy}
+use Rattle.board.specs.Inside.{numberIfAny, eventBy, Fits, bufferBy}
 use Rattle.board.proofs.Refusals.{accepted, never-0}
 use Rattle.board.proofs.ByAnswer.{Left}
 use Rattle.board.proofs.Sound.{call-good}
@@ -65,9 +67,9 @@ pub step-registered : (b : Board) (c : Call) → boardStep b c .registered ≡ o
 unfolding boardStep
 step-registered b c = by (boardRefusal b)
   where
-    by : (r : Option ℕ) → stepUnless r (outcome b c) .registered ≡ outcome b c .board .registered
+    by : (r : Option Refusal) → stepUnless r (outcome b c) .registered ≡ outcome b c .board .registered
     by none = refl
-    by (some number) = refl
+    by (some refusal) = refl
 
 module _ (b : Board) (c : Call) (old : List ℕ) where
   -- what the contracts of `feed` and `gap` say
@@ -76,16 +78,16 @@ module _ (b : Board) (c : Call) (old : List ℕ) where
       (r ≡ boardStep b c)
       × ((reader ≡ outcome b c .board .reader) × (table ≡ outcome b c .board .table) × (buffer ≡ bufferLeft b c old))
 
-  pub refused-call : (number : ℕ) → number ≡ numberOf (boardRefusal b) → ¬ (number ≡ 0) → (r : BoardStep)
+  pub refused-call : (number : ℕ) → number ≡ numberIfAny (boardRefusal b) → ¬ (number ≡ 0) → (r : BoardStep)
       → r ≡ refusedStep number (b .registered)
       → Says r (b .reader) (b .table) old
   unfolding boardStep outcome bufferLeft
   refused-call number n some-number r e = by (boardRefusal b) refl
     where
-      by : (s : Option ℕ) → boardRefusal b ≡ s → Says r (b .reader) (b .table) old
-      by none i = absurd (some-number (n ∙ ap numberOf i))
-      by (some k) i =
-          let m : number ≡ k = n ∙ ap numberOf i in
+      by : (s : Option Refusal) → boardRefusal b ≡ s → Says r (b .reader) (b .table) old
+      by none i = absurd (some-number (n ∙ ap numberIfAny i))
+      by (some refusal) i =
+          let m : number ≡ numberOf refusal = n ∙ ap numberIfAny i in
           (rw (i, ← m) e, (rw i, rw i, rw i))
 
   module _ (ok : boardRefusal b ≡ none) where

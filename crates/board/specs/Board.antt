@@ -6,7 +6,9 @@ use mathlib.Core.Option.{Option, none, some}
 use Prim.Native.Nat.{ℕ}
 use lib.Dec.{leb, eqb}
 use lib.ListN.{length, getD}
-use Rattle.lists.specs.Answer.{firstFailing}
+use Rattle.answers.specs.Refusals.{firstFailing, orElse}
+use Rattle.answers.specs.declared.Refusal.{Refusal}
+use Rattle.answers.specs.declared.Refusal.the-variants.{BadReader}
 use Rattle.stuffing.specs.Stuffing.{unstuff}
 use Rattle.reading.specs.Reading.{Event, packet, badChecksum}
 use Rattle.reading.specs.Calls.{Call, call}
@@ -23,7 +25,7 @@ use Rattle.device_dispatch.specs.declared.Heard.the-variants.{Packet, BadChecks
 use Rattle.device_status.specs.declared.Reply.{Reply}
 use Rattle.device_status.specs.Status.{silence}
 use Rattle.device.specs.Device.{Carried, carryOut}
-use Rattle.device.specs.Answers.{stateRefusal, orElse}
+use Rattle.device.specs.Answers.{stateRefusal}
 use Rattle.device.specs.Demand1.{errorNumber}
 
 pub record Board : Type 0 where
@@ -66,10 +68,10 @@ errorIn table w none = 0
 -- ---- a call
 
 -- what the caller lent is refused: more than 1,030 held bytes, 25; then table and registered write, 21 to 23 [B2]
-unfoldable pub lentRefusal : ℕ → List ℕ → RegisteredWrite → Option ℕ
-lentRefusal held table w = orElse (firstFailing ((leb held 1030, 25) ∷ [])) (stateRefusal table w)
+unfoldable pub lentRefusal : ℕ → List ℕ → RegisteredWrite → Option Refusal
+lentRefusal held table w = orElse (firstFailing ((leb held 1030, BadReader) ∷ [])) (stateRefusal table w)
 
-abbrev pub boardRefusal : Board → Option ℕ
+abbrev pub boardRefusal : Board → Option Refusal
 boardRefusal b = lentRefusal (b .reader .count) (b .table) (b .registered)
 
 -- what a call answers: how many bytes it took, the event if any, what it asked and came to, and the reply to it
@@ -104,7 +106,7 @@ readerLeft r c =
 
 -- The event of the reader's call is carried out on the table and the registered write as they stand. A refusal takes no byte and
 -- leaves everything as it was. [B1 B2]
-abbrev pub outcomeUnless : Option ℕ → Board → Call → Outcome
+abbrev pub outcomeUnless : Option Refusal → Board → Call → Outcome
 outcomeUnless none b c =
     let result = call protocol2 (heldIn (b .reader)) c in
     let done = carriedIfAny (b .table) (b .registered) (result .answer) in
@@ -112,7 +114,7 @@ outcomeUnless none b c =
       report = reportOf (b .table) (b .registered) (result .taken) (result .answer);
       board = record { reader = readerLeft (b .reader) c; table = done .table; registered = done .registered };
     }
-outcomeUnless (some number) b c =
+outcomeUnless (some refusal) b c =
     record { report = reportOf (b .table) (b .registered) 0 none; board = b }
 
 unfoldable pub outcome : Board → Call → Outcome

@@ -3,6 +3,8 @@ use mathlib.Core.List.{List, []}
 use mathlib.Core.Option.{Option, none, some}
 use Prim.Native.Nat.{ℕ}
 use lib.ListN.{length}
+use Rattle.answers.specs.Refusals.{numberOf}
+use Rattle.answers.specs.declared.Refusal.{Refusal}
 use Rattle.lists.specs.Write.{placed}
 use Rattle.stuffing.specs.Stuffing.{unstuff}
 use Rattle.reading.specs.Reading.{Event, packet, badChecksum}
@@ -52,9 +54,9 @@ abbrev pub refusedStep : ℕ → RegisteredWrite → BoardStep
 refusedStep number w =
     record { taken = 0; count = 0; kind = number; id = 0; instruction = 0; error = 0; reply = silence; registered = w }
 
-abbrev pub stepUnless : Option ℕ → Outcome → BoardStep
+abbrev pub stepUnless : Option Refusal → Outcome → BoardStep
 stepUnless none o = stepWith (o .report) (o .board .registered)
-stepUnless (some number) o = refusedStep number (o .board .registered)
+stepUnless (some refusal) o = refusedStep (numberOf refusal) (o .board .registered)
 
 unfoldable pub boardStep : Board → Call → BoardStep
 boardStep b c = stepUnless (boardRefusal b) (outcome b c)
@@ -65,9 +67,9 @@ bufferFor read (some (packet w)) = placed read 7 (unstuff (bodyOf w))
 bufferFor read (some (badChecksum id)) = read
 bufferFor read none = read
 
-abbrev pub bufferUnless : Option ℕ → List ℕ → List ℕ → Option Event → List ℕ
+abbrev pub bufferUnless : Option Refusal → List ℕ → List ℕ → Option Event → List ℕ
 bufferUnless none old read e = bufferFor read e
-bufferUnless (some number) old read e = old
+bufferUnless (some refusal) old read e = old
 
 unfoldable pub bufferLeft : Board → Call → List ℕ → List ℕ
 bufferLeft b c old =

@@ -1,4 +1,7 @@
 // From the line to the table: a call takes bytes up to the next event and carries it out at once.
+use answers::BAD_READER;
+use answers::BAD_REGISTERED;
+use answers::BAD_TABLE_ID;
 use device_codes::ERROR_CHECKSUM;
 use device_dispatch::Heard;
 use device_instructions::MAX_REGISTERED;
@@ -25,7 +28,7 @@ ghost use Rattle.device_status.specs.Status.{silence as Status·silence};
 ghost use Rattle.device.specs.Device.{carryOut};
 ghost use Rattle.board.specs.Board.{addressed, lentRefusal, boardOf, outcome};
 ghost use Rattle.board.specs.Numbers.{boardStep, bufferLeft};
-ghost use Rattle.board.specs.Inside.{numberOf, Fits, bufferBy, bodyBy, bodyTo, kindBy, idBy, sizeBy, heardBy, toldBy, cameOf};
+ghost use Rattle.board.specs.Inside.{numberIfAny, Fits, bufferBy, bodyBy, bodyTo, kindBy, idBy, sizeBy, heardBy, toldBy, cameOf};
 
 // What a call returns: how many bytes it took; the event as of `dxl_feed`, or the number of a refusal as its kind; the instruction, if
 // it is for this device, and its error number; the reply that waits; and the registered write from now on.
@@ -44,13 +47,6 @@ pub struct BoardStep {
 // The most bytes that a reader holds.
 const MAX_HELD: usize = 1030;
 
-// The numbers of the refusals.
-const BAD_READER: u8 = 25;
-
-const BAD_TABLE_ID: u8 = 22;
-
-const BAD_REGISTERED: u8 = 23;
-
 pub const KIND_NONE: u8 = 0;
 
 pub const KIND_PACKET: u8 = 1;
@@ -60,7 +56,7 @@ pub const KIND_BAD_CHECKSUM: u8 = 2;
 // The number of the caller's fault, 0 for none.
 fn refusal(held: usize, table: &[u8], registered: RegisteredWrite) -> u8
     requires { ⌜ length (now table) ≡ tableSize ⌝ }
-    ensures { λ r. ⌜ r ≡ numberOf (lentRefusal held (now (table .entry)) registered) ⌝ }
+    ensures { λ r. ⌜ r ≡ numberIfAny (lentRefusal held (now (table .entry)) registered) ⌝ }
 {
     if MAX_HELD < held {
         return BAD_READER;
@@ -107,7 +103,7 @@ fn kind_of(event: StepEvent) -> u8
         StepEvent::Packet { id: _, size: _ } => KIND_PACKET,
         StepEvent::BadChecksum { id: _ } => KIND_BAD_CHECKSUM,
         StepEvent::Silent => KIND_NONE,
-        StepEvent::Refused => KIND_NONE,
+        StepEvent::Refused(_) => KIND_NONE,
     }
 }
 
@@ -118,7 +114,7 @@ fn id_of(event: StepEvent) -> u8
         StepEvent::Packet { id, size: _ } => id,
         StepEvent::BadChecksum { id } => id,
         StepEvent::Silent => 0,
-        StepEvent::Refused => 0,
+        StepEvent::Refused(_) => 0,
     }
 }
 
@@ -129,7 +125,7 @@ fn size_of(event: StepEvent) -> usize
         StepEvent::Packet { id: _, size } => size,
         StepEvent::BadChecksum { id: _ } => 0,
         StepEvent::Silent => 0,
-        StepEvent::Refused => 0,
+        StepEvent::Refused(_) => 0,
     }
 }
 
@@ -141,7 +137,7 @@ fn heard_of(event: StepEvent) -> Heard
         StepEvent::Packet { id: _, size: _ } => Heard::Packet,
         StepEvent::BadChecksum { id: _ } => Heard::BadChecksum,
         StepEvent::Silent => Heard::BadChecksum,
-        StepEvent::Refused => Heard::BadChecksum,
+        StepEvent::Refused(_) => Heard::BadChecksum,
     }
 }
 
@@ -166,7 +162,7 @@ fn strip(event: StepEvent, packet: &mut [u8]) -> usize
         StepEvent::Packet { id: _, size } => strip_packet(packet, size),
         StepEvent::BadChecksum { id: _ } => 7,
         StepEvent::Silent => 7,
-        StepEvent::Refused => 7,
+        StepEvent::Refused(_) => 7,
     }
 }
 

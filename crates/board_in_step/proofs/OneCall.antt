@@ -2,7 +2,7 @@
 use mathlib.Core.Path.{_≡_, refl, sym, ap, _∙_}
 use mathlib.Core.List.{List, [], _∷_}
 use mathlib.Core.Option.{Option, none, some}
-use Prim.Native.Nat.{ℕ}
+use Rattle.answers.specs.declared.Refusal.{Refusal}
 use Rattle.reading.specs.Calls.{Call, call}
 use Rattle.reading.specs.Lists.{after, Follows}
 use Rattle.packet.specs.Verdict.{protocol2}
@@ -47,7 +47,7 @@ next-clean : (b : Board) (c : Call) → Clean b → Clean (outcome b c .board)
 unfolding outcome
 next-clean b c clean = by (boardRefusal b) refl
   where
-    by : (s : Option ℕ) → boardRefusal b ≡ s → Clean (outcomeUnless s b c .board)
+    by : (s : Option Refusal) → boardRefusal b ≡ s → Clean (outcomeUnless s b c .board)
     by none e = left-clean (b .reader) c (accepted b e .held) clean
     by (some number) e = clean
 

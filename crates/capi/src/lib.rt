@@ -12,14 +12,14 @@ use numbers::StepNumbers;
 use reader_records::Reader;
 ghost use mathlib.Core.Path.{_≡_};
 ghost use mathlib.Core.List.{_∷_};
-ghost use mathlib.Core.Option.{none};
+ghost use Rattle.answers.specs.Answers.{answered, exported};
 ghost use Rattle.crc.specs.Crc.{crcFrom};
 ghost use Rattle.crc.specs.Laws.{SumLaws};
 ghost use Rattle.crc.specs.Flips.{flippedSum, Flipped};
 ghost use Rattle.stuffing.specs.Answers.{removalAnswer, removalOut};
 ghost use Rattle.packet_encoder.specs.Encoding.{encodeAnswer, encodeOut};
 ghost use Rattle.packet_encoder.specs.RoundTrip.{RoundTrip};
-ghost use Rattle.table_rules.specs.Outcomes.{inTable};
+ghost use Rattle.table_rules.specs.Outcomes.{sizeRefusal};
 ghost use Rattle.table_rules.specs.Fence.{Fence};
 ghost use Rattle.table_access.specs.Answers.{freshOut, measureOut};
 ghost use Rattle.reading.specs.Calls.{feed as Call·feed, gap as Call·gap};
@@ -49,7 +49,7 @@ ghost use Rattle.plan.specs.Planner.{planAnswer, planOut};
 ghost use Rattle.plan_laws.specs.Planned.{Planned};
 ghost use Rattle.plan_heard.specs.PlanCarriedOut.{PlanCarriedOut};
 ghost use Rattle.cases.specs.Cases.{CasesHold};
-ghost use Rattle.numbers.specs.Exported.{exported, exportedRefusal, stepNumbers, nextNumbers, deviceNumbers, carriedNumbers, foundNumbers, salvagedNumbers};
+ghost use Rattle.numbers.specs.Exported.{stepNumbers, nextNumbers, deviceNumbers, carriedNumbers, foundNumbers, salvagedNumbers};
 ghost use Rattle.capi.specs.Heard.{heardBy, idOfKind};
 ghost use Rattle.capi.specs.Plans.{CheckSays};
 
@@ -85,7 +85,7 @@ pub extern "C" fn dxl_encode(
     ensures { λ _. ⌜ now (out .exit) ≡ encodeOut id (instruction ∷ now (params .entry)) (now (out .entry)) at ⌝ }
     ensures { λ _. ⌜ RoundTrip ⌝ }
 {
-    numbers::encoded(packet_encoder::encode(id, instruction, params, out, at))
+    answers::exported(packet_encoder::encode(id, instruction, params, out, at))
 }
 
 // Removal of stuffing: the count of the unstuffed bytes, or minus a refusal number. [S8-S11]
@@ -94,30 +94,30 @@ pub extern "C" fn dxl_unstuff(body: &[u8], out: &mut [u8]) -> i64
     ensures { λ r. ⌜ r ≡ exported (removalAnswer (now (body .entry)) (now (out .entry))) ⌝ }
     ensures { λ _. ⌜ now (out .exit) ≡ removalOut (now (body .entry)) (now (out .entry)) ⌝ }
 {
-    numbers::unstuffed(stuffing::unstuff_into(body, out))
+    answers::exported(stuffing::unstuff_into(body, out))
 }
 
 // The table as it comes from the factory: 0, or minus 21 for a table that is not 136 bytes long.
 // [N13 T1 T4 T20]
 #[no_mangle]
 pub extern "C" fn dxl_fresh(table: &mut [u8]) -> i64
-    ensures { λ r. ⌜ r ≡ exportedRefusal (inTable (now (table .entry)) none) ⌝ }
+    ensures { λ r. ⌜ r ≡ exported (answered (sizeRefusal (now (table .entry))) 0) ⌝ }
     ensures { λ _. ⌜ now (table .exit) ≡ freshOut (now (table .entry)) ⌝ }
     ensures { λ _. ⌜ ((w : Ghost·RegisteredWrite) → stateOf (now (table .exit)) w ≡ afterCall (stateOf (now (table .entry)) w) Call·fresh) ⌝ }
     ensures { λ _. ⌜ StaysAccepted × GoalWithinLimits ⌝ }
 {
-    numbers::change(table_access::fresh(table))
+    answers::exported(table_access::fresh(table))
 }
 
 // Present position and hardware error: 0, or minus 21. [N13 T5]
 #[no_mangle]
 pub extern "C" fn dxl_measure(table: &mut [u8], position: i32, hardware_error: u8) -> i64
-    ensures { λ r. ⌜ r ≡ exportedRefusal (inTable (now (table .entry)) none) ⌝ }
+    ensures { λ r. ⌜ r ≡ exported (answered (sizeRefusal (now (table .entry))) 0) ⌝ }
     ensures { λ _. ⌜ now (table .exit) ≡ measureOut (now (table .entry)) position «hardware_error» ⌝ }
     ensures { λ _. ⌜ ((w : Ghost·RegisteredWrite) → stateOf (now (table .exit)) w ≡ afterCall (stateOf (now (table .entry)) w) (Call·measurement position «hardware_error»)) ⌝ }
     ensures { λ _. ⌜ StaysAccepted × GoalWithinLimits ⌝ }
 {
-    numbers::change(table_access::measure(table, position, hardware_error))
+    answers::exported(table_access::measure(table, position, hardware_error))
 }
 
 // A feeding call on a reader's record in parts, the held bytes and their count. It promises demand 3, and that a packet in which
@@ -214,17 +214,17 @@ pub extern "C" fn dxl_log_write(bytes: &[u8], lengths: &[u32], out: &mut [u8]) -
     ensures { λ _. ⌜ now (out .exit) ≡ writeOut (now (bytes .entry)) (now (lengths .entry)) (now (out .entry)) ⌝ }
     ensures { λ _. ⌜ WritesSound ⌝ }
 {
-    numbers::log_written(log_writer::write(bytes, lengths, out))
+    answers::exported(log_writer::write(bytes, lengths, out))
 }
 
 // Whether a file is a sound log: 0, or minus a refusal number. That it accepts the sound logs and no others is promised too.
 // [I9 I16 I17 N15 N17]
 #[no_mangle]
 pub extern "C" fn dxl_log_check(file: &[u8]) -> i64
-    ensures { λ r. ⌜ r ≡ exportedRefusal (checkRefusal (now (file .entry))) ⌝ }
+    ensures { λ r. ⌜ r ≡ exported (answered (checkRefusal (now (file .entry))) 0) ⌝ }
     ensures { λ _. ⌜ SoundExactly ⌝ }
 {
-    numbers::checked(log::check(file))
+    answers::exported(log::check(file))
 }
 
 // The last packet for an ID: its segment and its offset there. On a sound log that is what a reading of every segment gives, and on
@@ -321,7 +321,7 @@ pub extern "C" fn dxl_exchange(
     ensures { λ r. ⌜ stateOf (now (table .exit)) (r .registered)
         ≡ afterCall (stateOf (now (table .entry)) registered) (Call·exchange (now (packet .entry)) (now (body .entry)) (now (reply .entry))) ⌝ }
 {
-    numbers::answered(device_packet::answer(table, registered, packet, body, reply))
+    numbers::response(device_packet::answer(table, registered, packet, body, reply))
 }
 
 // The first of two calls: what was heard is carried out, and its reply waits for its slot. Kinds as of `dxl_device`, whose theorems
@@ -375,7 +375,7 @@ pub extern "C" fn dxl_status(reply: Reply, out: &mut [u8]) -> i64
     ensures { λ _. ⌜ now (out .exit) ≡ statusOut reply (now (out .entry)) ⌝ }
     ensures { λ _. ⌜ Split × ReplyWritten ⌝ }
 {
-    numbers::written(device_status::send(reply, out))
+    answers::exported(device_status::send(reply, out))
 }
 
 // The planner: the plan's byte count, or minus a refusal number. That its plans are accepted, that no accepted plan has fewer
@@ -386,7 +386,7 @@ pub extern "C" fn dxl_plan(goals: &[i32], out: &mut [u8]) -> i64
     ensures { λ _. ⌜ now (out .exit) ≡ planOut (now (goals .entry)) (now (out .entry)) ⌝ }
     ensures { λ _. ⌜ Planned × PlanCarriedOut ⌝ }
 {
-    numbers::plan_written(plan_writer::write_plan(goals, out))
+    answers::exported(plan_writer::write_plan(goals, out))
 }
 
 // The test of anyone's plan: 1 exactly where the bytes are one, 0 where they are not, or minus a refusal number. What devices do

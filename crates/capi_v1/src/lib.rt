@@ -9,7 +9,8 @@ ghost use Rattle.packet_encoder_v1.specs.Encoding.{encodeAnswer, encodeOut};
 ghost use Rattle.packet_encoder_v1.specs.RoundTrip.{RoundTrip};
 ghost use Rattle.packet_protocols.specs.declared.Protocol.the-variants.{One, Mercury};
 ghost use Rattle.reader_records.specs.Records.{lent, stepIn, leftIn, packetIn, EveryProtocol};
-ghost use Rattle.numbers.specs.Exported.{exported, stepNumbers};
+ghost use Rattle.answers.specs.Answers.{exported};
+ghost use Rattle.numbers.specs.Exported.{stepNumbers};
 
 // The encoder of Protocol 1.0: the packet's byte count, or minus a refusal number. [O9-O11]
 #[no_mangle]
@@ -24,7 +25,7 @@ pub extern "C" fn dxl_p1_encode(
     ensures { λ _. ⌜ now (out .exit) ≡ encodeOut (upTo lastOfP1) id (instruction ∷ now (params .entry)) (now (out .entry)) at ⌝ }
     ensures { λ _. ⌜ RoundTrip (upTo lastOfP1) ⌝ }
 {
-    numbers::encoded(packet_encoder_v1::encode(
+    answers::exported(packet_encoder_v1::encode(
         packet_v1::LAST_OF_P1,
         id,
         instruction,
@@ -47,7 +48,7 @@ pub extern "C" fn dxl_mercury_encode(
     ensures { λ _. ⌜ now (out .exit) ≡ encodeOut (upTo lastOfMercury) id (instruction ∷ now (params .entry)) (now (out .entry)) at ⌝ }
     ensures { λ _. ⌜ RoundTrip (upTo lastOfMercury) ⌝ }
 {
-    numbers::encoded(packet_encoder_v1::encode(
+    answers::exported(packet_encoder_v1::encode(
         packet_v1::LAST_OF_MERCURY,
         id,
         instruction,

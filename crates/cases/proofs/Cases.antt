@@ -11,6 +11,9 @@ use lib.IntN.{ℤ}
 use lib.ListN.{length, replicate}
 use lib.Seq.{take-length}
 use borrow.Author.Tests.{eqb-true, not-true}
+use Rattle.answers.specs.Refusals.{numberOf}
+use Rattle.answers.specs.declared.Refusal.{Refusal}
+use Rattle.answers.proofs.Laws.{same-number}
 use Rattle.lists.proofs.Bools.{and-left, and-right, both-ways}
 use Rattle.lists.proofs.Decided.{same, same-lists}
 use Rattle.reading.specs.Rules.{Verdict, isPacket, isBadChecksum, isWaiting, isNothing}
@@ -46,9 +49,11 @@ use Rattle.device_instructions.specs.Registered.{sameLimits}
 use Rattle.device_parameters.specs.Entries.{occurs, searchFrom}
 use Rattle.device_dispatch.specs.Reactions.{heardInstruction}
 use Rattle.device.specs.Device.{executed}
-use Rattle.device.specs.Answers.{DeviceAnswer, sent, refused, stateRefusal, roomRefusal, callRefusal, callAnswer, callTable, callRegistered, callOut}
+use Rattle.device.specs.Answers.{stateRefusal, roomRefusal, callRefusal, callAnswer, callTable, callRegistered, callOut}
 use Rattle.device_dispatch.specs.declared.Heard.the-variants.{Packet, BadChecksum}
 use Rattle.device_packet.specs.Exchange.{idHeard, heardOf}
+use Rattle.device.specs.declared.Replied.{Replied}
+use Rattle.device.specs.declared.Replied.the-variants.{Sent, Refused}
 use Rattle.device.specs.Demand1.{errorNumber}
 use Rattle.plan.specs.Goals.{goalsWithin, goalsRefusal}
 use Rattle.plan.specs.Planner.{entriesFrom, listBytes, packetsFrom, planOf}
@@ -82,13 +87,13 @@ none-is (isBadChecksum id) e = let z : _≡_ {A = ℕ} 0 1 = cc in absurd (omega
 none-is isWaiting e = let z : _≡_ {A = ℕ} 0 1 = cc in absurd (omega arith)
 none-is isNothing e = refl
 
-abbrev accepted : Option ℕ → Bool
+abbrev accepted : Option Refusal → Bool
 accepted none = true
-accepted (some number) = false
+accepted (some r) = false
 
-is-accepted : (o : Option ℕ) → accepted o ≡ true → o ≡ none
+is-accepted : (o : Option Refusal) → accepted o ≡ true → o ≡ none
 is-accepted none e = refl
-is-accepted (some number) e = let z : _≡_ {A = ℕ} 0 1 = cc in absurd (omega arith)
+is-accepted (some r) e = let z : _≡_ {A = ℕ} 0 1 = cc in absurd (omega arith)
 
 abbrev sameRegistered : RegisteredWrite → RegisteredWrite → Bool
 sameRegistered v w =
@@ -113,18 +118,18 @@ same-registered v w e =
     ∙ ap₂ (λ (x y : ℤ). record { address = w .address; count = w .count; bytes = w .bytes; min = x; max = y })
     (same-equal (v .min) (w .min) (and-left low high l)) (same-equal (v .max) (w .max) (and-right low high l))
 
-abbrev sameAnswer : DeviceAnswer → DeviceAnswer → Bool
-sameAnswer (sent n slot) (sent m place) = eqb n m && eqb slot place
-sameAnswer (sent n slot) (refused number) = false
-sameAnswer (refused number) (sent n slot) = false
-sameAnswer (refused number) (refused other) = eqb number other
+abbrev sameAnswer : Replied → Replied → Bool
+sameAnswer (Sent n slot) (Sent m place) = eqb n m && eqb slot place
+sameAnswer (Sent n slot) (Refused r) = false
+sameAnswer (Refused r) (Sent n slot) = false
+sameAnswer (Refused r) (Refused s) = eqb (numberOf r) (numberOf s)
 
-same-answer : (a b : DeviceAnswer) → sameAnswer a b ≡ true → a ≡ b
-same-answer (sent n slot) (sent m place) e =
-    ap₂ sent (eqb-true n m (and-left (eqb n m) (eqb slot place) e)) (eqb-true slot place (and-right (eqb n m) (eqb slot place) e))
-same-answer (sent n slot) (refused number) e = let z : _≡_ {A = ℕ} 0 1 = cc in absurd (omega arith)
-same-answer (refused number) (sent n slot) e = let z : _≡_ {A = ℕ} 0 1 = cc in absurd (omega arith)
-same-answer (refused number) (refused other) e = ap refused (eqb-true number other e)
+same-answer : (a b : Replied) → sameAnswer a b ≡ true → a ≡ b
+same-answer (Sent n slot) (Sent m place) e =
+    ap₂ Sent (eqb-true n m (and-left (eqb n m) (eqb slot place) e)) (eqb-true slot place (and-right (eqb n m) (eqb slot place) e))
+same-answer (Sent n slot) (Refused r) e = let z : _≡_ {A = ℕ} 0 1 = cc in absurd (omega arith)
+same-answer (Refused r) (Sent n slot) e = let z : _≡_ {A = ℕ} 0 1 = cc in absurd (omega arith)
+same-answer (Refused r) (Refused s) e = ap Refused (same-number r s (eqb-true (numberOf r) (numberOf s) e))
 
 abbrev sameLent : Lent → Lent → Bool
 sameLent k l =
@@ -153,7 +158,7 @@ right (stuffing body stuffed) = same (stuff body) stuffed && (wellStuffed stuffe
 right (exchange bytes before answer after) = sameAnswer (answerTo bytes before) answer && sameLent (leftAfter bytes before) after
 right (refusal bytes before number) = eqb (errorNumber (before .table) (before .registered) Packet (heardOf bytes .id) (heardOf bytes .body)) number
 right (badChecksum id table status) =
-    sameAnswer (callAnswer table goalRegistered BadChecksum id [] (replicate 32 0xAA)) (sent (length status) 0)
+    sameAnswer (callAnswer table goalRegistered BadChecksum id [] (replicate 32 0xAA)) (Sent (length status) 0)
     && (same (callTable table goalRegistered BadChecksum id [] (replicate 32 0xAA)) table
     && (sameRegistered (callRegistered table goalRegistered BadChecksum id [] (replicate 32 0xAA)) goalRegistered
     && same (callOut table goalRegistered BadChecksum id [] (replicate 32 0xAA)) (status ++ replicate (32 - length status) 0xAA)))
@@ -188,13 +193,13 @@ claimed (exchange bytes before answer after) e =
 claimed (refusal bytes before number) e = eqb-true (errorNumber (before .table) (before .registered) Packet (heardOf bytes .id) (heardOf bytes .body)) number e
 claimed (badChecksum id table status) e =
     let out : List ℕ = replicate 32 0xAA in
-    let a = sameAnswer (callAnswer table goalRegistered BadChecksum id [] out) (sent (length status) 0) in
+    let a = sameAnswer (callAnswer table goalRegistered BadChecksum id [] out) (Sent (length status) 0) in
     let t = same (callTable table goalRegistered BadChecksum id [] out) table in
     let w = sameRegistered (callRegistered table goalRegistered BadChecksum id [] out) goalRegistered in
     let o = same (callOut table goalRegistered BadChecksum id [] out) (status ++ replicate (32 - length status) 0xAA) in
     let r = and-right a (t && (w && o)) e in
     let q = and-right t (w && o) r in (
-      same-answer (callAnswer table goalRegistered BadChecksum id [] out) (sent (length status) 0) (and-left a (t && (w && o)) e),
+      same-answer (callAnswer table goalRegistered BadChecksum id [] out) (Sent (length status) 0) (and-left a (t && (w && o)) e),
       same-lists (callTable table goalRegistered BadChecksum id [] out) table (and-left t (w && o) r),
       same-registered (callRegistered table goalRegistered BadChecksum id [] out) goalRegistered (and-left w o q),
       same-lists (callOut table goalRegistered BadChecksum id [] out) (status ++ replicate (32 - length status) 0xAA) (and-right w o q),

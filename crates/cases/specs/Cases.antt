@@ -6,6 +6,7 @@ use mathlib.Core.Option.{none}
 use Prim.Native.Nat.{ℕ, _-_}
 use lib.IntN.{ℤ}
 use lib.ListN.{length, take, drop, replicate}
+use Rattle.answers.specs.declared.Refusal.the-variants.{NoRoom}
 use Rattle.reading.specs.Rules.{isPacket, isNothing}
 use Rattle.reading.specs.Promise.{joined, NoneAcross}
 use Rattle.stuffing.specs.Stuffing.{stuff, wellStuffed, unstuff}
@@ -20,9 +21,11 @@ use Rattle.table_items.specs.Items.{put}
 use Rattle.table_access.specs.Fresh.{freshTable}
 use Rattle.device_instructions.specs.Registered.{dropped}
 use Rattle.device_dispatch.specs.declared.Heard.the-variants.{Packet, BadChecksum}
-use Rattle.device.specs.Answers.{DeviceAnswer, sent, refused, callAnswer, callTable, callRegistered, callOut}
+use Rattle.device.specs.Answers.{callAnswer, callTable, callRegistered, callOut}
 use Rattle.device.specs.Demand1.{errorNumber}
 use Rattle.device_packet.specs.Exchange.{heardOf}
+use Rattle.device.specs.declared.Replied.{Replied}
+use Rattle.device.specs.declared.Replied.the-variants.{Sent, Refused}
 use Rattle.plan.specs.Goals.{goalsRefusal}
 use Rattle.plan.specs.Planner.{planOf}
 use Rattle.plan.specs.Samples.{twoGoals, planOfTwo}
@@ -36,7 +39,7 @@ pub data Case : Type 0 where
   -- a body, and its stuffed form
   stuffing : List ℕ → List ℕ → Case
   -- a packet as received, and what is lent to the call on it: its answer, and what it leaves
-  exchange : List ℕ → Lent → DeviceAnswer → Lent → Case
+  exchange : List ℕ → Lent → Replied → Lent → Case
   -- a packet as received, and what is lent: the error number by which demand 1 calls it refused, answered or not
   refusal : List ℕ → Lent → ℕ → Case
   -- an ID, a table, and the status that the device call writes where a packet with a bad checksum was heard: nothing changes
@@ -62,7 +65,7 @@ Claim (exchange bytes before answer after) = (answerTo bytes before ≡ answer) 
 Claim (refusal bytes before number) =
     errorNumber (before .table) (before .registered) Packet (heardOf bytes .id) (heardOf bytes .body) ≡ number
 Claim (badChecksum id table status) =
-    (callAnswer table goalRegistered BadChecksum id [] (replicate 32 0xAA) ≡ sent (length status) 0)
+    (callAnswer table goalRegistered BadChecksum id [] (replicate 32 0xAA) ≡ Sent (length status) 0)
     × (callTable table goalRegistered BadChecksum id [] (replicate 32 0xAA) ≡ table)
     × (callRegistered table goalRegistered BadChecksum id [] (replicate 32 0xAA) ≡ goalRegistered)
     × (callOut table goalRegistered BadChecksum id [] (replicate 32 0xAA) ≡ status ++ replicate (32 - length status) 0xAA)
@@ -121,13 +124,13 @@ pingTo253 = 0xFF ∷ 0xFF ∷ 0xFD ∷ 0x02 ∷ 0x01 ∷ 0xFF ∷ []
 -- the packet with an ID and a body, heard by a device with this table: the table and the status (none: silence) that it leaves
 abbrev pub heard : ℕ → List ℕ → List ℕ → List ℕ → List ℕ → Case
 heard id body table new status =
-    exchange (packetOf id body) (lending table goalRegistered (length body)) (sent (length status) 0)
+    exchange (packetOf id body) (lending table goalRegistered (length body)) (Sent (length status) 0)
     (left new goalRegistered (length body) body status)
 
 -- the same where the registered write is dropped by it
 abbrev pub drops : ℕ → List ℕ → List ℕ → List ℕ → List ℕ → Case
 drops id body table new status =
-    exchange (packetOf id body) (lending table goalRegistered (length body)) (sent (length status) 0)
+    exchange (packetOf id body) (lending table goalRegistered (length body)) (Sent (length status) 0)
     (left new dropped (length body) body status)
 
 -- the status of a device with this error byte
@@ -149,48 +152,48 @@ table =
     ∷ stuffing (0x03 ∷ 0xFF ∷ 0xFF ∷ 0xFD ∷ 0xFD ∷ []) (0x03 ∷ 0xFF ∷ 0xFF ∷ 0xFD ∷ 0xFD ∷ 0xFD ∷ [])
     ∷ stuffing (0x03 ∷ 0xFF ∷ 0xFF ∷ []) (0x03 ∷ 0xFF ∷ 0xFF ∷ [])
     -- what a fresh device does with these packets
-    ∷ exchange pingTo1 (lending freshTable dropped 2) (sent 14 0) (left freshTable dropped 2 (0x01 ∷ []) pingStatus)
-    ∷ exchange pingToAll (lending freshTable dropped 1) (sent 14 1) (left freshTable dropped 1 (0x01 ∷ []) pingStatus)
-    ∷ exchange readPosition (lending at166 dropped 5) (sent 15 0) (left at166 dropped 5 (0x02 ∷ 0x84 ∷ 0x00 ∷ 0x04 ∷ 0x00 ∷ []) readStatus)
-    ∷ exchange writeGoal (lending freshTable dropped 8) (sent 11 0)
+    ∷ exchange pingTo1 (lending freshTable dropped 2) (Sent 14 0) (left freshTable dropped 2 (0x01 ∷ []) pingStatus)
+    ∷ exchange pingToAll (lending freshTable dropped 1) (Sent 14 1) (left freshTable dropped 1 (0x01 ∷ []) pingStatus)
+    ∷ exchange readPosition (lending at166 dropped 5) (Sent 15 0) (left at166 dropped 5 (0x02 ∷ 0x84 ∷ 0x00 ∷ 0x04 ∷ 0x00 ∷ []) readStatus)
+    ∷ exchange writeGoal (lending freshTable dropped 8) (Sent 11 0)
     (left (put freshTable goalPosition 512) dropped 8 (0x03 ∷ 0x74 ∷ 0x00 ∷ 0x00 ∷ 0x02 ∷ 0x00 ∷ 0x00 ∷ []) writeStatus)
     -- min position is not raised above the goal position that is stored, and up to it it is
-    ∷ exchange raiseMin (lending freshTable dropped 7) (sent 11 0)
+    ∷ exchange raiseMin (lending freshTable dropped 7) (Sent 11 0)
     (left freshTable dropped 7 (0x03 ∷ 0x34 ∷ 0x00 ∷ 0x00 ∷ 0x02 ∷ 0x00 ∷ 0x00 ∷ []) limitStatus)
-    ∷ exchange raiseMin (lending goalAt512 dropped 7) (sent 11 0)
+    ∷ exchange raiseMin (lending goalAt512 dropped 7) (Sent 11 0)
     (left (put goalAt512 minPosition 512) dropped 7 (0x03 ∷ 0x34 ∷ 0x00 ∷ 0x00 ∷ 0x02 ∷ 0x00 ∷ 0x00 ∷ []) writeStatus)
     -- a goal position is registered, max position is lowered, Action follows: refused, and all that was registered is 0
-    ∷ exchange registerGoal (lending freshTable dropped 7) (sent 11 0)
+    ∷ exchange registerGoal (lending freshTable dropped 7) (Sent 11 0)
     (left registeredTable goalRegistered 7 (take 7 (drop 7 registerGoal)) writeStatus)
-    ∷ exchange lowerMax (lending registeredTable goalRegistered 7) (sent 11 0)
+    ∷ exchange lowerMax (lending registeredTable goalRegistered 7) (Sent 11 0)
     (left (put registeredTable maxPosition 4000) goalRegistered 7 (take 7 (drop 7 lowerMax)) writeStatus)
-    ∷ exchange actionTo1 (lending (put registeredTable maxPosition 4000) goalRegistered 1) (sent 11 0)
+    ∷ exchange actionTo1 (lending (put registeredTable maxPosition 4000) goalRegistered 1) (Sent 11 0)
     (left (put freshTable maxPosition 4000) dropped 1 (0x05 ∷ []) limitStatus)
     -- and without that it is carried out
-    ∷ exchange actionTo1 (lending registeredTable goalRegistered 1) (sent 11 0) (left goalAt512 dropped 1 (0x05 ∷ []) writeStatus)
+    ∷ exchange actionTo1 (lending registeredTable goalRegistered 1) (Sent 11 0) (left goalAt512 dropped 1 (0x05 ∷ []) writeStatus)
     -- with another min position it is refused too; a Reg Write in the place of an older one has the limits of now; one that the limits
     -- do not admit is not registered
     ∷ drops 1 (0x05 ∷ []) (put registeredTable minPosition 100) (put freshTable minPosition 100) limitStatus
-    ∷ exchange registerGoal (lending registeredTable lampRegistered 7) (sent 11 0)
+    ∷ exchange registerGoal (lending registeredTable lampRegistered 7) (Sent 11 0)
     (left registeredTable goalRegistered 7 (take 7 (drop 7 registerGoal)) writeStatus)
     ∷ heard 1 (take 7 (drop 7 registerGoal)) (put freshTable maxPosition 511) (put freshTable maxPosition 511) limitStatus
     -- the third of a Sync Read's list; the longest status
-    ∷ exchange syncReadPosition (lending at166 dropped 8) (sent 15 2)
+    ∷ exchange syncReadPosition (lending at166 dropped 8) (Sent 15 2)
     (left at166 dropped 8 (0x82 ∷ 0x84 ∷ 0x00 ∷ 0x04 ∷ 0x00 ∷ 0x03 ∷ 0x02 ∷ 0x01 ∷ []) readStatus)
-    ∷ exchange readLimits (lending markedLimits dropped 5) (sent 21 0)
+    ∷ exchange readLimits (lending markedLimits dropped 5) (Sent 21 0)
     (left markedLimits dropped 5 (0x02 ∷ 0x30 ∷ 0x00 ∷ 0x08 ∷ 0x00 ∷ []) longestStatus)
     -- the second of a Bulk Read's list, whose own address is read; the first of a Bulk Write's, in silence
-    ∷ exchange bulkReadGoal (lending at166 dropped 11) (sent 15 1)
+    ∷ exchange bulkReadGoal (lending at166 dropped 11) (Sent 15 1)
     (left at166 dropped 11 (take 11 (drop 7 bulkReadGoal)) zeroStatus)
-    ∷ exchange bulkWriteGoal (lending freshTable dropped 16) (sent 0 0)
+    ∷ exchange bulkWriteGoal (lending freshTable dropped 16) (Sent 0 0)
     (left (put freshTable goalPosition 512) dropped 16 (take 16 (drop 7 bulkWriteGoal)) [])
     -- a wrong checksum, and a byte beyond the packet: silence
-    ∷ exchange pingWrongSum (lending freshTable dropped 1) (sent 0 0) (left freshTable dropped 1 (0x01 ∷ []) [])
-    ∷ exchange (pingTo1 ++ 0x00 ∷ []) (lending freshTable dropped 3) (sent 0 0) (left freshTable dropped 3 (0x01 ∷ 0x19 ∷ []) [])
+    ∷ exchange pingWrongSum (lending freshTable dropped 1) (Sent 0 0) (left freshTable dropped 1 (0x01 ∷ []) [])
+    ∷ exchange (pingTo1 ++ 0x00 ∷ []) (lending freshTable dropped 3) (Sent 0 0) (left freshTable dropped 3 (0x01 ∷ 0x19 ∷ []) [])
     -- a refused Action drops the registered write, also where it is not answered; a refused Ping keeps it
-    ∷ exchange actionTo1 (lending registeredTable goalTooLarge 1) (sent 11 0) (left freshTable dropped 1 (0x05 ∷ []) rangeStatus)
-    ∷ exchange actionToAll (lending registeredTable goalTooLarge 1) (sent 0 0) (left freshTable dropped 1 (0x05 ∷ []) [])
-    ∷ exchange pingWithParameter (lending registeredTable goalTooLarge 2) (sent 11 0)
+    ∷ exchange actionTo1 (lending registeredTable goalTooLarge 1) (Sent 11 0) (left freshTable dropped 1 (0x05 ∷ []) rangeStatus)
+    ∷ exchange actionToAll (lending registeredTable goalTooLarge 1) (Sent 0 0) (left freshTable dropped 1 (0x05 ∷ []) [])
+    ∷ exchange pingWithParameter (lending registeredTable goalTooLarge 2) (Sent 11 0)
     (left registeredTable goalTooLarge 2 (0x01 ∷ 0x00 ∷ []) lengthStatus)
     ∷ refusal actionTo1 (lending registeredTable goalTooLarge 1) 0x04
     ∷ refusal actionToAll (lending registeredTable goalTooLarge 1) 0x04
@@ -226,15 +229,15 @@ table =
     ∷ badChecksum 254 freshTable []
     ∷ badChecksum 2 freshTable []
     -- no room for the body
-    ∷ exchange pingTo1 (lending freshTable dropped 0) (refused 13) (lending freshTable dropped 0)
+    ∷ exchange pingTo1 (lending freshTable dropped 0) (Refused NoRoom) (lending freshTable dropped 0)
     -- a log of one Ping, in which ID 1 alone has a packet, and a log of nothing
     ∷ log (pingTo1 ∷ []) (1 ∷ 16 ∷ 254 ∷ 24 ∷ 1040 ∷ 10 ∷ 0 ∷ 1 ∷ replicate 252 0) 1050
     ∷ log [] (0 ∷ 16 ∷ 254 ∷ 16 ∷ replicate 254 0) 1032
     -- a plan of two goals, heard by the second device in it, and by one that is not wanted
     ∷ plan twoGoals planOfTwo
-    ∷ exchange planOfTwo (lending device9 dropped 15) (sent 0 0)
+    ∷ exchange planOfTwo (lending device9 dropped 15) (Sent 0 0)
     (left (put device9 goalPosition 255) dropped 15 (take 15 (drop 7 planOfTwo)) [])
-    ∷ exchange planOfTwo (lending freshTable dropped 15) (sent 0 0) (left freshTable dropped 15 (take 15 (drop 7 planOfTwo)) [])
+    ∷ exchange planOfTwo (lending freshTable dropped 15) (Sent 0 0) (left freshTable dropped 15 (take 15 (drop 7 planOfTwo)) [])
     -- noise that is a packet itself and ends right before one; a packet that ends with the first byte beyond the noise, and one
     -- that begins with the last byte of the noise
     ∷ apart pingTo1 pingStatus

@@ -6,7 +6,7 @@ use lib.ListN.{length, replicate}
 use Rattle.table_registers.specs.Registers.{deviceId, baudCode, torqueEnable, statusReturnLevel, hardwareError, maxPosition, minPosition, goalPosition, registeredInstruction}
 use Rattle.table_items.specs.Items.{put}
 use Rattle.table_access.specs.Fresh.{freshTable, measured}
-use Rattle.device.specs.Answers.{DeviceAnswer}
+use Rattle.device.specs.declared.Replied.{Replied}
 use Rattle.device_packet.specs.Exchange.{exchangeAnswer, exchangeTable, exchangeRegistered, exchangeBody, exchangeOut}
 use Rattle.device_instructions.specs.declared.RegisteredWrite.{RegisteredWrite}
 
@@ -17,7 +17,7 @@ pub record Lent : Type 0 where
   pub body : List ℕ
   pub reply : List ℕ
 
-abbrev pub answerTo : List ℕ → Lent → DeviceAnswer
+abbrev pub answerTo : List ℕ → Lent → Replied
 answerTo packet l = exchangeAnswer (l .table) (l .registered) packet (l .body) (l .reply)
 
 abbrev pub leftAfter : List ℕ → Lent → Lent

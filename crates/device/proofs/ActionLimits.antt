@@ -16,10 +16,11 @@ use Rattle.device_dispatch.specs.Reactions.{ownId, reacting, unchanged, silent,
 use Rattle.device_laws.specs.Refused.{isAction, actsOn}
 use Rattle.device_laws.proofs.Theorems.{acting}
 use Rattle.device.specs.Device.{executed}
-use Rattle.device.specs.Answers.{sent, callRefusal, callAnswer}
+use Rattle.device.specs.Answers.{callRefusal, callAnswer}
 use Rattle.device.specs.ActionLimits.{actsHere, DroppedByLimits, ActionNeedsSameLimits}
 use Rattle.device.proofs.Calls.{accepted}
 use Rattle.device.proofs.Demand1.{sent-by}
+use Rattle.device.specs.declared.Replied.the-variants.{Sent}
 use Rattle.device_instructions.specs.declared.RegisteredWrite.{RegisteredWrite}
 use Rattle.device_dispatch.specs.declared.Heard.{Heard}
 
@@ -51,7 +52,7 @@ module _ (table : List ℕ) (w : RegisteredWrite) (heard : Heard) (id : ℕ) (bo
       by-id false true e = acting table w heard true body is-action
       by-id false false e = absurd (false≢true e)
 
-  module _ (out : List ℕ) (n slot : ℕ) (e : callAnswer table w heard id body out ≡ sent n slot) where
+  module _ (out : List ℕ) (n slot : ℕ) (e : callAnswer table w heard id body out ≡ Sent n slot) where
     passes : callRefusal table w out ≡ none
     passes = sent-by (callRefusal table w out) _ n slot e .0
 

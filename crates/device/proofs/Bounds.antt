@@ -8,7 +8,7 @@ use native.Mathlib.Omega.{arith}
 use lib.Dec.{eqb, leb}
 use lib.ListN.{length, take, drop, getD, length-append, length-take}
 use borrow.Author.Tests.{eq-eqb}
-use Rattle.lists.specs.Answer.{unlessRefused}
+use Rattle.answers.specs.Refusals.{unlessRefused}
 use Rattle.table_registers.specs.Registers.{tableSize}
 use Rattle.table_rules.specs.Rules.{readRule}
 use Rattle.table_access.proofs.Theorems.{read-short}

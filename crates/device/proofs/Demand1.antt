@@ -7,6 +7,7 @@ use Prim.Native.Nat.{ℕ, _<_}
 use native.Mathlib.Omega.{arith}
 use lib.Dec.{leb}
 use lib.ListN.{length, getD}
+use Rattle.answers.specs.declared.Refusal.{Refusal}
 use Rattle.lists.specs.Write.{overwritten}
 use Rattle.stuffing.specs.Stuffing.{stuffAfter}
 use Rattle.packet_encoder.specs.Writing.{withChecksum, packetOf}
@@ -16,24 +17,25 @@ use Rattle.device_dispatch.specs.Reactions.{ReplyRule, silent, speaks, Reaction
 use Rattle.device_laws.specs.Refused.{tableIfRefused, registeredIfRefused}
 use Rattle.device_laws.proofs.Theorems.{refused as reaction-refused}
 use Rattle.device.specs.Device.{hardwareErrorIn, replyBy, executed, carryOut}
-use Rattle.device.specs.Answers.{sent, refused, answeredBy, callRefusal, callAnswer}
+use Rattle.device.specs.Answers.{answeredBy, callRefusal, callAnswer}
 use Rattle.device.specs.Demand1.{LeftAlone, LeftByRefusal, Demand1}
 use Rattle.device.proofs.Calls.{accepted}
 use Rattle.device.proofs.Replies.{to-whomever}
 use Rattle.device_status.specs.declared.Reply.{Reply}
 use Rattle.device_instructions.specs.declared.RegisteredWrite.{RegisteredWrite}
 use Rattle.device_dispatch.specs.declared.Heard.{Heard}
+use Rattle.device.specs.declared.Replied.the-variants.{Sent, Refused}
 
--- ---- by the answer: refused by a number, or not
+-- ---- by the answer: refused, or not
 
-pub sent-by : (r : Option ℕ) (reply : Reply) (n slot : ℕ) → answeredBy r reply ≡ sent n slot
+pub sent-by : (r : Option Refusal) (reply : Reply) (n slot : ℕ) → answeredBy r reply ≡ Sent n slot
     → (r ≡ none) × (length (replyBytes reply) ≡ n) × (reply .slot ≡ slot)
 sent-by none reply n slot e = (refl, cc, cc)
-sent-by (some number) reply n slot e = let z : _≡_ {A = ℕ} 0 1 = cc in absurd (omega arith)
+sent-by (some refusal) reply n slot e = let z : _≡_ {A = ℕ} 0 1 = cc in absurd (omega arith)
 
-pub refused-by : (r : Option ℕ) (reply : Reply) (number : ℕ) → answeredBy r reply ≡ refused number → r ≡ some number
-refused-by none reply number e = let z : _≡_ {A = ℕ} 0 1 = cc in absurd (omega arith)
-refused-by (some k) reply number e = cc
+pub refused-by : (r : Option Refusal) (reply : Reply) (refusal : Refusal) → answeredBy r reply ≡ Refused refusal → r ≡ some refusal
+refused-by none reply refusal e = let z : _≡_ {A = ℕ} 0 1 = cc in absurd (omega arith)
+refused-by (some other) reply refusal e = cc
 
 -- ---- the error byte of a status, whose first two body bytes need no stuffing
 
@@ -53,12 +55,12 @@ carries (speaks least slot) table e out h = by-level (leb least (getD table 68 0
     by-level false l = absurd (omega arith)
 
 module _ (table : List ℕ) (w : RegisteredWrite) (heard : Heard) (id : ℕ) (body out : List ℕ) where
-  refused-call : (number : ℕ) → callAnswer table w heard id body out ≡ refused number → LeftAlone table w heard id body out
-  refused-call number e =
-      let r = refused-by (callRefusal table w out) _ number e in
+  refused-call : (refusal : Refusal) → callAnswer table w heard id body out ≡ Refused refusal → LeftAlone table w heard id body out
+  refused-call refusal e =
+      let r = refused-by (callRefusal table w out) _ refusal e in
       record { same-table = rw r; same-registered = rw r; same-reply = rw r }
 
-  module _ (n slot : ℕ) (e : callAnswer table w heard id body out ≡ sent n slot) where
+  module _ (n slot : ℕ) (e : callAnswer table w heard id body out ≡ Sent n slot) where
     passes : callRefusal table w out ≡ none
     passes = sent-by (callRefusal table w out) _ n slot e .0
 

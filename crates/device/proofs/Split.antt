@@ -8,14 +8,17 @@ use native.Mathlib.Omega.{arith}
 use lib.Dec.{leb}
 use lib.ListN.{length}
 use borrow.Author.Tests.{leb-true, leb-false}
+use Rattle.answers.specs.declared.Refusal.{Refusal}
+use Rattle.answers.specs.declared.Refusal.the-variants.{ShortReply}
 use Rattle.device_status.proofs.Sending.{accepts as sends}
 use Rattle.device.specs.Device.{carryOut}
-use Rattle.device.specs.Answers.{refused, stateRefusal, callRefusal, callAnswer}
+use Rattle.device.specs.Answers.{stateRefusal, callRefusal, callAnswer}
 use Rattle.device.specs.Split.{SameAsOne, Split}
 use Rattle.device.proofs.Calls.{state-accepted, then-room, refuses-room, accepts}
 use Rattle.device.proofs.Bounds.{sendable}
 use Rattle.device_instructions.specs.declared.RegisteredWrite.{RegisteredWrite}
 use Rattle.device_dispatch.specs.declared.Heard.{Heard}
+use Rattle.device.specs.declared.Replied.the-variants.{Refused}
 
 module _ (table : List ℕ) (w : RegisteredWrite) (heard : Heard) (id : ℕ) (body out : List ℕ) where
   -- the same, and that the first call refuses what the one call refuses
@@ -24,9 +27,9 @@ module _ (table : List ℕ) (w : RegisteredWrite) (heard : Heard) (id : ℕ) (bo
     pub refusals : stateRefusal table w ≡ callRefusal table w out
 
   -- the first is refused
-  not-carried : (number : ℕ) → stateRefusal table w ≡ some number → Same
+  not-carried : (refusal : Refusal) → stateRefusal table w ≡ some refusal → Same
   unfolding callRefusal
-  not-carried number f =
+  not-carried refusal f =
       record { as-one = record { same-answer = rw f; same-table = rw f; same-registered = rw f; same-reply = rw f }; refusals = rw f }
 
   -- neither is
@@ -41,15 +44,15 @@ module _ (table : List ℕ) (w : RegisteredWrite) (heard : Heard) (id : ℕ) (bo
         refusals = rw (f, c);
       }
 
-  by-state : (r : Option ℕ) → stateRefusal table w ≡ r → (stateRefusal table w ≡ none → Same) → Same
-  by-state (some number) e next = not-carried number e
+  by-state : (r : Option Refusal) → stateRefusal table w ≡ r → (stateRefusal table w ≡ none → Same) → Same
+  by-state (some refusal) e next = not-carried refusal e
   by-state none e next = next e
 
   pub with-room : 32 ≤ length out → Same
   with-room room = by-state (stateRefusal table w) refl (λ f. carried f room)
 
-  pub unless-24 : ¬ (callAnswer table w heard id body out ≡ refused 24) → Same
-  unless-24 n = by-state (stateRefusal table w) refl (λ f. by-room f (leb 32 (length out)) refl)
+  pub unless-short : ¬ (callAnswer table w heard id body out ≡ Refused ShortReply) → Same
+  unless-short n = by-state (stateRefusal table w) refl (λ f. by-room f (leb 32 (length out)) refl)
     where
       by-room : stateRefusal table w ≡ none → (b : Bool) → leb 32 (length out) ≡ b → Same
       by-room f true l = carried f (leb-true 32 (length out) l)
@@ -58,4 +61,4 @@ module _ (table : List ℕ) (w : RegisteredWrite) (heard : Heard) (id : ℕ) (bo
           absurd (n (rw c))
 
 pub split : Split
-split table w heard id body out n = unless-24 table w heard id body out n .as-one
+split table w heard id body out n = unless-short table w heard id body out n .as-one

@@ -8,7 +8,8 @@ use native.Mathlib.Omega.{arith}
 use lib.Dec.{leb}
 use lib.ListN.{length}
 use borrow.Author.Tests.{le-leb}
-use Rattle.lists.specs.Answer.{unlessRefused}
+use Rattle.answers.specs.Refusals.{unlessRefused}
+use Rattle.answers.specs.declared.Refusal.{Refusal}
 use Rattle.table_registers.specs.Registers.{tableSize}
 use Rattle.device_instructions.specs.Instructions.{Effect, read, write}
 use Rattle.device_instructions.proofs.Options.{each-option, each-action}
@@ -34,7 +35,7 @@ module _ (P : List ℕ → Type 0) (kept : Kept P) (table : List ℕ) (p : P tab
       p
 
   -- whatever registered write is lent, and whatever refuses it
-  unless-keeps : (r : Option ℕ) → P (unlessRefused r table (executed table w heard id body .effect .table))
+  unless-keeps : (r : Option Refusal) → P (unlessRefused r table (executed table w heard id body .effect .table))
   unless-keeps none = executed-keeps
   unless-keeps (some number) = p
 
@@ -55,7 +56,7 @@ module _ (table : List ℕ) (w : RegisteredWrite) (heard : Heard) (id : ℕ) (bo
       short
 
   -- a registered write with a count above 8 stays
-  unless-count : (r : Option ℕ) → (r ≡ none → AcceptedState table w)
+  unless-count : (r : Option Refusal) → (r ≡ none → AcceptedState table w)
       → leb (keptBy r w (executed table w heard id body .effect .registered) .count) 8 ≡ leb (w .count) 8
   unless-count none good =
       let a = good refl in

@@ -4,6 +4,7 @@ use mathlib.Core.List.{List}
 use mathlib.Core.Option.{Option, none, some}
 use Prim.Native.Nat.{ℕ, _≤_}
 use native.Mathlib.Omega.{arith}
+use Rattle.answers.specs.declared.Refusal.{Refusal}
 use Rattle.lists.specs.Write.{overwritten}
 use Rattle.device_status.specs.Status.{silence, replyBytes}
 use Rattle.device_dispatch.specs.Reactions.{ownId}
@@ -29,7 +30,7 @@ module _ (table : List ℕ) (w : RegisteredWrite) (heard : Heard) (body out : Li
   pub unheard : Unheard
   unheard = by-refusal (callRefusal table w out) refl
     where
-      by-refusal : (r : Option ℕ) → callRefusal table w out ≡ r → Unheard
+      by-refusal : (r : Option Refusal) → callRefusal table w out ≡ r → Unheard
       by-refusal (some number) e = record { same-table = rw e; same-registered = rw e; same-reply = rw e; silent = rw e }
       by-refusal none e =
           let c = nothing-done (accepted table w out e .known) in
@@ -49,7 +50,7 @@ module _ (table : List ℕ) (w : RegisteredWrite) (heard : Heard) (body out : Li
   pub first-unheard : FirstUnheard
   first-unheard = by-refusal (stateRefusal table w) refl
     where
-      by-refusal : (r : Option ℕ) → stateRefusal table w ≡ r → FirstUnheard
+      by-refusal : (r : Option Refusal) → stateRefusal table w ≡ r → FirstUnheard
       by-refusal (some number) e = record { same-table = rw e; same-registered = rw e; silent = rw e }
       by-refusal none e =
           let c = nothing-done (state-accepted table w e .known) in

@@ -6,6 +6,7 @@ use Prim.Native.Nat.{ℕ, _≤_, _<_}
 use native.Mathlib.Omega.{arith}
 use lib.ListN.{length, take}
 use borrow.Author.Tests.{ne-eqb}
+use Rattle.answers.specs.declared.Refusal.{Refusal}
 use Rattle.lists.specs.Write.{overwritten}
 use Rattle.lists.proofs.Write.{overwritten-take}
 use Rattle.device_status.specs.Status.{replyBytes}
@@ -47,7 +48,7 @@ status-written table w heard id body out n slot e h =
 first-early : (table : List ℕ) (w : RegisteredWrite) (heard : Heard) (id : ℕ) (body : List ℕ) → carriedReply table w heard id body .slot ≤ 252
 first-early table w heard id body = by-refusal (stateRefusal table w) refl
   where
-    by-refusal : (r : Option ℕ) → stateRefusal table w ≡ r → carriedReply table w heard id body .slot ≤ 252
+    by-refusal : (r : Option Refusal) → stateRefusal table w ≡ r → carriedReply table w heard id body .slot ≤ 252
     by-refusal (some number) e = rw e (omega arith)
     by-refusal none e = let a = state-accepted table w e in rw e (sendable table w (a .sized) (a .known) heard id body .early)
 

@@ -8,10 +8,11 @@ use lib.ListN.{set}
 use Rattle.device_instructions.specs.Registered.{dropped, LimitsOf}
 use Rattle.device_dispatch.specs.Reactions.{ownId}
 use Rattle.device_laws.specs.Refused.{actsOn}
-use Rattle.device.specs.Answers.{sent, callAnswer, callTable, callRegistered}
+use Rattle.device.specs.Answers.{callAnswer, callTable, callRegistered}
 use Rattle.device.specs.Demand1.{errorNumber}
 use Rattle.device_instructions.specs.declared.RegisteredWrite.{RegisteredWrite}
 use Rattle.device_dispatch.specs.declared.Heard.{Heard}
+use Rattle.device.specs.declared.Replied.the-variants.{Sent}
 
 -- an Action without parameters, to the device or to all, that finds a registered write [D49]
 abbrev pub actsHere : List ℕ → RegisteredWrite → Heard → ℕ → List ℕ → Bool
@@ -27,9 +28,9 @@ pub record DroppedByLimits (table : List ℕ) (w : RegisteredWrite) (heard : Hea
 pub record ActionNeedsSameLimits : Type 0 where
   -- one that is not refused has found them as they were
   pub done : (table : List ℕ) (w : RegisteredWrite) (heard : Heard) (id : ℕ) (body out : List ℕ) (n slot : ℕ)
-      → callAnswer table w heard id body out ≡ sent n slot → actsHere table w heard id body ≡ true
+      → callAnswer table w heard id body out ≡ Sent n slot → actsHere table w heard id body ≡ true
       → errorNumber table w heard id body ≡ 0 → LimitsOf table w
   -- and under others it is refused before the write rule
   pub changed : (table : List ℕ) (w : RegisteredWrite) (heard : Heard) (id : ℕ) (body out : List ℕ) (n slot : ℕ)
-      → callAnswer table w heard id body out ≡ sent n slot → actsHere table w heard id body ≡ true
+      → callAnswer table w heard id body out ≡ Sent n slot → actsHere table w heard id body ≡ true
       → ¬ LimitsOf table w → DroppedByLimits table w heard id body out

@@ -3,12 +3,14 @@ use mathlib.Core.Path.{_≡_}
 use mathlib.Core.List.{List}
 use Prim.Native.Nat.{ℕ, _<_}
 use lib.ListN.{getD}
+use Rattle.answers.specs.declared.Refusal.{Refusal}
 use Rattle.device_status.specs.Status.{errorByte}
 use Rattle.device_laws.specs.Refused.{tableIfRefused, registeredIfRefused}
 use Rattle.device.specs.Device.{hardwareErrorIn, carryOut}
-use Rattle.device.specs.Answers.{sent, refused, callAnswer, callTable, callRegistered, callOut}
+use Rattle.device.specs.Answers.{callAnswer, callTable, callRegistered, callOut}
 use Rattle.device_instructions.specs.declared.RegisteredWrite.{RegisteredWrite}
 use Rattle.device_dispatch.specs.declared.Heard.{Heard}
+use Rattle.device.specs.declared.Replied.the-variants.{Sent, Refused}
 
 -- the error number of an instruction, 0 for none: that of its status, or of the status that it would have where it is not answered
 -- [D40]
@@ -28,15 +30,15 @@ module _ (table : List ℕ) (w : RegisteredWrite) (heard : Heard) (id : ℕ) (bo
 
 -- [D40]
 pub record Demand1 : Type 0 where
-  -- a call that is refused by its number
-  pub refused-call : (table : List ℕ) (w : RegisteredWrite) (heard : Heard) (id : ℕ) (body out : List ℕ) (number : ℕ)
-      → callAnswer table w heard id body out ≡ refused number → LeftAlone table w heard id body out
+  -- a call that is refused
+  pub refused-call : (table : List ℕ) (w : RegisteredWrite) (heard : Heard) (id : ℕ) (body out : List ℕ) (refusal : Refusal)
+      → callAnswer table w heard id body out ≡ Refused refusal → LeftAlone table w heard id body out
   -- an instruction that is refused, whether or not that is answered
   pub refused-instruction : (table : List ℕ) (w : RegisteredWrite) (heard : Heard) (id : ℕ) (body out : List ℕ) (n slot : ℕ)
-      → callAnswer table w heard id body out ≡ sent n slot → ¬ (errorNumber table w heard id body ≡ 0)
+      → callAnswer table w heard id body out ≡ Sent n slot → ¬ (errorNumber table w heard id body ≡ 0)
       → LeftByRefusal table w heard id body out
   -- the number is the one that a status carries: byte 8 is the error byte
   pub in-status : (table : List ℕ) (w : RegisteredWrite) (heard : Heard) (id : ℕ) (body out : List ℕ) (n slot : ℕ)
-      → callAnswer table w heard id body out ≡ sent n slot → 0 < n
+      → callAnswer table w heard id body out ≡ Sent n slot → 0 < n
       → getD (callOut table w heard id body out) 8 0
       ≡ errorByte (errorNumber table w heard id body) (hardwareErrorIn (callTable table w heard id body out))

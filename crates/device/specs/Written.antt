@@ -6,9 +6,10 @@ use lib.ListN.{take}
 use Rattle.packet_front.specs.Front.{idOf}
 use Rattle.packet.specs.Packet.{WellFormed}
 use Rattle.device_dispatch.specs.Reactions.{ownId}
-use Rattle.device.specs.Answers.{sent, carriedReply, callAnswer, callOut}
+use Rattle.device.specs.Answers.{carriedReply, callAnswer, callOut}
 use Rattle.device_instructions.specs.declared.RegisteredWrite.{RegisteredWrite}
 use Rattle.device_dispatch.specs.declared.Heard.{Heard}
+use Rattle.device.specs.declared.Replied.the-variants.{Sent}
 
 -- the n bytes are a status of the device whose ID, before the instruction, is `own` [D41]
 pub record IsStatus (own n : ℕ) (bytes : List ℕ) : Type 0 where
@@ -20,10 +21,10 @@ pub record IsStatus (own n : ℕ) (bytes : List ℕ) : Type 0 where
 abbrev pub StatusWritten : Type 0
 StatusWritten =
     (table : List ℕ) (w : RegisteredWrite) (heard : Heard) (id : ℕ) (body out : List ℕ) (n slot : ℕ)
-    → callAnswer table w heard id body out ≡ sent n slot → 0 < n → IsStatus (ownId table) n (take n (callOut table w heard id body out))
+    → callAnswer table w heard id body out ≡ Sent n slot → 0 < n → IsStatus (ownId table) n (take n (callOut table w heard id body out))
 
 -- the reply slot, of the call in one and of the reply that the first of two gives [D34 D35]
 pub record SlotWithin : Type 0 where
   pub in-one : (table : List ℕ) (w : RegisteredWrite) (heard : Heard) (id : ℕ) (body out : List ℕ) (n slot : ℕ)
-      → callAnswer table w heard id body out ≡ sent n slot → slot ≤ 252
+      → callAnswer table w heard id body out ≡ Sent n slot → slot ≤ 252
   pub in-two : (table : List ℕ) (w : RegisteredWrite) (heard : Heard) (id : ℕ) (body : List ℕ) → carriedReply table w heard id body .slot ≤ 252

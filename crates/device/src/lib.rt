@@ -1,11 +1,12 @@
 // The device on the bus: what it hears is carried out, and answered in the caller's buffer.
+use answers::Answer;
+use answers::Refusal;
 use device_dispatch::Heard;
 use device_instructions::MAX_REGISTERED;
 use device_instructions::RegisteredWrite;
 use device_replies::Reacted;
 use device_status::MIN_REPLY;
 use device_status::Reply;
-use device_status::Written;
 use packet_front::BROADCAST_ID;
 use packet_front::MAX_ID;
 use table_registers::REG_HARDWARE_ERROR;
@@ -17,10 +18,10 @@ ghost use Prim.Native.Nat.{_≤_};
 ghost use lib.ListN.{length};
 ghost use Rattle.table_registers.specs.Registers.{tableSize};
 ghost use Rattle.device_status.specs.Status.{silence as Status·silence};
-ghost use Rattle.device_status.specs.Sending.{writtenAnswer, statusAnswer, statusOut};
+ghost use Rattle.device_status.specs.Sending.{statusAnswer, statusOut};
 ghost use Rattle.device.specs.Device.{carried, carryOut};
 ghost use Rattle.device_dispatch.specs.Reactions.{reaction as Reactions·reaction};
-ghost use Rattle.device.specs.Answers.{repliedAnswer, withSlot, stateRefusal, carriedAnswer, carriedReply, carriedRegistered, carriedError, carriedTable, callRefusal, answeredBy, callAnswer, callRegistered, callTable, callOut};
+ghost use Rattle.device.specs.Answers.{withSlot, stateRefusal, carriedAnswer, carriedReply, carriedRegistered, carriedError, carriedTable, callRefusal, answeredBy, callAnswer, callRegistered, callTable, callOut};
 ghost use Rattle.device.specs.Results.{replyTo, carriedOf};
 
 // By the ID and the status return level from before the instruction, and the table from after it.
@@ -46,16 +47,10 @@ fn reply_to(table: &[u8], own: u8, level: u8, reacted: Reacted) -> Reply
     }
 }
 
-// The count of bytes of the status, 0 for silence, and the reply slot; or a fault of the caller. The last two are of a reply that
-// cannot be sent, and the device has none such.
+// The count of bytes of the status, 0 for silence, and the reply slot; or a refusal.
 pub enum Replied {
     Sent(usize, usize),
-    NotTable,
-    BadId,
-    BadRegistered,
-    NoRoom,
-    BadReplyId,
-    LongReply,
+    Refused(Refusal),
 }
 
 // What the first call leaves: a fault of the caller, or `Sent(0, 0)` for none; the reply; the registered write; the error number, 0 for
@@ -140,16 +135,16 @@ pub struct Response {
 // The caller's fault in table and registered write, or silence where there is none. In their order: a table that is not 136 bytes
 // long, an ID above 252 in it, a registered write of more than 8 bytes. [N5-N7]
 pub fn state_refusal(table: &[u8], registered: RegisteredWrite) -> Replied
-    ensures { λ r. ⌜ repliedAnswer r ≡ answeredBy (stateRefusal (now (table .entry)) registered) Status·silence ⌝ }
+    ensures { λ r. ⌜ r ≡ answeredBy (stateRefusal (now (table .entry)) registered) Status·silence ⌝ }
 {
     if table.len() != TABLE_BYTES {
-        return Replied::NotTable;
+        return Replied::Refused(Refusal::NotATable);
     }
     if MAX_ID < table[REG_ID] {
-        return Replied::BadId;
+        return Replied::Refused(Refusal::BadTableId);
     }
     if MAX_REGISTERED < registered.count {
-        return Replied::BadRegistered;
+        return Replied::Refused(Refusal::BadRegistered);
     }
     Replied::Sent(0, 0)
 }
@@ -163,7 +158,7 @@ pub fn carry_out(
     id: u8,
     body: &[u8],
 ) -> CarriedOut
-    ensures { λ r. ⌜ repliedAnswer (r .refused) ≡ carriedAnswer (now (table .entry)) registered ⌝ }
+    ensures { λ r. ⌜ r .refused ≡ carriedAnswer (now (table .entry)) registered ⌝ }
     ensures { λ r. ⌜ r .reply ≡ carriedReply (now (table .entry)) registered heard id (now (body .entry)) ⌝ }
     ensures { λ r. ⌜ r .registered ≡ carriedRegistered (now (table .entry)) registered heard id (now (body .entry)) ⌝ }
     ensures { λ r. ⌜ r .error ≡ carriedError (now (table .entry)) registered heard id (now (body .entry)) ⌝ }
@@ -183,33 +178,31 @@ pub fn carry_out(
 
 // The caller's fault in what is lent to the device call, or silence: the same, then a reply buffer under 32 bytes. [N8 N10]
 pub fn call_refusal(table: &[u8], registered: RegisteredWrite, out: &[u8]) -> Replied
-    ensures { λ r. ⌜ repliedAnswer r ≡ answeredBy (callRefusal (now (table .entry)) registered (now (out .entry))) Status·silence ⌝ }
+    ensures { λ r. ⌜ r ≡ answeredBy (callRefusal (now (table .entry)) registered (now (out .entry))) Status·silence ⌝ }
 {
     let replied = state_refusal(table, registered);
     let Replied::Sent(_, _) = replied else {
         return replied;
     };
     if out.len() < MIN_REPLY {
-        return Replied::NoRoom;
+        return Replied::Refused(Refusal::ShortReply);
     }
     Replied::Sent(0, 0)
 }
 
 // What the function that sends answers, with the reply slot.
-fn with_slot(written: Written, slot: usize) -> Replied
-    ensures { λ r. ⌜ repliedAnswer r ≡ withSlot (writtenAnswer written) slot ⌝ }
+fn with_slot(answer: Answer, slot: usize) -> Replied
+    ensures { λ r. ⌜ r ≡ withSlot answer slot ⌝ }
 {
-    match written {
-        Written::Count(n) => Replied::Sent(n, slot),
-        Written::BadId => Replied::BadReplyId,
-        Written::TooLong => Replied::LongReply,
-        Written::NoRoom => Replied::NoRoom,
+    match answer {
+        Answer::Count(n) => Replied::Sent(n, slot),
+        Answer::Refused(refusal) => Replied::Refused(refusal),
     }
 }
 
 // The second: the reply is sent. Its count of bytes, with the reply slot, or a refusal; those of `device_status::send`. [D35 D52]
 pub fn send(reply: Reply, out: &mut [u8]) -> Replied
-    ensures { λ r. ⌜ repliedAnswer r ≡ withSlot (statusAnswer reply (now (out .entry))) (reply .slot) ⌝ }
+    ensures { λ r. ⌜ r ≡ withSlot (statusAnswer reply (now (out .entry))) (reply .slot) ⌝ }
     ensures { λ _. ⌜ now (out .exit) ≡ statusOut reply (now (out .entry)) ⌝ }
 {
     let slot = reply.slot;
@@ -226,7 +219,7 @@ pub fn hear(
     body: &[u8],
     out: &mut [u8],
 ) -> Response
-    ensures { λ r. ⌜ repliedAnswer (r .replied) ≡ callAnswer (now (table .entry)) registered heard id (now (body .entry)) (now (out .entry)) ⌝ }
+    ensures { λ r. ⌜ r .replied ≡ callAnswer (now (table .entry)) registered heard id (now (body .entry)) (now (out .entry)) ⌝ }
     ensures { λ r. ⌜ r .registered ≡ callRegistered (now (table .entry)) registered heard id (now (body .entry)) (now (out .entry)) ⌝ }
     ensures { λ _. ⌜ now (table .exit) ≡ callTable (now (table .entry)) registered heard id (now (body .entry)) (now (out .entry)) ⌝ }
     ensures { λ _. ⌜ now (out .exit) ≡ callOut (now (table .entry)) registered heard id (now (body .entry)) (now (out .entry)) ⌝ }

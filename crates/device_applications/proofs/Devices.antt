@@ -9,6 +9,8 @@ use lib.Dec.{leb}
 use lib.IntN.{ℤ, pos}
 use lib.ListN.{take, replicate}
 use borrow.Author.Tests.{leb-true, ltb-true}
+use Rattle.answers.specs.declared.Refusal.{Refusal}
+use Rattle.answers.specs.declared.Refusal.the-variants.{BadStuffing, NoRoom, NotATable, BadRegistered, ShortReply}
 use Rattle.lists.specs.Numbers.{numberAt, bytesOf}
 use Rattle.lists.proofs.Bools.{and-left, and-right, both-ways}
 use Rattle.crc.specs.Crc.{reduceIf, shift, shifts, crcByte, crcFrom}
@@ -35,8 +37,10 @@ use Rattle.device_instructions.specs.declared.RegisteredWrite.{RegisteredWrite}
 use Rattle.device_dispatch.specs.Reactions.{heardInstruction}
 use Rattle.device_dispatch.specs.declared.Heard.the-variants.{Packet, BadChecksum}
 use Rattle.device.specs.Device.{executed}
-use Rattle.device.specs.Answers.{DeviceAnswer, sent, refused, stateRefusal, roomRefusal, callRefusal}
+use Rattle.device.specs.Answers.{stateRefusal, roomRefusal, callRefusal}
 use Rattle.device_packet.specs.Exchange.{idHeard}
+use Rattle.device.specs.declared.Replied.{Replied}
+use Rattle.device.specs.declared.Replied.the-variants.{Sent, Refused}
 use Rattle.board.specs.Board.{lentRefusal, outcome}
 use Rattle.device_calls.specs.Calls.{State, DeviceCall, fresh, measurement, device, exchange, carry, carryPacket, onBoard, lend, stateOf, afterAll, refusalIn}
 use Rattle.cases.specs.Exchanges.{goalAt512, registeredTable, goalTooLarge, goalRegistered, pingWrongSum}
@@ -84,10 +88,10 @@ pub stays-accepted-applied : StaysAcceptedApplied
 stays-accepted-applied t = (
   ends,
   subst (λ (s : State). refusalIn s ≡ none) ends (t .stays start eachKind accepted-start (all-lent eachKind refl)),
-  subst (λ (s : State). refusalIn (stateOf (s .table) tooMany) ≡ some 23) ends (t .by-lent start (eachKind ++ lend tooMany ∷ []) accepted-start),
+  subst (λ (s : State). refusalIn (stateOf (s .table) tooMany) ≡ some BadRegistered) ends (t .by-lent start (eachKind ++ lend tooMany ∷ []) accepted-start),
   stored-ends,
   subst (λ (s : State). refusalIn s ≡ none) stored-ends (t .stays stored onStored accepted-stored (all-lent onStored refl)),
-  subst (λ (s : State). refusalIn (stateOf (s .table) tooMany) ≡ some 23) stored-ends (t .by-lent stored (onStored ++ lend tooMany ∷ []) accepted-stored),
+  subst (λ (s : State). refusalIn (stateOf (s .table) tooMany) ≡ some BadRegistered) stored-ends (t .by-lent stored (onStored ++ lend tooMany ∷ []) accepted-stored),
 )
 
 pub goal-within-limits-applied : GoalWithinLimitsApplied
@@ -100,8 +104,8 @@ goal-within-limits-applied t = (
 )
 
 -- contradictory answers
-not-refused : (n slot m : ℕ) → ¬ (_≡_ {A = DeviceAnswer} (sent n slot) (refused m))
-not-refused n slot m e = let z : _≡_ {A = ℕ} 0 1 = cc in absurd (omega arith)
+not-refused : (n slot : ℕ) (refusal : Refusal) → ¬ (_≡_ {A = Replied} (Sent n slot) (Refused refusal))
+not-refused n slot refusal e = let z : _≡_ {A = ℕ} 0 1 = cc in absurd (omega arith)
 
 other-limits : ¬ LimitsOf otherLimits goalRegistered
 unfolding put bytesOf freshened registers valueAt numberAt
@@ -114,8 +118,8 @@ other-limits-to-all l = let z : _≡_ {A = ℤ} (pos 0) (pos 4000) = l .same-max
 pub device-promises-applied : DevicePromisesApplied
 unfolding reduceIf shift shifts crcByte crcFrom stuffAfter wellAfter unstuffAfter lengthOf bodyOf checksumRight withChecksum packetOf frontAgrees lengthAgrees registers permitsBy numberAt valueAt bytesOf put freshened everyByte everyTouched goalInside limitsKept writeRule readRule read write sameLimits regWrite action occurs searchFrom heardInstruction executed stateRefusal roomRefusal callRefusal removalRefusal idHeard shapeVerdict
 device-promises-applied t =
-    let refused-call = t .demand-1 .refused-call goalAt512 goalRegistered Packet 1 (0x05 ∷ []) short 24 refl in
-    let refused-cut = t .demand-1 .refused-call cut tooMany BadChecksum 1 [] short 21 refl in
+    let refused-call = t .demand-1 .refused-call goalAt512 goalRegistered Packet 1 (0x05 ∷ []) short ShortReply refl in
+    let refused-cut = t .demand-1 .refused-call cut tooMany BadChecksum 1 [] short NotATable refl in
     let refused-write = t .demand-1 .refused-instruction registeredTable longest Packet 1 writeTooLarge room 11 0 refl (λ e. absurd (omega (arith, e))) in
     let refused-sum = t .demand-1 .refused-instruction alerted goalRegistered BadChecksum 1 [] room 11 0 refl (λ e. absurd (omega (arith, e))) in
     let refused-action = t .demand-1 .refused-instruction registeredTable longest Packet 254 (0x05 ∷ []) room 0 0 refl (λ e. absurd (omega (arith, e))) in
@@ -193,17 +197,17 @@ wrong-id : ¬ WellFormed to253
 wrong-id w = both-ways (goodId (idOf to253)) (w .identified) refl
 
 -- other refusals
-not-24 : ¬ (_≡_ {A = DeviceAnswer} (refused 23) (refused 24))
-not-24 e = let z : _≡_ {A = ℕ} 23 24 = cc in absurd (omega arith)
+not-short : ¬ (_≡_ {A = Replied} (Refused BadRegistered) (Refused ShortReply))
+not-short e = let z : _≡_ {A = ℕ} 23 24 = cc in absurd (omega arith)
 
 pub split-applied : SplitApplied
 unfolding reduceIf shift shifts crcByte crcFrom stuffAfter wellAfter unstuffAfter lengthOf bodyOf checksumRight withChecksum packetOf frontAgrees lengthAgrees registers permitsBy numberAt valueAt bytesOf put freshened everyByte everyTouched goalInside limitsKept writeRule readRule read write sameLimits regWrite action occurs searchFrom heardInstruction executed stateRefusal roomRefusal callRefusal removalRefusal idHeard shapeVerdict encodeRefusal
 split-applied t =
-    let ping = t freshTable longest Packet 1 (0x01 ∷ []) room (not-refused 14 0 24) in
-    let act = t registeredTable goalRegistered Packet 1 (0x05 ∷ []) room (not-refused 11 0 24) in
-    let sum = t alerted longest BadChecksum 1 [] room (not-refused 11 0 24) in
-    let long = t marked longest Packet 254 syncLimits room (not-refused 21 2 24) in
-    let stopped = t freshTable tooMany Packet 1 (0x01 ∷ []) short not-24 in
+    let ping = t freshTable longest Packet 1 (0x01 ∷ []) room (not-refused 14 0 ShortReply) in
+    let act = t registeredTable goalRegistered Packet 1 (0x05 ∷ []) room (not-refused 11 0 ShortReply) in
+    let sum = t alerted longest BadChecksum 1 [] room (not-refused 11 0 ShortReply) in
+    let long = t marked longest Packet 254 syncLimits room (not-refused 21 2 ShortReply) in
+    let stopped = t freshTable tooMany Packet 1 (0x01 ∷ []) short not-short in
     record {
       ping-answer = ping .same-answer;
       ping-reply = ap (take 14) (ping .same-reply);
@@ -229,8 +233,8 @@ exchange-promises-applied t =
     let marked-room = t .only-packets .with-room writeMarked sevenBytes marked-well (leb-true _ _ refl) in
     let marked-heard = t .as-device .passed-on freshTable longest writeMarked sevenBytes room marked-room in
     let many = t .as-device .passed-on freshTable tooMany writeGoal sevenBytes short room-is in
-    let stopped = t .as-device .stopped freshTable longest writeGoal sixBytes room 13 refl in
-    let bad = t .as-device .stopped freshTable tooMany badlyStuffed bodyRoom short 14 refl in
+    let stopped = t .as-device .stopped freshTable longest writeGoal sixBytes room NoRoom refl in
+    let bad = t .as-device .stopped freshTable tooMany badlyStuffed bodyRoom short BadStuffing refl in
     let bad-unheard = t .only-packets .others freshTable tooMany badlyStuffed bodyRoom short wrong-stuffing in
     let nobody = t .only-packets .others freshTable longest to253 bodyRoom room wrong-id in
     let unheard = t .only-packets .others freshTable longest pingWrongSum bodyRoom room wrong-sum in

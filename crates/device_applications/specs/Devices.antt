@@ -6,6 +6,7 @@ use mathlib.Core.Option.{none, some}
 use Prim.Native.Nat.{ℕ, _≤_}
 use lib.IntN.{pos}
 use lib.ListN.{take, replicate, getD}
+use Rattle.answers.specs.declared.Refusal.the-variants.{BadStuffing, NoRoom, BadRegistered}
 use Rattle.reading.specs.Calls.{feed}
 use Rattle.packet_front.specs.Front.{idOf}
 use Rattle.packet.specs.Packet.{WellFormed}
@@ -18,11 +19,12 @@ use Rattle.device_instructions.specs.Registered.{dropped}
 use Rattle.device_instructions.specs.declared.RegisteredWrite.{RegisteredWrite}
 use Rattle.device_dispatch.specs.declared.Heard.the-variants.{Packet, BadChecksum}
 use Rattle.device_status.specs.Status.{status, silence}
-use Rattle.device.specs.Answers.{sent, refused, stateRefusal, carriedTable, carriedRegistered, carriedReply, callTable, callRegistered, callOut}
+use Rattle.device.specs.Answers.{stateRefusal, carriedTable, carriedRegistered, carriedReply, callTable, callRegistered, callOut}
 use Rattle.device.specs.Demand1.{errorNumber}
 use Rattle.device.specs.Promises.{DevicePromises}
 use Rattle.device.specs.Split.{Split, answerOfBoth, outOfBoth}
 use Rattle.device_packet.specs.Exchange.{heardOf, packetRefusal, packetAnswer, packetReply, packetTable, packetRegistered, packetBody, exchangeRefusal, exchangeAnswer, exchangeTable, exchangeRegistered, exchangeBody, exchangeOut}
+use Rattle.device.specs.declared.Replied.the-variants.{Sent, Refused}
 use Rattle.device_calls.specs.Calls.{State, DeviceCall, fresh, measurement, device, exchange, carry, carryPacket, onBoard, lend, stateOf, afterAll, refusalIn}
 use Rattle.device_calls.specs.Stays.{StaysAccepted}
 use Rattle.device_calls.specs.GoalWithinLimits.{GoalWithinLimits}
@@ -113,10 +115,10 @@ StaysAcceptedApplied =
     StaysAccepted
     → (afterAll start eachKind ≡ ended)
     × (refusalIn ended ≡ none)
-    × (refusalIn (stateOf (ended .table) tooMany) ≡ some 23)
+    × (refusalIn (stateOf (ended .table) tooMany) ≡ some BadRegistered)
     × (afterAll stored onStored ≡ endedStored)
     × (refusalIn endedStored ≡ none)
-    × (refusalIn (stateOf (endedStored .table) tooMany) ≡ some 23)
+    × (refusalIn (stateOf (endedStored .table) tooMany) ≡ some BadRegistered)
 
 -- limits 100 and 100, and a goal position outside them, as a store might have left them
 abbrev pub restored : State
@@ -233,20 +235,20 @@ longStatus =
 
 pub record InTwo : Type 0 where
   -- a Ping, and an Action that stores the goal position
-  pub ping-answer : answerOfBoth (stateRefusal freshTable longest) (carriedReply freshTable longest Packet 1 (0x01 ∷ [])) room ≡ sent 14 0
+  pub ping-answer : answerOfBoth (stateRefusal freshTable longest) (carriedReply freshTable longest Packet 1 (0x01 ∷ [])) room ≡ Sent 14 0
   pub ping-reply : take 14 (outOfBoth (stateRefusal freshTable longest) (carriedReply freshTable longest Packet 1 (0x01 ∷ [])) room) ≡ pingStatus
   pub action-table : carriedTable registeredTable goalRegistered Packet 1 (0x05 ∷ []) ≡ goalAt512
   pub action-registered : carriedRegistered registeredTable goalRegistered Packet 1 (0x05 ∷ []) ≡ dropped
   -- a bad checksum
-  pub sum-answer : answerOfBoth (stateRefusal alerted longest) (carriedReply alerted longest BadChecksum 1 []) room ≡ sent 11 0
+  pub sum-answer : answerOfBoth (stateRefusal alerted longest) (carriedReply alerted longest BadChecksum 1 []) room ≡ Sent 11 0
   pub sum-table : carriedTable alerted longest BadChecksum 1 [] ≡ alerted
   pub sum-registered : carriedRegistered alerted longest BadChecksum 1 [] ≡ longest
   pub sum-reply : take 11 (outOfBoth (stateRefusal alerted longest) (carriedReply alerted longest BadChecksum 1 []) room) ≡ sumStatus
   -- the longest status
-  pub long-answer : answerOfBoth (stateRefusal marked longest) (carriedReply marked longest Packet 254 syncLimits) room ≡ sent 21 2
+  pub long-answer : answerOfBoth (stateRefusal marked longest) (carriedReply marked longest Packet 254 syncLimits) room ≡ Sent 21 2
   pub long-reply : take 21 (outOfBoth (stateRefusal marked longest) (carriedReply marked longest Packet 254 syncLimits) room) ≡ longStatus
   -- 23, which comes before 24
-  pub stopped-answer : answerOfBoth (stateRefusal freshTable tooMany) (carriedReply freshTable tooMany Packet 1 (0x01 ∷ [])) short ≡ refused 23
+  pub stopped-answer : answerOfBoth (stateRefusal freshTable tooMany) (carriedReply freshTable tooMany Packet 1 (0x01 ∷ [])) short ≡ Refused BadRegistered
   pub stopped-table : carriedTable freshTable tooMany Packet 1 (0x01 ∷ []) ≡ freshTable
   pub stopped-registered : carriedRegistered freshTable tooMany Packet 1 (0x01 ∷ []) ≡ tooMany
   pub stopped-reply : outOfBoth (stateRefusal freshTable tooMany) (carriedReply freshTable tooMany Packet 1 (0x01 ∷ [])) short ≡ short
@@ -286,55 +288,55 @@ pub record ExchangeApplied : Type 0 where
   pub its-id : heardOf writeGoal .id ≡ 1
   pub to-all : heardOf pingToAll .id ≡ 254
   -- in one
-  pub answer : exchangeAnswer freshTable longest writeGoal sevenBytes room ≡ sent 11 0
+  pub answer : exchangeAnswer freshTable longest writeGoal sevenBytes room ≡ Sent 11 0
   pub new-table : exchangeTable freshTable longest writeGoal sevenBytes room ≡ goalAt512
   pub registered : exchangeRegistered freshTable longest writeGoal sevenBytes room ≡ longest
   pub reply : take 11 (exchangeOut freshTable longest writeGoal sevenBytes room) ≡ writeStatus
   pub new-body : exchangeBody freshTable longest writeGoal sevenBytes room ≡ writeBody
   -- the first of two
-  pub first-answer : packetAnswer freshTable longest writeGoal sevenBytes ≡ sent 0 0
+  pub first-answer : packetAnswer freshTable longest writeGoal sevenBytes ≡ Sent 0 0
   pub first-reply : packetReply freshTable longest writeGoal sevenBytes ≡ status 1 0 [] 0
   pub first-table : packetTable freshTable longest writeGoal sevenBytes ≡ goalAt512
   pub first-registered : packetRegistered freshTable longest writeGoal sevenBytes ≡ longest
   pub first-body : packetBody freshTable longest writeGoal sevenBytes ≡ writeBody
   -- the buffer has room for the body without its stuffing: 04 is answered
-  pub marked-answer : exchangeAnswer freshTable longest writeMarked sevenBytes room ≡ sent 11 0
+  pub marked-answer : exchangeAnswer freshTable longest writeMarked sevenBytes room ≡ Sent 11 0
   pub marked-reply : take 11 (exchangeOut freshTable longest writeMarked sevenBytes room) ≡ rangeStatus
   pub marked-body : exchangeBody freshTable longest writeMarked sevenBytes room ≡ 0x03 ∷ 0x74 ∷ 0x00 ∷ 0xFF ∷ 0xFF ∷ 0xFD ∷ 0x00 ∷ []
   -- the device's call is refused, 23: the body is not in its buffer
-  pub many-answer : exchangeAnswer freshTable tooMany writeGoal sevenBytes short ≡ refused 23
+  pub many-answer : exchangeAnswer freshTable tooMany writeGoal sevenBytes short ≡ Refused BadRegistered
   pub many-table : exchangeTable freshTable tooMany writeGoal sevenBytes short ≡ freshTable
   pub many-body : exchangeBody freshTable tooMany writeGoal sevenBytes short ≡ sevenBytes
-  pub many-first-answer : packetAnswer freshTable tooMany writeGoal sevenBytes ≡ refused 23
+  pub many-first-answer : packetAnswer freshTable tooMany writeGoal sevenBytes ≡ Refused BadRegistered
   pub many-first-reply : packetReply freshTable tooMany writeGoal sevenBytes ≡ silence
   pub many-first-body : packetBody freshTable tooMany writeGoal sevenBytes ≡ sevenBytes
   -- no room for the body: 13, and nothing changes
-  pub stopped : exchangeAnswer freshTable longest writeGoal sixBytes room ≡ refused 13
+  pub stopped : exchangeAnswer freshTable longest writeGoal sixBytes room ≡ Refused NoRoom
   pub stopped-table : exchangeTable freshTable longest writeGoal sixBytes room ≡ freshTable
   pub stopped-registered : exchangeRegistered freshTable longest writeGoal sixBytes room ≡ longest
   pub stopped-reply : exchangeOut freshTable longest writeGoal sixBytes room ≡ room
   pub stopped-body : exchangeBody freshTable longest writeGoal sixBytes room ≡ sixBytes
-  pub stopped-first : packetAnswer freshTable longest writeGoal sixBytes ≡ refused 13
+  pub stopped-first : packetAnswer freshTable longest writeGoal sixBytes ≡ Refused NoRoom
   pub stopped-first-reply : packetReply freshTable longest writeGoal sixBytes ≡ silence
   pub stopped-first-table : packetTable freshTable longest writeGoal sixBytes ≡ freshTable
   pub stopped-first-registered : packetRegistered freshTable longest writeGoal sixBytes ≡ longest
   pub stopped-first-body : packetBody freshTable longest writeGoal sixBytes ≡ sixBytes
   -- bad stuffing: 14, before 23 and 24
-  pub bad-answer : exchangeAnswer freshTable tooMany badlyStuffed bodyRoom short ≡ refused 14
+  pub bad-answer : exchangeAnswer freshTable tooMany badlyStuffed bodyRoom short ≡ Refused BadStuffing
   pub bad-table : exchangeTable freshTable tooMany badlyStuffed bodyRoom short ≡ freshTable
   pub bad-registered : exchangeRegistered freshTable tooMany badlyStuffed bodyRoom short ≡ tooMany
   pub bad-reply : exchangeOut freshTable tooMany badlyStuffed bodyRoom short ≡ short
   pub bad-body : exchangeBody freshTable tooMany badlyStuffed bodyRoom short ≡ bodyRoom
-  pub bad-first-answer : packetAnswer freshTable tooMany badlyStuffed bodyRoom ≡ refused 14
+  pub bad-first-answer : packetAnswer freshTable tooMany badlyStuffed bodyRoom ≡ Refused BadStuffing
   pub bad-first-reply : packetReply freshTable tooMany badlyStuffed bodyRoom ≡ silence
   pub bad-first-table : packetTable freshTable tooMany badlyStuffed bodyRoom ≡ freshTable
   pub bad-first-registered : packetRegistered freshTable tooMany badlyStuffed bodyRoom ≡ tooMany
   pub bad-first-body : packetBody freshTable tooMany badlyStuffed bodyRoom ≡ bodyRoom
   -- no packet, and so the same by the rule that only packets are carried out
-  pub bad-unheard : exchangeAnswer freshTable tooMany badlyStuffed bodyRoom short ≡ refused 14
+  pub bad-unheard : exchangeAnswer freshTable tooMany badlyStuffed bodyRoom short ≡ Refused BadStuffing
   pub bad-unheard-table : exchangeTable freshTable tooMany badlyStuffed bodyRoom short ≡ freshTable
   -- a packet with a wrong checksum is not carried out
-  pub unheard : exchangeAnswer freshTable longest pingWrongSum bodyRoom room ≡ sent 0 0
+  pub unheard : exchangeAnswer freshTable longest pingWrongSum bodyRoom room ≡ Sent 0 0
   pub unheard-table : exchangeTable freshTable longest pingWrongSum bodyRoom room ≡ freshTable
   pub unheard-registered : exchangeRegistered freshTable longest pingWrongSum bodyRoom room ≡ longest
   pub unheard-reply : exchangeOut freshTable longest pingWrongSum bodyRoom room ≡ room
@@ -342,7 +344,7 @@ pub record ExchangeApplied : Type 0 where
   pub unheard-first-registered : packetRegistered freshTable longest pingWrongSum bodyRoom ≡ longest
   pub unheard-first-reply : packetReply freshTable longest pingWrongSum bodyRoom ≡ silence
   -- nor one to 253 with a right one
-  pub nobody : exchangeAnswer freshTable longest to253 bodyRoom room ≡ sent 0 0
+  pub nobody : exchangeAnswer freshTable longest to253 bodyRoom room ≡ Sent 0 0
   pub nobody-table : exchangeTable freshTable longest to253 bodyRoom room ≡ freshTable
   pub nobody-registered : exchangeRegistered freshTable longest to253 bodyRoom room ≡ longest
   pub nobody-reply : exchangeOut freshTable longest to253 bodyRoom room ≡ room

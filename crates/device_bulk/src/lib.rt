@@ -1,7 +1,7 @@
 // Bulk Read and Bulk Write. A Bulk list begins with its first entry, and each entry has an address and a length of its own. A table
 // of another size is refused, as by Sync Read and Sync Write.
+use answers::NOT_A_TABLE;
 use device_codes::ERROR_INSTRUCTION;
-use device_instructions::NOT_A_TABLE;
 use device_instructions::RegisteredWrite;
 use device_parameters::EntryKind;
 use device_parameters::Found;

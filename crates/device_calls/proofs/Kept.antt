@@ -2,7 +2,8 @@
 use mathlib.Core.List.{List, [], _∷_}
 use mathlib.Core.Option.{Option, none, some}
 use Prim.Native.Nat.{ℕ}
-use Rattle.lists.specs.Answer.{unlessRefused}
+use Rattle.answers.specs.Refusals.{unlessRefused}
+use Rattle.answers.specs.declared.Refusal.{Refusal}
 use Rattle.device_instructions.proofs.Kept.{Kept}
 use Rattle.stuffing.specs.Stuffing.{unstuff}
 use Rattle.stuffing.specs.Answers.{removalRefusal}
@@ -22,7 +23,7 @@ use Rattle.device_calls.specs.Calls.{State, DeviceCall, fresh, measureme
 
 module _ (P : List ℕ → Type 0) (kept : Kept P) where
   -- of a call on a packet, by what removing the stuffing refuses
-  unless-keeps : (r : Option ℕ) (old new : List ℕ) → P old → P new → P (unlessRefused r old new)
+  unless-keeps : (r : Option Refusal) (old new : List ℕ) → P old → P new → P (unlessRefused r old new)
   unless-keeps none old new p q = q
   unless-keeps (some number) old new p q = p
 
@@ -35,7 +36,7 @@ module _ (P : List ℕ → Type 0) (kept : Kept P) where
   unfolding outcome
   board-keeps reader table p w c = by (boardRefusal (boardOf reader table w))
     where
-      by : (r : Option ℕ) → P (outcomeUnless r (boardOf reader table w) c .board .table)
+      by : (r : Option Refusal) → P (outcomeUnless r (boardOf reader table w) c .board .table)
       by none = event-keeps table p w (call protocol2 (heldIn reader) c .answer)
       by (some number) = p
 

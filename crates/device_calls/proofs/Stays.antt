@@ -7,7 +7,9 @@ use Prim.Native.Nat.{ℕ, _≤_}
 use lib.Dec.{leb}
 use lib.ListN.{length}
 use borrow.Author.Tests.{le-leb, eq-eqb}
-use Rattle.lists.specs.Answer.{firstFailing}
+use Rattle.answers.specs.Refusals.{firstFailing}
+use Rattle.answers.specs.declared.Refusal.{Refusal}
+use Rattle.answers.specs.declared.Refusal.the-variants.{BadRegistered}
 use Rattle.table_registers.specs.Registers.{tableSize}
 use Rattle.device_dispatch.specs.Reactions.{ownId}
 use Rattle.device_instructions.proofs.Fit.{FitTable, fit-kept}
@@ -33,7 +35,7 @@ use Rattle.device_calls.proofs.Kept.{after-keeps}
 -- ---- one call
 
 -- of a call on a packet, by what removing the stuffing refuses
-unless-count : (r : Option ℕ) (old new : RegisteredWrite) → leb (new .count) 8 ≡ leb (old .count) 8 → leb (keptBy r old new .count) 8 ≡ leb (old .count) 8
+unless-count : (r : Option Refusal) (old new : RegisteredWrite) → leb (new .count) 8 ≡ leb (old .count) 8 → leb (keptBy r old new .count) 8 ≡ leb (old .count) 8
 unless-count none old new e = e
 unless-count (some number) old new e = refl
 
@@ -43,7 +45,7 @@ board-count : (reader : Reader) (table : List ℕ) (w : RegisteredWrite) (c : Ca
 unfolding outcome
 board-count reader table w c = by (boardRefusal (boardOf reader table w)) refl
   where
-    by : (r : Option ℕ) → boardRefusal (boardOf reader table w) ≡ r → leb (outcomeUnless r (boardOf reader table w) c .board .registered .count) 8 ≡ leb (w .count) 8
+    by : (r : Option Refusal) → boardRefusal (boardOf reader table w) ≡ r → leb (outcomeUnless r (boardOf reader table w) c .board .registered .count) 8 ≡ leb (w .count) 8
     by none f =
         let e = accepted (boardOf reader table w) f .state in
         le-leb _ 8 (state-accepted _ _ (any-accepted table w e (call protocol2 (heldIn reader) c .answer)) .short)
@@ -70,13 +72,13 @@ after-count s w e (lend new) = refl
 
 -- ---- a list of calls
 
-fit-refusal : (s : State) → FitTable (s .table) → refusalIn s ≡ firstFailing ((leb (s .registered .count) 8, 23) ∷ [])
+fit-refusal : (s : State) → FitTable (s .table) → refusalIn s ≡ firstFailing ((leb (s .registered .count) 8, BadRegistered) ∷ [])
 unfolding stateRefusal
 fit-refusal s f = rw (eq-eqb (length (s .table)) tableSize (f .sized), le-leb (ownId (s .table)) 252 (f .known))
 
 refusal-after : (calls : List DeviceCall) (s : State) → FitTable (s .table) → (w : RegisteredWrite) → leb (s .registered .count) 8 ≡ leb (w .count) 8
-    → refusalIn (afterAll s calls) ≡ firstFailing ((leb (lastLent w calls .count) 8, 23) ∷ [])
-refusal-after [] s f w e = fit-refusal s f ∙ ap (λ (b : Bool). firstFailing ((b, 23) ∷ [])) e
+    → refusalIn (afterAll s calls) ≡ firstFailing ((leb (lastLent w calls .count) 8, BadRegistered) ∷ [])
+refusal-after [] s f w e = fit-refusal s f ∙ ap (λ (b : Bool). firstFailing ((b, BadRegistered) ∷ [])) e
 refusal-after (call ∷ calls) s f w e =
     refusal-after calls (afterCall s call) (after-keeps FitTable fit-kept s f call) (lentBy w call) (after-count s w e call)
 
@@ -97,7 +99,7 @@ last-short (call ∷ calls) w short each = last-short calls (lentBy w call) (by-
     by-call (lend new) each = each new (List·Memᴰ·head refl)
 
 by-lent : (s : State) (calls : List DeviceCall) → refusalIn s ≡ none
-    → refusalIn (afterAll s calls) ≡ firstFailing ((leb (lastLent (s .registered) calls .count) 8, 23) ∷ [])
+    → refusalIn (afterAll s calls) ≡ firstFailing ((leb (lastLent (s .registered) calls .count) 8, BadRegistered) ∷ [])
 by-lent s calls e =
     let a = state-accepted (s .table) (s .registered) e in
     refusal-after calls s (record { sized = a .sized; known = a .known }) (s .registered) refl

@@ -3,6 +3,7 @@ use mathlib.Core.List.{List, [], _∷_}
 use mathlib.Core.Option.{Option}
 use Prim.Native.Nat.{ℕ}
 use lib.IntN.{ℤ}
+use Rattle.answers.specs.declared.Refusal.{Refusal}
 use Rattle.reading.specs.Calls.{Call}
 use Rattle.reader_records.specs.declared.Reader.{Reader}
 use Rattle.table_access.specs.Answers.{freshOut, measureOut}
@@ -57,5 +58,5 @@ afterAll s [] = s
 afterAll s (call ∷ calls) = afterAll (afterCall s call) calls
 
 -- 21 to 23, by the state
-abbrev pub refusalIn : State → Option ℕ
+abbrev pub refusalIn : State → Option Refusal
 refusalIn s = stateRefusal (s .table) (s .registered)

@@ -4,7 +4,8 @@ use mathlib.Core.List.{List, [], _∷_, List·Memᴰ}
 use mathlib.Core.Option.{none}
 use Prim.Native.Nat.{_≤_}
 use lib.Dec.{leb}
-use Rattle.lists.specs.Answer.{firstFailing}
+use Rattle.answers.specs.Refusals.{firstFailing}
+use Rattle.answers.specs.declared.Refusal.the-variants.{BadRegistered}
 use Rattle.device_instructions.specs.declared.RegisteredWrite.{RegisteredWrite}
 use Rattle.device_calls.specs.Calls.{State, DeviceCall, fresh, measurement, device, exchange, carry, carryPacket, onBoard, lend, afterAll, refusalIn}
 
@@ -30,4 +31,4 @@ pub record StaysAccepted : Type 0 where
       → refusalIn (afterAll s calls) ≡ none
   -- and any list leads to 23 or to no refusal, by the count that was lent last
   pub by-lent : (s : State) (calls : List DeviceCall) → refusalIn s ≡ none
-      → refusalIn (afterAll s calls) ≡ firstFailing ((leb (lastLent (s .registered) calls .count) 8, 23) ∷ [])
+      → refusalIn (afterAll s calls) ≡ firstFailing ((leb (lastLent (s .registered) calls .count) 8, BadRegistered) ∷ [])

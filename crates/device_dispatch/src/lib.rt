@@ -1,5 +1,6 @@
 // What the device makes of what it hears: which instruction is carried out, and how that is answered. A table of another size is
 // refused: nothing is done, NOT_A_TABLE stands in the place of the error number, and nothing is answered.
+use answers::NOT_A_TABLE;
 use device_codes::ERROR_CHECKSUM;
 use device_codes::ERROR_INSTRUCTION;
 use device_codes::INST_ACTION;
@@ -14,7 +15,6 @@ use device_codes::INST_STATUS;
 use device_codes::INST_SYNC_READ;
 use device_codes::INST_SYNC_WRITE;
 use device_codes::INST_WRITE;
-use device_instructions::NOT_A_TABLE;
 use device_instructions::RegisteredWrite;
 use device_replies::LEVEL_ALL;
 use device_replies::Reacted;

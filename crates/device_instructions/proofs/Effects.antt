@@ -6,7 +6,7 @@ use mathlib.Core.Option.{Option, none, some}
 use Prim.Native.Nat.{ℕ}
 use native.Mathlib.Omega.{arith}
 use lib.ListN.{length, take, drop, set, length-take, length-drop}
-use Rattle.lists.specs.Answer.{unlessRefused}
+use Rattle.answers.specs.Refusals.{unlessRefused}
 use Rattle.lists.specs.Write.{padded}
 use Rattle.table_registers.specs.Registers.{tableSize, registeredInstruction}
 use Rattle.table_rules.specs.Rules.{stored, readRule, writeRule}

@@ -8,7 +8,7 @@ use native.Mathlib.Omega.{arith}
 use lib.Dec.{leb, ltb}
 use lib.ListN.{length}
 use borrow.Author.Tests.{leb-true}
-use Rattle.lists.specs.Answer.{firstFailing}
+use Rattle.answers.specs.Refusals.{firstFailing}
 use Rattle.lists.proofs.Bools.{and-left, and-right}
 use Rattle.table_registers.specs.Registers.{registers, everyByte}
 use Rattle.table_items.specs.Items.{valueInRange}

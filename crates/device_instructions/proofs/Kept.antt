@@ -5,7 +5,7 @@ use mathlib.Core.List.{List}
 use mathlib.Core.Option.{Option, none, some}
 use Prim.Native.Nat.{ℕ}
 use lib.IntN.{ℤ}
-use Rattle.lists.specs.Answer.{unlessRefused}
+use Rattle.answers.specs.Refusals.{unlessRefused}
 use Rattle.table_registers.specs.Registers.{Register, minPosition, maxPosition, registeredInstruction}
 use Rattle.table_items.specs.Items.{put}
 use Rattle.table_rules.specs.Rules.{stored, writeRule}

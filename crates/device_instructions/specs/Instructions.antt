@@ -5,7 +5,7 @@ use mathlib.Core.Option.{Option, none, some}
 use Prim.Native.Nat.{ℕ, _+_}
 use lib.Dec.{eqb}
 use lib.ListN.{take, drop}
-use Rattle.lists.specs.Answer.{unlessRefused}
+use Rattle.answers.specs.Refusals.{unlessRefused}
 use Rattle.table_registers.specs.Registers.{modelNumber, firmwareVersion, registeredInstruction}
 use Rattle.table_items.specs.Items.{itemBytes, put}
 use Rattle.table_rules.specs.Rules.{stored, readRule, writeRule}

@@ -27,7 +27,7 @@ abbrev pub dropped : RegisteredWrite
 dropped = record { address = 0; count = 0; bytes = replicate 8 0; min = pos 0; max = pos 0 }
 
 -- a refusal leaves the older one [D13]
-abbrev pub keptBy : Option ℕ → RegisteredWrite → RegisteredWrite → RegisteredWrite
+abbrev pub keptBy : {R : Type 0} → Option R → RegisteredWrite → RegisteredWrite → RegisteredWrite
 keptBy none old new = new
 keptBy (some number) old new = old
 

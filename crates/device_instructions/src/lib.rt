@@ -1,5 +1,6 @@
 // What each instruction does to the control table and the registered write. A table of another size is refused: nothing is done,
 // and NOT_A_TABLE stands in the place of the error number.
+use answers::NOT_A_TABLE;
 use device_codes::ERROR_ACCESS;
 use device_codes::ERROR_DATA_LENGTH;
 use device_codes::ERROR_DATA_LIMIT;
@@ -29,9 +30,6 @@ ghost use Rattle.device_instructions.specs.Instructions.{write as Instru
 ghost use Rattle.device_instructions.specs.Instructions.{action as Instructions·action};
 ghost use Rattle.device_instructions.specs.Instructions.{reboot as Instructions·reboot};
 ghost use Rattle.device_instructions.specs.Results.{doneWith, doneBy, doneOf, sized, HasRead};
-
-// What stands in the place of an error number where the table has another size.
-pub const NOT_A_TABLE: u8 = 21;
 
 // The options of Factory Reset.
 pub const RESET_ALL: u8 = 0xFF;

@@ -9,7 +9,7 @@ use lib.Dec.{eqb}
 use lib.ListN.{length, set}
 use borrow.Author.Tests.{eqb-true}
 use Rattle.lists.proofs.Bools.{and-left, and-right}
-use Rattle.lists.specs.Answer.{unlessRefused}
+use Rattle.answers.specs.Refusals.{unlessRefused}
 use Rattle.table_registers.specs.Registers.{tableSize, registeredInstruction}
 use Rattle.table_items.specs.Items.{put}
 use Rattle.table_rules.specs.Rules.{stored, writeRule}

@@ -9,7 +9,9 @@ use lib.Dec.{eqb}
 use lib.ListN.{length, take}
 use lib.Seq.{take-all}
 use borrow.Author.Tests.{eq-eqb, ne-eqb, le-leb, lt-leb, le-ltb}
-use Rattle.lists.specs.Answer.{unlessRefused}
+use Rattle.answers.specs.Refusals.{orElse, unlessRefused}
+use Rattle.answers.specs.declared.Refusal.{Refusal}
+use Rattle.answers.specs.declared.Refusal.the-variants.{BadStuffing, NoRoom}
 use Rattle.lists.specs.Write.{overwritten}
 use Rattle.lists.proofs.Bools.{both-ways}
 use Rattle.lists.proofs.Write.{overwritten-take}
@@ -33,7 +35,7 @@ use Rattle.packet.proofs.Looks.{look-header, look-whole}
 use Rattle.device_instructions.specs.Registered.{keptBy}
 use Rattle.device_instructions.specs.declared.RegisteredWrite.{RegisteredWrite}
 use Rattle.device_status.specs.declared.Reply.{Reply}
-use Rattle.device.specs.Answers.{orElse, repliedAnswer, answeredBy, replyUnless}
+use Rattle.device.specs.Answers.{answeredBy, replyUnless}
 use Rattle.device_status.specs.Status.{silence}
 use Rattle.device.specs.declared.Replied.{Replied}
 use Rattle.device.proofs.Calls.{Refuses}
@@ -122,12 +124,12 @@ module _ (packet : List ℕ) where
 -- ---- the removal of the stuffing
 
 module _ (packet body : List ℕ) where
-  pub bad-stuffing : checked (bodyOf packet) ≡ Bad → removalRefusal (bodyOf packet) body ≡ some 14
+  pub bad-stuffing : checked (bodyOf packet) ≡ Bad → removalRefusal (bodyOf packet) body ≡ some BadStuffing
   unfolding removalRefusal
   bad-stuffing e = rw (checked-bad (bodyOf packet) e)
 
   module _ (n : ℕ) (e : checked (bodyOf packet) ≡ Good n) where
-    pub no-room : length body < n → removalRefusal (bodyOf packet) body ≡ some 13
+    pub no-room : length body < n → removalRefusal (bodyOf packet) body ≡ some NoRoom
     unfolding removalRefusal
     no-room l =
         let g = checked-good (bodyOf packet) n e in
@@ -156,35 +158,35 @@ module _ (packet body : List ℕ) where
 
 -- ---- the device refuses: what the call refuses first, and that everything stays
 
-module _ (b c : Option ℕ) (r : Replied) (q : Refuses c r) where
-  pub answers-first : (reply : Reply) → refusedOr b (repliedAnswer r) ≡ refusedOr b (answeredBy c reply)
+module _ (b c : Option Refusal) (r : Replied) (q : Refuses c r) where
+  pub answers-first : (reply : Reply) → refusedOr b r ≡ refusedOr b (answeredBy c reply)
   answers-first reply = ap (refusedOr b) (q .answers reply)
 
   -- and of the first call
-  pub told-first : refusedOr b (repliedAnswer r) ≡ answeredBy (orElse b c) silence
+  pub told-first : refusedOr b r ≡ answeredBy (orElse b c) silence
   told-first = by-refusal b
     where
-      by-refusal : (b : Option ℕ) → refusedOr b (repliedAnswer r) ≡ answeredBy (orElse b c) silence
+      by-refusal : (b : Option Refusal) → refusedOr b r ≡ answeredBy (orElse b c) silence
       by-refusal none = q .answers silence
-      by-refusal (some number) = refl
+      by-refusal (some refusal) = refl
 
   pub silences-first : (reply : Reply) → silence ≡ replyUnless b (replyUnless c reply)
   silences-first reply = by-refusal b
     where
-      by-refusal : (b : Option ℕ) → silence ≡ replyUnless b (replyUnless c reply)
+      by-refusal : (b : Option Refusal) → silence ≡ replyUnless b (replyUnless c reply)
       by-refusal none = q .silences reply
-      by-refusal (some number) = refl
+      by-refusal (some refusal) = refl
 
   pub keeps-first : (old new : RegisteredWrite) → old ≡ keptBy b old (keptBy c old new)
   keeps-first old new = by-refusal b
     where
-      by-refusal : (b : Option ℕ) → old ≡ keptBy b old (keptBy c old new)
+      by-refusal : (b : Option Refusal) → old ≡ keptBy b old (keptBy c old new)
       by-refusal none = q .keeps old new
-      by-refusal (some number) = refl
+      by-refusal (some refusal) = refl
 
   pub leaves-first : (old new : List ℕ) → (old ≡ unlessRefused b old (unlessRefused c old new)) × (old ≡ unlessRefused (orElse b c) old new)
   leaves-first old new = by-refusal b
     where
-      by-refusal : (b : Option ℕ) → (old ≡ unlessRefused b old (unlessRefused c old new)) × (old ≡ unlessRefused (orElse b c) old new)
+      by-refusal : (b : Option Refusal) → (old ≡ unlessRefused b old (unlessRefused c old new)) × (old ≡ unlessRefused (orElse b c) old new)
       by-refusal none = (q .leaves old new, q .leaves old new)
-      by-refusal (some number) = (refl, refl)
+      by-refusal (some refusal) = (refl, refl)

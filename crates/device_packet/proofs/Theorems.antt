@@ -6,6 +6,7 @@ use Prim.Native.Nat.{ℕ, _-_, _≤_}
 use native.Mathlib.Omega.{arith}
 use lib.ListN.{length, drop, length-take, length-drop}
 use borrow.Author.Tests.{le-leb}
+use Rattle.answers.specs.declared.Refusal.{Refusal}
 use Rattle.stuffing.specs.Stuffing.{unstuff}
 use Rattle.stuffing.specs.Answers.{removalRefusal}
 use Rattle.stuffing.proofs.Laws.{unstuff-short}
@@ -39,7 +40,7 @@ module _ (table : List ℕ) (w : RegisteredWrite) (packet body out : List ℕ) w
   not-heard : ¬ WellFormed packet → Unheard table w packet body out
   not-heard bad = by-refusal (removalRefusal (bodyOf packet) body) refl
     where
-      by-refusal : (r : Option ℕ) → removalRefusal (bodyOf packet) body ≡ r → Unheard table w packet body out
+      by-refusal : (r : Option Refusal) → removalRefusal (bodyOf packet) body ≡ r → Unheard table w packet body out
       by-refusal (some number) e =
           record {
             same-table = rw e;

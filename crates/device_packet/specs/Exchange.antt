@@ -5,7 +5,8 @@ use mathlib.Core.Option.{Option, none, some}
 use Prim.Native.Nat.{ℕ}
 use lib.Dec.{eqb}
 use lib.ListN.{length}
-use Rattle.lists.specs.Answer.{unlessRefused}
+use Rattle.answers.specs.Refusals.{orElse, unlessRefused}
+use Rattle.answers.specs.declared.Refusal.{Refusal}
 use Rattle.lists.specs.Write.{overwritten}
 use Rattle.stuffing.specs.Stuffing.{unstuff}
 use Rattle.stuffing.specs.Answers.{removalRefusal}
@@ -15,12 +16,12 @@ use Rattle.packet.specs.Packet.{bodyOf}
 use Rattle.packet.specs.Verdict.{verdict}
 use Rattle.device_instructions.specs.Registered.{keptBy}
 use Rattle.device_status.specs.Status.{silence}
-use Rattle.device.specs.Answers.{DeviceAnswer, refused, repliedAnswer, answeredBy, replyUnless, orElse, stateRefusal, carriedReply, carriedTable, carriedRegistered, callRefusal, callAnswer, callTable, callRegistered, callOut}
+use Rattle.device.specs.Answers.{answeredBy, replyUnless, stateRefusal, carriedReply, carriedTable, carriedRegistered, callRefusal, callAnswer, callTable, callRegistered, callOut}
 use Rattle.device_status.specs.declared.Reply.{Reply}
 use Rattle.device_instructions.specs.declared.RegisteredWrite.{RegisteredWrite}
 use Rattle.device_dispatch.specs.declared.Heard.the-variants.{Packet}
-use Rattle.device_packet.specs.declared.Exchanged.{Exchanged}
-use Rattle.device_packet.specs.declared.Exchanged.the-variants.{Device, BadStuffing, NoRoom}
+use Rattle.device.specs.declared.Replied.{Replied}
+use Rattle.device.specs.declared.Replied.the-variants.{Refused}
 
 -- by the verdict on the bytes: one well-formed packet, and nothing beyond it, is for its ID; anything else is for nobody, as
 -- what is sent to 255 is
@@ -42,25 +43,19 @@ pub record Message : Type 0 where
 abbrev pub heardOf : List ℕ → Message
 heardOf packet = record { id = idHeard packet; body = unstuff (bodyOf packet) }
 
--- a refusal by its number [K5 N3 N4]
-abbrev pub exchangedAnswer : Exchanged → DeviceAnswer
-exchangedAnswer (Device replied) = repliedAnswer replied
-exchangedAnswer BadStuffing = refused 14
-exchangedAnswer NoRoom = refused 13
-
 -- a refusal, or else the device's answer
-abbrev pub refusedOr : Option ℕ → DeviceAnswer → DeviceAnswer
+abbrev pub refusedOr : Option Refusal → Replied → Replied
 refusedOr none answer = answer
-refusedOr (some number) answer = refused number
+refusedOr (some refusal) answer = Refused refusal
 
 -- ---- the first call on a packet as received: 14 and 13, then 21 to 23
 module _ (table : List ℕ) (w : RegisteredWrite) (packet body : List ℕ) where
   -- [D50 N3 N4]
-  abbrev pub packetRefusal : Option ℕ
+  abbrev pub packetRefusal : Option Refusal
   packetRefusal = orElse (removalRefusal (bodyOf packet) body) (stateRefusal table w)
 
   -- a refusal, or none: nothing is sent by it
-  abbrev pub packetAnswer : DeviceAnswer
+  abbrev pub packetAnswer : Replied
   packetAnswer = answeredBy packetRefusal silence
 
   -- [D50 D51]
@@ -83,14 +78,14 @@ module _ (table : List ℕ) (w : RegisteredWrite) (packet body : List ℕ) where
 -- ---- the call in one. Removal of the stuffing, 14 and 13, comes before the device's call, 21 to 24.
 module _ (table : List ℕ) (w : RegisteredWrite) (packet body out : List ℕ) where
   -- of the packet's body, by the room in the body buffer
-  abbrev pub bodyRefusal : Option ℕ
+  abbrev pub bodyRefusal : Option Refusal
   bodyRefusal = removalRefusal (bodyOf packet) body
 
   -- of the call
-  abbrev pub exchangeRefusal : Option ℕ
+  abbrev pub exchangeRefusal : Option Refusal
   exchangeRefusal = orElse bodyRefusal (callRefusal table w out)
 
-  abbrev pub exchangeAnswer : DeviceAnswer
+  abbrev pub exchangeAnswer : Replied
   exchangeAnswer = refusedOr bodyRefusal (callAnswer table w Packet (heardOf packet .id) (heardOf packet .body) out)
 
   abbrev pub exchangeTable : List ℕ

@@ -1,5 +1,8 @@
 // One exchange on the bus: from a packet as received to the device's answer.
+use answers::Answer;
+use answers::Refusal;
 use device::Replied;
+use device::Response;
 use device_dispatch::Heard;
 use device_instructions::RegisteredWrite;
 use device_status::MIN_REPLY;
@@ -7,26 +10,12 @@ use device_status::Reply;
 use packet_protocols::Protocol;
 use packet_rules::Begun;
 use stuffing::Checked;
-use stuffing::Unstuffed;
 ghost use mathlib.Core.Path.{_≡_};
 ghost use mathlib.Core.Bool.{true};
 ghost use Rattle.stuffing.specs.Stuffing.{wellStuffed};
 ghost use Rattle.stuffing.specs.Answers.{removalRefusal};
 ghost use Rattle.packet.specs.Packet.{bodyOf};
-ghost use Rattle.device.specs.Answers.{repliedAnswer};
-ghost use Rattle.device_packet.specs.Exchange.{idHeard, exchangedAnswer, refusedOr, packetAnswer, packetReply, packetRegistered, packetTable, packetBody, exchangeAnswer, exchangeRegistered, exchangeTable, exchangeBody, exchangeOut};
-
-// The device's answer, or why it does not get the packet: the body is not well stuffed, or has no room when unstuffed.
-pub enum Exchanged {
-    Device(Replied),
-    BadStuffing,
-    NoRoom,
-}
-
-pub struct Answered {
-    pub exchanged: Exchanged,
-    pub registered: RegisteredWrite,
-}
+ghost use Rattle.device_packet.specs.Exchange.{idHeard, refusedOr, packetAnswer, packetReply, packetRegistered, packetTable, packetBody, exchangeAnswer, exchangeRegistered, exchangeTable, exchangeBody, exchangeOut};
 
 // An ID that no device has.
 const NO_ID: u8 = 255;
@@ -51,21 +40,21 @@ fn id_heard(packet: &[u8]) -> u8
 }
 
 // A refusal of the removal, or else the device's.
-fn first_refusal(packet: &[u8], body: &[u8], refused: Replied) -> Exchanged
-    ensures { λ r. ⌜ exchangedAnswer r ≡ refusedOr (removalRefusal (bodyOf (now (packet .entry))) (now (body .entry))) (repliedAnswer refused) ⌝ }
+fn first_refusal(packet: &[u8], body: &[u8], refused: Replied) -> Replied
+    ensures { λ r. ⌜ r ≡ refusedOr (removalRefusal (bodyOf (now (packet .entry))) (now (body .entry))) refused ⌝ }
 {
     let Checked::Good(n) = stuffing::check(packet::body(packet)) else {
-        return Exchanged::BadStuffing;
+        return Replied::Refused(Refusal::BadStuffing);
     };
     if body.len() < n {
-        return Exchanged::NoRoom;
+        return Replied::Refused(Refusal::NoRoom);
     }
-    Exchanged::Device(refused)
+    refused
 }
 
-// What the first call leaves: why it was refused, or `Device(Sent(0, 0))` where it was not; the reply; the registered write.
+// What the first call leaves: a refusal, or `Sent(0, 0)` for none; the reply; the registered write.
 pub struct CarriedPacket {
-    pub refused: Exchanged,
+    pub refused: Replied,
     pub reply: Reply,
     pub registered: RegisteredWrite,
 }
@@ -79,7 +68,7 @@ pub fn carry_out(
     packet: &[u8],
     body: &mut [u8],
 ) -> CarriedPacket
-    ensures { λ r. ⌜ exchangedAnswer (r .refused) ≡ packetAnswer (now (table .entry)) registered (now (packet .entry)) (now (body .entry)) ⌝ }
+    ensures { λ r. ⌜ r .refused ≡ packetAnswer (now (table .entry)) registered (now (packet .entry)) (now (body .entry)) ⌝ }
     ensures { λ r. ⌜ r .reply ≡ packetReply (now (table .entry)) registered (now (packet .entry)) (now (body .entry)) ⌝ }
     ensures { λ r. ⌜ r .registered ≡ packetRegistered (now (table .entry)) registered (now (packet .entry)) (now (body .entry)) ⌝ }
     ensures { λ _. ⌜ now (table .exit) ≡ packetTable (now (table .entry)) registered (now (packet .entry)) (now (body .entry)) ⌝ }
@@ -94,17 +83,12 @@ pub fn carry_out(
         };
     };
     match packet::unstuff(packet, body) {
-        Unstuffed::BadStuffing => CarriedPacket {
-            refused: Exchanged::BadStuffing,
+        Answer::Refused(refusal) => CarriedPacket {
+            refused: Replied::Refused(refusal),
             reply: device_status::silence(),
             registered,
         },
-        Unstuffed::NoRoom => CarriedPacket {
-            refused: Exchanged::NoRoom,
-            reply: device_status::silence(),
-            registered,
-        },
-        Unstuffed::Count(n) => {
+        Answer::Count(n) => {
             let heard = Heard::Packet;
             let id = id_heard(packet);
             let carried = device::carry_out(table, registered, heard, id, &body[..n]);
@@ -112,7 +96,7 @@ pub fn carry_out(
             let reply = carried.reply;
             let kept = carried.registered;
             CarriedPacket {
-                refused: Exchanged::Device(refused),
+                refused,
                 reply,
                 registered: kept,
             }
@@ -127,8 +111,8 @@ pub fn answer(
     packet: &[u8],
     body: &mut [u8],
     out: &mut [u8],
-) -> Answered
-    ensures { λ r. ⌜ exchangedAnswer (r .exchanged) ≡ exchangeAnswer (now (table .entry)) registered (now (packet .entry)) (now (body .entry)) (now (out .entry)) ⌝ }
+) -> Response
+    ensures { λ r. ⌜ r .replied ≡ exchangeAnswer (now (table .entry)) registered (now (packet .entry)) (now (body .entry)) (now (out .entry)) ⌝ }
     ensures { λ r. ⌜ r .registered ≡ exchangeRegistered (now (table .entry)) registered (now (packet .entry)) (now (body .entry)) (now (out .entry)) ⌝ }
     ensures { λ _. ⌜ now (table .exit) ≡ exchangeTable (now (table .entry)) registered (now (packet .entry)) (now (body .entry)) (now (out .entry)) ⌝ }
     ensures { λ _. ⌜ now (body .exit) ≡ exchangeBody (now (table .entry)) registered (now (packet .entry)) (now (body .entry)) (now (out .entry)) ⌝ }
@@ -136,8 +120,8 @@ pub fn answer(
 {
     if out.len() < MIN_REPLY {
         let fault = device::call_refusal(&table[..], registered, &out[..]);
-        return Answered {
-            exchanged: first_refusal(packet, &body[..], fault),
+        return Response {
+            replied: first_refusal(packet, &body[..], fault),
             registered,
         };
     }
@@ -145,20 +129,14 @@ pub fn answer(
     let refused = carried.refused;
     let reply = carried.reply;
     let kept = carried.registered;
-    let Exchanged::Device(told) = refused else {
-        return Answered {
-            exchanged: refused,
+    let Replied::Sent(_, _) = refused else {
+        return Response {
+            replied: refused,
             registered: kept,
         };
     };
-    let Replied::Sent(_, _) = told else {
-        return Answered {
-            exchanged: Exchanged::Device(told),
-            registered: kept,
-        };
-    };
-    Answered {
-        exchanged: Exchanged::Device(device::send(reply, out)),
+    Response {
+        replied: device::send(reply, out),
         registered: kept,
     }
 }

@@ -1,7 +1,7 @@
 // What each instruction with parameters of its own does, and how it is answered. A table of another size is refused: nothing is done,
 // NOT_A_TABLE stands in the place of the error number, and nothing is answered. Then a wrong count of parameters comes first.
+use answers::NOT_A_TABLE;
 use device_codes::ERROR_DATA_LENGTH;
-use device_instructions::NOT_A_TABLE;
 use device_instructions::RESET_ALL;
 use device_instructions::RegisteredWrite;
 use device_replies::LEVEL_ALL;

@@ -1,7 +1,7 @@
 -- A reply with a good ID and at most 8 bytes goes out: 32 bytes are room enough.
 use mathlib.Core.Path.{_≡_, sym, ap, _∙_}
 use mathlib.Core.List.{List, [], _∷_}
-use mathlib.Core.Option.{Option, none, some}
+use mathlib.Core.Option.{none, some}
 use Prim.Native.Nat.{ℕ, suc, _+_, _≤_, _<_}
 use native.Mathlib.Nat.{le-of-eq}
 use native.Mathlib.Numerals.{add-one}
@@ -9,17 +9,15 @@ use native.Mathlib.Omega.{arith}
 use lib.ListN.{length, take, drop, getD, length-take, drop-of-length-le}
 use lib.Seq.{drop-cons}
 use borrow.Author.Tests.{le-leb, lt-leb}
-use Rattle.lists.specs.Answer.{count, answered}
+use Rattle.answers.specs.declared.Refusal.the-variants.{BadId, TooLong, ShortReply}
+use Rattle.answers.specs.declared.Answer.the-variants.{Count}
 use Rattle.stuffing.specs.Stuffing.{stuff}
 use Rattle.stuffing.proofs.Laws.{stuff-at-most}
 use Rattle.packet_encoder.proofs.Writing.{packet-length}
-use Rattle.packet_encoder.specs.Encoding.{encodedAnswer, encodeRefusal, encodeAnswer}
-use Rattle.packet_encoder.specs.declared.Encoded.{Encoded}
-use Rattle.packet_encoder.specs.declared.Encoded.the-variants.{Count, BadId, TooLong, NoRoom}
+use Rattle.packet_encoder.specs.Encoding.{encodeRefusal, encodeAnswer}
 use Rattle.device_status.specs.declared.Reply.{Reply}
 use Rattle.device_status.specs.Status.{statusBody, statusPacket}
-use Rattle.device_status.specs.Results.{writtenBy}
-use Rattle.device_status.specs.Sending.{writtenAnswer, statusRefusal}
+use Rattle.device_status.specs.Sending.{statusRefusal}
 
 -- eight bytes one by one
 pub eight : (b : List ℕ) → length b ≡ 8
@@ -46,17 +44,17 @@ body-stuffed r short =
 
 -- ---- the refusals, each where those before it do not apply
 module _ (r : Reply) (out : List ℕ) where
-  pub refuses-id : 252 < r .id → statusRefusal r out ≡ some 11
+  pub refuses-id : 252 < r .id → statusRefusal r out ≡ some BadId
   unfolding statusRefusal
   refuses-id l = rw (lt-leb (r .id) 252 l)
 
   module _ (known : r .id ≤ 252) where
-    pub refuses-count : 8 < r .count → statusRefusal r out ≡ some 12
+    pub refuses-count : 8 < r .count → statusRefusal r out ≡ some TooLong
     unfolding statusRefusal
     refuses-count l = rw (le-leb (r .id) 252 known, lt-leb (r .count) 8 l)
 
     module _ (short : r .count ≤ 8) where
-      pub refuses-room : length out < 32 → statusRefusal r out ≡ some 24
+      pub refuses-room : length out < 32 → statusRefusal r out ≡ some ShortReply
       unfolding statusRefusal
       refuses-room l = rw (le-leb (r .id) 252 known, le-leb (r .count) 8 short, lt-leb 32 (length out) l)
 
@@ -76,11 +74,5 @@ module _ (r : Reply) (out : List ℕ) where
               le-leb (0 + length (statusPacket r)) (length out) (omega (arith, packet-length (r .id) (statusBody r))),
             )
 
-        pub goes-out : (e : Encoded) → encodedAnswer e ≡ encodeAnswer (r .id) (statusBody r) out 0 → writtenAnswer (writtenBy e) ≡ count (length (statusPacket r))
-        goes-out e h = by-case e (h ∙ ap (λ (o : Option ℕ). answered o (length (statusPacket r))) fits)
-          where
-            by-case : (e : Encoded) → encodedAnswer e ≡ count (length (statusPacket r)) → writtenAnswer (writtenBy e) ≡ count (length (statusPacket r))
-            by-case (Count k) h = h
-            by-case BadId h = h
-            by-case TooLong h = h
-            by-case NoRoom h = let z : _≡_ {A = ℕ} 0 1 = cc in absurd (omega arith)
+        pub goes-out : encodeAnswer (r .id) (statusBody r) out 0 ≡ Count (length (statusPacket r))
+        goes-out = rw fits

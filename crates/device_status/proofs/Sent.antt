@@ -2,13 +2,14 @@
 use mathlib.Core.Path.{_≡_, refl, sym, ap, subst, _∙_}
 use mathlib.Core.Bool.{Bool, true, false, cond}
 use mathlib.Core.List.{List, [], _∷_}
-use mathlib.Core.Option.{Option, none, some}
+use mathlib.Core.Option.{none}
 use Prim.Native.Nat.{ℕ, _≤_, _<_}
 use native.Mathlib.Omega.{arith}
 use lib.Dec.{leb, eqb}
 use lib.ListN.{length, take}
 use borrow.Author.Tests.{leb-true}
-use Rattle.lists.specs.Answer.{count, answered}
+use Rattle.answers.specs.declared.Refusal.the-variants.{BadId, TooLong, ShortReply}
+use Rattle.answers.proofs.Laws.{counted, passed}
 use Rattle.lists.specs.Write.{overwritten}
 use Rattle.lists.proofs.Write.{overwritten-take}
 use Rattle.packet_encoder.proofs.Writing.{packet-length}
@@ -25,21 +26,13 @@ pub record Accepted (r : Reply) (out : List ℕ) : Type 0 where
   pub short : r .count ≤ 8
   pub room : 32 ≤ length out
 
-passed : (b : Bool) (number : ℕ) (rest : Option ℕ) → cond b rest (some number) ≡ none → (b ≡ true) × (rest ≡ none)
-passed true number rest e = (refl, e)
-passed false number rest e = let z : _≡_ {A = ℕ} 0 1 = cc in absurd (omega arith)
-
 pub accepted : (r : Reply) (out : List ℕ) → statusRefusal r out ≡ none → Accepted r out
 unfolding statusRefusal
 accepted r out e =
-    let p = passed (leb (r .id) 252) 11 _ e in
-    let q = passed (leb (r .count) 8) 12 _ (p .1) in
-    let s = passed (leb 32 (length out)) 24 _ (q .1) in
+    let p = passed (leb (r .id) 252) BadId _ e in
+    let q = passed (leb (r .count) 8) TooLong _ (p .1) in
+    let s = passed (leb 32 (length out)) ShortReply _ (q .1) in
     record { known = leb-true (r .id) 252 (p .0); short = leb-true (r .count) 8 (q .0); room = leb-true 32 (length out) (s .0) }
-
-counted : (refusal : Option ℕ) (k n : ℕ) → answered refusal k ≡ count n → (refusal ≡ none) × (k ≡ n)
-counted none k n e = (refl, cc)
-counted (some number) k n e = let z : _≡_ {A = ℕ} 0 1 = cc in absurd (omega arith)
 
 -- silence has no bytes
 pub speaking : (r : Reply) → 0 < length (replyBytes r) → (eqb (r .speaks) 0 ≡ false) × (replyBytes r ≡ statusPacket r)

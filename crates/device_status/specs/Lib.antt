@@ -1,5 +1,4 @@
 pub mod Status
 pub mod Sending
 pub mod Sent
-pub mod Results
 pub mod Applied

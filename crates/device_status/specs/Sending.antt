@@ -4,23 +4,18 @@ use mathlib.Core.Option.{Option}
 use Prim.Native.Nat.{ℕ}
 use lib.Dec.{leb}
 use lib.ListN.{length}
-use Rattle.lists.specs.Answer.{Answer, count, refused, firstFailing, answered, unlessRefused}
+use Rattle.answers.specs.Refusals.{firstFailing, unlessRefused}
+use Rattle.answers.specs.Answers.{answered}
+use Rattle.answers.specs.declared.Refusal.{Refusal}
+use Rattle.answers.specs.declared.Refusal.the-variants.{BadId, TooLong, ShortReply}
+use Rattle.answers.specs.declared.Answer.{Answer}
 use Rattle.lists.specs.Write.{overwritten}
 use Rattle.device_status.specs.Status.{replyBytes}
 use Rattle.device_status.specs.declared.Reply.{Reply}
-use Rattle.device_status.specs.declared.Written.{Written}
-use Rattle.device_status.specs.declared.Written.the-variants.{Count, BadId, TooLong, NoRoom}
-
--- the refusal numbers of a reply that is to be sent
-abbrev pub writtenAnswer : Written → Answer
-writtenAnswer (Count n) = count n
-writtenAnswer BadId = refused 11
-writtenAnswer TooLong = refused 12
-writtenAnswer NoRoom = refused 24
 
 -- no device has the ID, more than 8 bytes of data, a buffer under 32 bytes; silence is refused as a status is [D52 N1 N2 N8]
-unfoldable pub statusRefusal : Reply → List ℕ → Option ℕ
-statusRefusal r out = firstFailing ((leb (r .id) 252, 11) ∷ (leb (r .count) 8, 12) ∷ (leb 32 (length out), 24) ∷ [])
+unfoldable pub statusRefusal : Reply → List ℕ → Option Refusal
+statusRefusal r out = firstFailing ((leb (r .id) 252, BadId) ∷ (leb (r .count) 8, TooLong) ∷ (leb 32 (length out), ShortReply) ∷ [])
 
 -- [D35]
 abbrev pub statusAnswer : Reply → List ℕ → Answer

@@ -3,7 +3,7 @@ use mathlib.Core.Path.{_≡_}
 use mathlib.Core.List.{List}
 use Prim.Native.Nat.{ℕ, _≤_, _<_}
 use lib.ListN.{take}
-use Rattle.lists.specs.Answer.{count}
+use Rattle.answers.specs.declared.Answer.the-variants.{Count}
 use Rattle.packet_front.specs.Front.{idOf}
 use Rattle.packet.specs.Packet.{WellFormed}
 use Rattle.device_status.specs.Sending.{statusAnswer, statusOut}
@@ -18,4 +18,4 @@ pub record IsStatusOf (id n : ℕ) (bytes : List ℕ) : Type 0 where
 -- after an answer of n bytes, if that is not silence, the first n of the buffer [D53]
 abbrev pub ReplyWritten : Type 0
 ReplyWritten =
-    (r : Reply) (out : List ℕ) (n : ℕ) → statusAnswer r out ≡ count n → 0 < n → IsStatusOf (r .id) n (take n (statusOut r out))
+    (r : Reply) (out : List ℕ) (n : ℕ) → statusAnswer r out ≡ Count n → 0 < n → IsStatusOf (r .id) n (take n (statusOut r out))

@@ -1,15 +1,15 @@
 // The reply, and its status packet.
+use answers::Answer;
+use answers::Refusal;
 use device_codes::INST_STATUS;
-use packet_encoder::Encoded;
 use packet_front::MAX_ID;
 use table_registers::MAX_DATA;
 ghost use mathlib.Core.Path.{_≡_};
 ghost use Prim.Native.Nat.{_≤_};
-ghost use Rattle.packet_encoder.specs.Encoding.{encodedAnswer, encodeAnswer, encodeOut};
+ghost use Rattle.packet_encoder.specs.Encoding.{encodeAnswer, encodeOut};
 ghost use Rattle.device_status.specs.Status.{silence as Status·silence};
 ghost use Rattle.device_status.specs.Status.{errorByte, statusBody};
-ghost use Rattle.device_status.specs.Results.{writtenBy};
-ghost use Rattle.device_status.specs.Sending.{writtenAnswer, statusAnswer, statusOut};
+ghost use Rattle.device_status.specs.Sending.{statusAnswer, statusOut};
 
 // The shortest reply buffer: every status has room in it.
 pub const MIN_REPLY: usize = 32;
@@ -55,29 +55,10 @@ pub fn error_byte(error: u8, hardware: u8) -> u8
     error % ERROR_ALERT + ERROR_ALERT
 }
 
-// The byte count of the status, 0 for silence, or a reply that cannot be sent.
-pub enum Written {
-    Count(usize),
-    BadId,
-    TooLong,
-    NoRoom,
-}
-
-fn as_written(encoded: Encoded) -> Written
-    ensures { λ r. ⌜ r ≡ writtenBy encoded ⌝ }
-{
-    match encoded {
-        Encoded::Count(n) => Written::Count(n),
-        Encoded::BadId => Written::BadId,
-        Encoded::TooLong => Written::TooLong,
-        Encoded::NoRoom => Written::NoRoom,
-    }
-}
-
 // Writes the status packet to the start of out.
-fn write_status(reply: Reply, out: &mut [u8]) -> Encoded
+fn write_status(reply: Reply, out: &mut [u8]) -> Answer
     requires { ⌜ reply .count ≤ 8 ⌝ }
-    ensures { λ r. ⌜ encodedAnswer r ≡ encodeAnswer (reply .id) (statusBody reply) (now (out .entry)) 0 ⌝ }
+    ensures { λ r. ⌜ r ≡ encodeAnswer (reply .id) (statusBody reply) (now (out .entry)) 0 ⌝ }
     ensures { λ _. ⌜ now (out .exit) ≡ encodeOut (reply .id) (statusBody reply) (now (out .entry)) 0 ⌝ }
 {
     let b = reply.bytes;
@@ -87,24 +68,24 @@ fn write_status(reply: Reply, out: &mut [u8]) -> Encoded
     packet_encoder::encode(id, INST_STATUS, &params[..n], out, 0)
 }
 
-// Writes the status packet to the start of out; silence writes nothing. Refused, in this order, even for silence: an ID above 252,
+// Writes the status packet to the start of out; silence writes nothing, and counts 0. Refused, in this order, even for silence: an ID above 252,
 // more than 8 bytes of data, a buffer under 32 bytes. A refusal writes nothing.
 // [D28 D35-D37 D52 D53 N1 N2 N8 N10-N12 N14]
-pub fn send(reply: Reply, out: &mut [u8]) -> Written
-    ensures { λ r. ⌜ writtenAnswer r ≡ statusAnswer reply (now (out .entry)) ⌝ }
+pub fn send(reply: Reply, out: &mut [u8]) -> Answer
+    ensures { λ r. ⌜ r ≡ statusAnswer reply (now (out .entry)) ⌝ }
     ensures { λ _. ⌜ now (out .exit) ≡ statusOut reply (now (out .entry)) ⌝ }
 {
     if MAX_ID < reply.id {
-        return Written::BadId;
+        return Answer::Refused(Refusal::BadId);
     }
     if MAX_REPLY_DATA < reply.count {
-        return Written::TooLong;
+        return Answer::Refused(Refusal::TooLong);
     }
     if out.len() < MIN_REPLY {
-        return Written::NoRoom;
+        return Answer::Refused(Refusal::ShortReply);
     }
     if reply.speaks == 0 {
-        return Written::Count(0);
+        return Answer::Count(0);
     }
-    as_written(write_status(reply, out))
+    write_status(reply, out)
 }

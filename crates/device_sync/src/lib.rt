@@ -1,7 +1,7 @@
 // Sync Read and Sync Write, which have an entry for each device, and what is done by the own entry of any list. A table of another
 // size is refused: nothing is done, NOT_A_TABLE stands in the place of the error number, and nothing is answered.
+use answers::NOT_A_TABLE;
 use device_codes::ERROR_INSTRUCTION;
-use device_instructions::NOT_A_TABLE;
 use device_instructions::RegisteredWrite;
 use device_parameters::Found;
 use device_replies::LEVEL_ALL;

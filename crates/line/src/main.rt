@@ -1,10 +1,10 @@
 // Reads standard input, up to 65,536 bytes of it, as one segment and prints its events by the plain reader: `packet ID INSTRUCTION
 // COUNT`, with the count of unstuffed parameters, or `crc ID`, a line for each event, and last `end BYTES`, the bytes read.
 // If a read or a write fails, it says so on standard error and does not print `end BYTES`.
+use answers::Answer;
 use libc::STDERR_FILENO;
 use libc::STDOUT_FILENO;
 use reader_plain::Next;
-use stuffing::Unstuffed;
 
 fn wide(x: u8) -> u64 {
     x as u64
@@ -38,7 +38,7 @@ fn print_end(bytes: u64) -> bool {
 // A packet's body is never empty, and unstuffed it has at most 1,022 bytes.
 fn packet_line(id: u8, found: &[u8]) -> bool {
     let mut body = [0u8; 1022];
-    let Unstuffed::Count(n) = packet::unstuff(found, &mut body) else {
+    let Answer::Count(n) = packet::unstuff(found, &mut body) else {
         return false;
     };
     if n == 0 {

@@ -17,20 +17,22 @@ use Rattle.log_index.specs.Last.{lastPacket, lastFrom, indexFrom}
 use Rattle.log_layout.specs.Log.{laid, directory, logOf}
 use Rattle.log_layout.specs.Layout.{entryOf, segmentBy, numbers, entries, chained, noneAbove, headerRight, laidOut}
 use Rattle.log_layout.specs.Samples.{twoPings, numbered, file}
+use Rattle.answers.specs.declared.Refusal.{Refusal}
+use Rattle.answers.specs.declared.Refusal.the-variants.{WrongIndex}
 use Rattle.log_layout.proofs.Samples.{two-sound}
 use Rattle.log.specs.Soundness.{sameNumbers, checkRefusal}
 use Rattle.log.specs.Applied.{SoundExactlyApplied, damaged, LogPromisesApplied}
 
-not-both : (o : Option ℕ) (n : ℕ) → o ≡ some n → ¬ (o ≡ none)
-not-both o n e f = let z : _≡_ {A = ℕ} 0 1 = cc in absurd (omega arith)
+not-both : (o : Option Refusal) (refusal : Refusal) → o ≡ some refusal → ¬ (o ≡ none)
+not-both o refusal e f = let z : _≡_ {A = ℕ} 0 1 = cc in absurd (omega arith)
 
 is-bytes : allBytes file ≡ true
 unfolding laid bytesOf
 is-bytes = refl
 
-test-34 : checkRefusal (numbered 1 1 2) ≡ some 34
+test-wrong : checkRefusal (numbered 1 1 2) ≡ some WrongIndex
 unfolding numberAt bytesOf reduceIf shift shifts crcByte crcFrom wellAfter readFuel readFrom reading lengthOf frontAgrees lengthAgrees bodyOf checksumRight shapeVerdict lastPacket lastFrom indexFrom laid numbers entries chained noneAbove headerRight laidOut sameNumbers checkRefusal
-test-34 = refl
+test-wrong = refl
 
 test-file : checkRefusal file ≡ none
 unfolding numberAt bytesOf reduceIf shift shifts crcByte crcFrom wellAfter readFuel readFrom reading lengthOf frontAgrees lengthAgrees bodyOf checksumRight shapeVerdict lastPacket lastFrom indexFrom laid numbers entries chained noneAbove headerRight laidOut sameNumbers checkRefusal
@@ -39,7 +41,7 @@ test-file = refl
 pub sound-exactly-applied : SoundExactlyApplied
 sound-exactly-applied t =
     let s = t .only file (are-bytes file is-bytes) test-file in
-    (t .accepts (logOf twoPings) two-sound, (s .segments, s .are), λ wrong. not-both (checkRefusal (numbered 1 1 2)) 34 test-34 (t .accepts (numbered 1 1 2) wrong))
+    (t .accepts (logOf twoPings) two-sound, (s .segments, s .are), λ wrong. not-both (checkRefusal (numbered 1 1 2)) WrongIndex test-wrong (t .accepts (numbered 1 1 2) wrong))
 
 laid-out : (laidOut file ≡ true) × (laidOut damaged ≡ true)
 unfolding numberAt bytesOf laid numbers entries chained noneAbove headerRight laidOut

@@ -1,13 +1,15 @@
 -- The test accepts the sound logs and no others; the question, on a sound log and on two that agree where it looks.
 use mathlib.Core.Path.{_≡_, refl, sym, ap, ap₂, subst, _∙_}
-use mathlib.Core.Bool.{Bool, true, false}
+use mathlib.Core.Bool.{true, false}
 use mathlib.Core.List.{List, [], _∷_}
 use mathlib.Core.Option.{Option, none, some}
 use Prim.Native.Nat.{ℕ, zero, suc, _+_, _*_, _-_, _≤_, _<_}
 use native.Mathlib.Omega.{arith}
 use lib.ListN.{length, take, drop, getD}
 use lib.Seq.{getD-take}
-use Rattle.lists.specs.Answer.{firstFailing}
+use Rattle.answers.specs.Refusals.{firstFailing}
+use Rattle.answers.specs.declared.Refusal.the-variants.{BadLog, BadLogId, WrongIndex}
+use Rattle.answers.proofs.Laws.{passed}
 use Rattle.lists.specs.Numbers.{Bytes}
 use Rattle.lists.proofs.Numbers.{same-number}
 use Rattle.packet_front.specs.Front.{goodId}
@@ -17,7 +19,8 @@ use Rattle.log_layout.specs.Layout.{u32At, numbers, entries, countIn, entryOf, 
 use Rattle.log_layout.proofs.Sound.{LaidOut, is-laid-out, laid-out-log, index-log, segments-log, log-back}
 use Rattle.log_index.proofs.Marks.{place-within, at-place, index-is}
 use Rattle.log.specs.Soundness.{sameNumbers, checkRefusal, SoundExactly}
-use Rattle.log.specs.Question.{named, lastAnswer, lastRefusal, Answer, found, refused, answered, question, indexNumberOf, LogPromises}
+use Rattle.log.specs.Question.{named, lastAnswer, lastRefusal, found, foundUnless, question, indexNumberOf, LogPromises}
+use Rattle.log.specs.declared.Found.the-variants.{Refused}
 use Rattle.log.proofs.Turns.{numbers-at, numbers-length, segments-at, none-above, same-are, same-self}
 
 -- ---- the test
@@ -28,24 +31,18 @@ module _ (ss : List (List ℕ)) (fits : length (logOf ss) ≤ 4294967295) where
   accepted = rw (laid-out-log ss fits, index-log ss fits, segments-log ss fits, same-self (index ss))
 
 module _ (file : List ℕ) where
-  pub wrong-layout : laidOut file ≡ false → checkRefusal file ≡ some 31
+  pub wrong-layout : laidOut file ≡ false → checkRefusal file ≡ some BadLog
   unfolding checkRefusal
   wrong-layout h = rw h
 
   module _ (l : laidOut file ≡ true) where
-    pub wrong-index : sameNumbers (indexIn file) (index (segmentsIn file)) ≡ false → checkRefusal file ≡ some 34
+    pub wrong-index : sameNumbers (indexIn file) (index (segmentsIn file)) ≡ false → checkRefusal file ≡ some WrongIndex
     unfolding checkRefusal
     wrong-index h = rw (l, h)
 
     pub right-index : sameNumbers (indexIn file) (index (segmentsIn file)) ≡ true → checkRefusal file ≡ none
     unfolding checkRefusal
     right-index h = rw (l, h)
-
--- two tests in their order, both passed
-both-passed : (a b : Bool) (m n : ℕ) → firstFailing ((a, m) ∷ (b, n) ∷ []) ≡ none → (a ≡ true) × (b ≡ true)
-both-passed true true m n e = (refl, refl)
-both-passed true false m n e = let z : _≡_ {A = ℕ} 0 1 = cc in absurd (omega arith)
-both-passed false b m n e = let z : _≡_ {A = ℕ} 0 1 = cc in absurd (omega arith)
 
 pub sound-exactly : SoundExactly
 unfolding checkRefusal
@@ -54,15 +51,16 @@ sound-exactly =
       accepts = λ file s. subst (λ (f : List ℕ). checkRefusal f ≡ none) (sym (s .are)) (accepted (s .segments) (rw (s .are) at (s .fits)));
       only =
           λ file b e.
-          let t = both-passed (laidOut file) (sameNumbers (indexIn file) (index (segmentsIn file))) 31 34 e in
+          let t = passed (laidOut file) BadLog _ e in
+          let i = passed (sameNumbers (indexIn file) (index (segmentsIn file))) WrongIndex none (t .1) in
           let h = is-laid-out file (t .0) in
-          record { fits = h .fits; segments = segmentsIn file; are = log-back file b h (same-are _ _ (t .1)) };
+          record { fits = h .fits; segments = segmentsIn file; are = log-back file b h (same-are _ _ (i .0)) };
     }
 
 -- ---- the question, test by test
 
 module _ (file : List ℕ) (id : ℕ) where
-  pub bad-layout : laidOut file ≡ false → question file id ≡ refused 31
+  pub bad-layout : laidOut file ≡ false → question file id ≡ Refused BadLog
   unfolding lastRefusal
   bad-layout h = rw h
 
@@ -70,7 +68,7 @@ module _ (file : List ℕ) (id : ℕ) where
   number-is = numbers-at file (indexPlace (countIn file)) indexSize (placeOf id) (place-within id)
 
   module _ (l : laidOut file ≡ true) where
-    pub bad-id : goodId id ≡ false → question file id ≡ refused 32
+    pub bad-id : goodId id ≡ false → question file id ≡ Refused BadLogId
     unfolding lastRefusal
     bad-id h = rw (l, h)
 
@@ -163,7 +161,7 @@ module _ (f g : List ℕ) (id : ℕ) (lf : laidOut f ≡ true) (lg : laidOut g �
 
   same-question : question f id ≡ question g id
   unfolding lastRefusal
-  same-question = rw (lf, lg) (ap (answered (firstFailing ((goodId id, 32) ∷ []))) same-answer)
+  same-question = rw (lf, lg) (ap (foundUnless (firstFailing ((goodId id, BadLogId) ∷ []))) same-answer)
 
 pub log-promises : LogPromises
 log-promises =

@@ -22,7 +22,8 @@ use Rattle.log_index.specs.declared.Offset.{Offset}
 use Rattle.log_index.specs.declared.Offset.the-variants.{At, Nothing}
 use Rattle.log_index.specs.Marks.{offsetOf}
 use Rattle.log_index.specs.Last.{at, nowhere, orIn}
-use Rattle.log.specs.Question.{Answer, found}
+use Rattle.log.specs.Question.{found}
+use Rattle.log.specs.declared.Found.{Found}
 use Rattle.log.specs.Soundness.{sameNumbers}
 
 -- ---- what stands at a place
@@ -99,7 +100,7 @@ same-self (x ∷ xs) = rw (eq-eqb x x refl) (same-self xs)
 
 -- ---- one segment's answer
 
-abbrev pub foundIn : ℕ → Offset → Answer
+abbrev pub foundIn : ℕ → Offset → Found
 foundIn k (At p) = found (at k p)
 foundIn k Nothing = found nowhere
 

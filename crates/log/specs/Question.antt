@@ -5,13 +5,15 @@ use mathlib.Core.List.{List, [], _∷_}
 use mathlib.Core.Option.{Option, none, some}
 use Prim.Native.Nat.{ℕ, zero, suc, _+_, _*_}
 use lib.ListN.{getD, take}
-use Rattle.lists.specs.Answer.{firstFailing}
+use Rattle.answers.specs.Refusals.{firstFailing}
+use Rattle.answers.specs.declared.Refusal.{Refusal}
+use Rattle.answers.specs.declared.Refusal.the-variants.{BadLog, BadLogId}
 use Rattle.packet_front.specs.Front.{goodId}
 use Rattle.log_index.specs.Last.{Last, at, nowhere, orIn, lastIn, lastOf, placeOf}
 use Rattle.log_layout.specs.Log.{indexPlace, Sound}
 use Rattle.log_layout.specs.Layout.{u32At, countIn, entryOf, indexIn, segmentBy, segmentsIn, laidOut}
 use Rattle.log.specs.declared.Found.{Found}
-use Rattle.log.specs.declared.Found.the-variants.{At, Nowhere, BadLayout, BadId}
+use Rattle.log.specs.declared.Found.the-variants.{At, Nowhere, Refused}
 
 -- by an index number: in the segment that it names, and in no other [I19]
 abbrev pub named : ℕ → ℕ → List (List ℕ) → Last
@@ -23,28 +25,21 @@ unfoldable pub lastAnswer : List ℕ → ℕ → Last
 lastAnswer file id = named (getD (indexIn file) (placeOf id) 0) id (segmentsIn file)
 
 -- the layout, and then the ID, which has to be one that packets may have [I18 N15 N16]
-unfoldable pub lastRefusal : List ℕ → ℕ → Option ℕ
-lastRefusal file id = firstFailing ((laidOut file, 31) ∷ (goodId id, 32) ∷ [])
+unfoldable pub lastRefusal : List ℕ → ℕ → Option Refusal
+lastRefusal file id = firstFailing ((laidOut file, BadLog) ∷ (goodId id, BadLogId) ∷ [])
 
--- where the last packet stands, or a refusal by its number
-pub data Answer : Type 0 where
-  found : Last → Answer
-  refused : ℕ → Answer
+-- where the last packet stands, as the code says it [I18]
+abbrev pub found : Last → Found
+found (at k p) = At k p
+found nowhere = Nowhere
 
-abbrev pub answered : Option ℕ → Last → Answer
-answered none l = found l
-answered (some number) l = refused number
+abbrev pub foundUnless : Option Refusal → Last → Found
+foundUnless none l = found l
+foundUnless (some refusal) l = Refused refusal
 
 -- [I18]
-abbrev pub question : List ℕ → ℕ → Answer
-question file id = answered (lastRefusal file id) (lastAnswer file id)
-
--- the code's answer [I18]
-abbrev pub foundAnswer : Found → Answer
-foundAnswer (At k p) = found (at k p)
-foundAnswer Nowhere = found nowhere
-foundAnswer BadLayout = refused 31
-foundAnswer BadId = refused 32
+abbrev pub question : List ℕ → ℕ → Found
+question file id = foundUnless (lastRefusal file id) (lastAnswer file id)
 
 -- the index number of an ID, by its place in the file [I5]
 abbrev pub indexNumberOf : List ℕ → ℕ → ℕ

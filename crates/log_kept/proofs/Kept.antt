@@ -1,6 +1,6 @@
 -- Kept and dropped entries: one more of them, how many there are, and how many bytes the kept ones have.
 use mathlib.Core.Path.{_≡_, refl, sym, ap, ap₂, subst, _∙_}
-use mathlib.Core.Bool.{Bool, true, false, cond}
+use mathlib.Core.Bool.{cond}
 use mathlib.Core.List.{List, [], _∷_, _++_}
 use mathlib.Core.Option.{Option, none, some}
 use Prim.Native.Nat.{ℕ, zero, suc, _+_, _*_, _-_, _≤_, _<_}
@@ -9,7 +9,7 @@ use lib.Dec.{leb}
 use lib.ListN.{length, take, drop, length-append, length-drop}
 use lib.Seq.{length-take-le}
 use borrow.Author.Tests.{leb-true, leb-false, le-leb, lt-leb}
-use Rattle.lists.specs.Answer.{firstFailing}
+use Rattle.answers.proofs.Laws.{passed}
 use Rattle.reading.specs.Promise.{joined}
 use Rattle.log_layout.specs.Log.{Entry, directory}
 use Rattle.log_layout.specs.Layout.{segmentBy, segmentsBy}
@@ -24,13 +24,9 @@ bytesBy file es = length (joined (segmentsBy file es))
 module _ (size limit : ℕ) (e : Entry) where
   -- one without a fault starts and ends where it may
   pub fault-none : fault size limit e ≡ none → (limit ≤ e .0) × (e .0 + e .1 ≤ size)
-  fault-none f = by-test (leb limit (e .0)) refl (leb (e .0 + e .1) size) refl f
-    where
-      by-test : (s : Bool) → leb limit (e .0) ≡ s → (t : Bool) → leb (e .0 + e .1) size ≡ t
-          → firstFailing ((s, 1) ∷ (t, 2) ∷ []) ≡ none → (limit ≤ e .0) × (e .0 + e .1 ≤ size)
-      by-test true a true b z = (leb-true _ _ a, leb-true _ _ b)
-      by-test true a false b z = let k : _≡_ {A = ℕ} 0 1 = cc in absurd (omega arith)
-      by-test false a t b z = let k : _≡_ {A = ℕ} 0 1 = cc in absurd (omega arith)
+  fault-none f =
+      let s = passed (leb limit (e .0)) 1 _ f in
+      (leb-true _ _ (s .0), leb-true _ _ (passed (leb (e .0 + e .1) size) 2 _ (s .1) .0))
 
   -- and one that does has none
   pub no-fault : limit ≤ e .0 → e .0 + e .1 ≤ size → fault size limit e ≡ none

@@ -9,7 +9,8 @@ use native.Mathlib.Omega.{arith}
 use lib.ListN.{length, drop, set}
 use lib.Dec.{leb}
 use borrow.Author.Tests.{le-leb, lt-leb, leb-true, leb-false}
-use Rattle.lists.specs.Answer.{firstFailing}
+use Rattle.answers.specs.Refusals.{firstFailing}
+use Rattle.answers.specs.declared.Refusal.the-variants.{NoRoom as Refusal·NoRoom}
 use Rattle.lists.specs.Write.{overwritten}
 use Rattle.lists.proofs.Filling.{Filling, fill-start, fill-next, fill-done, drop-lt}
 use Rattle.log_layout.specs.Log.{Entry, numbersOf, segmentsPlace}
@@ -208,7 +209,7 @@ module _ (file report : List ℕ) where
   told-listed c e = by-test (leb (entryCount file) (length report / 2)) refl e
     where
       by-test : (t : Bool) → leb (entryCount file) (length report / 2) ≡ t
-          → sorted (firstFailing ((t, 13) ∷ [])) (counts file (entryCount file)) ≡ Listed c
+          → sorted (firstFailing ((t, Refusal·NoRoom) ∷ [])) (counts file (entryCount file)) ≡ Listed c
           → (entryCount file ≤ length report / 2) × (c ≡ counts file (entryCount file))
           × (sortReport file report ≡ overwritten report (numbersOf (droppedIn file)))
       by-test true t e = let k : counts file (entryCount file) ≡ c = cc in (leb-true _ _ t, sym k, rw t refl)
@@ -219,7 +220,7 @@ module _ (file report : List ℕ) where
   told-refused e = by-test (leb (entryCount file) (length report / 2)) refl e
     where
       by-test : (t : Bool) → leb (entryCount file) (length report / 2) ≡ t
-          → sorted (firstFailing ((t, 13) ∷ [])) (counts file (entryCount file)) ≡ NoRoom
+          → sorted (firstFailing ((t, Refusal·NoRoom) ∷ [])) (counts file (entryCount file)) ≡ NoRoom
           → (length report / 2 < entryCount file) × (sortReport file report ≡ report)
       by-test true t e = let k : _≡_ {A = ℕ} 0 1 = cc in absurd (omega arith)
       by-test false t e = (leb-false _ _ t, rw t refl)

@@ -4,7 +4,7 @@ use mathlib.Core.Option.{Option, none, some}
 use Prim.Native.Nat.{ℕ, suc, _+_, _-_, _/_, min}
 use lib.Dec.{leb}
 use lib.ListN.{length, drop}
-use Rattle.lists.specs.Answer.{firstFailing}
+use Rattle.answers.specs.Refusals.{firstFailing}
 use Rattle.log_layout.specs.Log.{Entry, directoryPlace, segmentsPlace}
 use Rattle.log_layout.specs.Layout.{countIn, entries, segmentsBy}
 

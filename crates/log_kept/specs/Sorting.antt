@@ -4,7 +4,9 @@ use mathlib.Core.Option.{Option, none, some}
 use Prim.Native.Nat.{ℕ, _/_}
 use lib.Dec.{leb}
 use lib.ListN.{length}
-use Rattle.lists.specs.Answer.{firstFailing, unlessRefused}
+use Rattle.answers.specs.Refusals.{firstFailing, unlessRefused}
+use Rattle.answers.specs.declared.Refusal.{Refusal}
+use Rattle.answers.specs.declared.Refusal.the-variants.{NoRoom as Refusal·NoRoom}
 use Rattle.lists.specs.Write.{overwritten}
 use Rattle.reading.specs.Promise.{joined}
 use Rattle.log_layout.specs.Log.{Entry, numbersOf}
@@ -27,12 +29,12 @@ counts file n =
     record { kept = length (keptOf file n); bytes = length (joined (segmentsBy file (keptOf file n))); dropped = length (droppedOf file n) }
 
 -- a place of the report is two numbers, and each entry needs one [I25 I31]
-unfoldable pub sortRefusal : List ℕ → List ℕ → Option ℕ
-sortRefusal file report = firstFailing ((leb (entryCount file) (length report / 2), 13) ∷ [])
+unfoldable pub sortRefusal : List ℕ → List ℕ → Option Refusal
+sortRefusal file report = firstFailing ((leb (entryCount file) (length report / 2), Refusal·NoRoom) ∷ [])
 
-abbrev pub sorted : Option ℕ → Counts → Sorted
+abbrev pub sorted : Option Refusal → Counts → Sorted
 sorted none c = Listed c
-sorted (some number) c = NoRoom
+sorted (some refusal) c = NoRoom
 
 -- [I25]
 abbrev pub sortAnswer : List ℕ → List ℕ → Sorted

@@ -1,7 +1,7 @@
 -- The refusals in their order, and what a call that is not refused has written and reported.
 use mathlib.Core.Path.{_≡_, refl, sym, ap, ap₂, _∙_}
-use mathlib.Core.Bool.{Bool, true, false, not}
-use mathlib.Core.List.{List, [], _∷_, _++_}
+use mathlib.Core.Bool.{Bool, not}
+use mathlib.Core.List.{List, _++_}
 use mathlib.Core.Option.{Option, none, some}
 use Prim.Native.Nat.{ℕ, _+_, _*_, _-_, _/_, _≤_, _<_, min}
 use native.Mathlib.Omega.{arith}
@@ -9,7 +9,9 @@ use lib.Dec.{leb}
 use lib.ListN.{length, take, drop}
 use lib.Seq.{take-append-le}
 use borrow.Author.Tests.{leb-true, le-leb, lt-leb}
-use Rattle.lists.specs.Answer.{firstFailing}
+use Rattle.answers.specs.declared.Refusal.{Refusal}
+use Rattle.answers.specs.declared.Refusal.the-variants.{NoRoom, BadLogSize}
+use Rattle.answers.proofs.Laws.{passed}
 use Rattle.lists.specs.Write.{overwritten}
 use Rattle.reading.specs.Promise.{joined}
 use Rattle.log_index.specs.Last.{indexSize, index}
@@ -23,8 +25,9 @@ use Rattle.log_kept.specs.declared.Counts.{Counts}
 use Rattle.log_kept.proofs.Kept.{bytesBy}
 use Rattle.log_kept.proofs.Turns.{counts-of, bytes-of}
 use Rattle.log_salvage.specs.Report.{salvaged, differing, Report, reportOf}
-use Rattle.log_salvage.specs.Salvage.{salvageRefusal, Answer, wrote, refused, figures, salvageAnswer, salvageOut, salvageReport}
+use Rattle.log_salvage.specs.Salvage.{salvageRefusal, figures, salvageAnswer, salvageOut, salvageReport}
 use Rattle.log_salvage.specs.declared.Figures.{Figures}
+use Rattle.log_salvage.specs.declared.Salvaged.the-variants.{Written, Refused}
 
 -- ---- sizes
 
@@ -44,22 +47,22 @@ module _ (file : List ℕ) where
 -- ---- the refusals
 
 module _ (file out report : List ℕ) where
-  pub too-small : length file < 1032 → salvageRefusal file out report ≡ some 33
+  pub too-small : length file < 1032 → salvageRefusal file out report ≡ some BadLogSize
   unfolding salvageRefusal
   too-small h = rw (lt-leb 1032 (length file) h)
 
   module _ (h₁ : 1032 ≤ length file) where
-    pub too-large : longestFile < length file → salvageRefusal file out report ≡ some 33
+    pub too-large : longestFile < length file → salvageRefusal file out report ≡ some BadLogSize
     unfolding salvageRefusal
     too-large h = rw (le-leb 1032 (length file) h₁, lt-leb (length file) longestFile h)
 
     module _ (h₂ : length file ≤ longestFile) where
-      pub no-room : length out < length file → salvageRefusal file out report ≡ some 13
+      pub no-room : length out < length file → salvageRefusal file out report ≡ some NoRoom
       unfolding salvageRefusal
       no-room h = rw (le-leb 1032 (length file) h₁, le-leb (length file) longestFile h₂, lt-leb (length file) (length out) h)
 
       module _ (h₃ : length file ≤ length out) where
-        pub no-places : length report / 2 < entryCount file → salvageRefusal file out report ≡ some 13
+        pub no-places : length report / 2 < entryCount file → salvageRefusal file out report ≡ some NoRoom
         unfolding salvageRefusal
         no-places h =
             rw (le-leb 1032 (length file) h₁, le-leb (length file) longestFile h₂, le-leb (length file) (length out) h₃, lt-leb (entryCount file) (length report / 2) h)
@@ -70,26 +73,21 @@ module _ (file out report : List ℕ) where
             rw (le-leb 1032 (length file) h₁, le-leb (length file) longestFile h₂, le-leb (length file) (length out) h₃, le-leb (entryCount file) (length report / 2) h)
 
   -- what a call that is not refused has passed
-  pub passed : salvageRefusal file out report ≡ none → (1032 ≤ length file) × (length file ≤ longestFile)
+  pub sized : salvageRefusal file out report ≡ none → (1032 ≤ length file) × (length file ≤ longestFile)
   unfolding salvageRefusal
-  passed r = by-test (leb 1032 (length file)) refl (leb (length file) longestFile) refl r
-    where
-      by-test : (s : Bool) → leb 1032 (length file) ≡ s → (t : Bool) → leb (length file) longestFile ≡ t
-          → firstFailing ((s, 33) ∷ (t, 33) ∷ (leb (length file) (length out), 13) ∷ (leb (entryCount file) (length report / 2), 13) ∷ []) ≡ none
-          → (1032 ≤ length file) × (length file ≤ longestFile)
-      by-test true a true b z = (leb-true _ _ a, leb-true _ _ b)
-      by-test true a false b z = let k : _≡_ {A = ℕ} 0 1 = cc in absurd (omega arith)
-      by-test false a t b z = let k : _≡_ {A = ℕ} 0 1 = cc in absurd (omega arith)
+  sized r =
+      let s = passed (leb 1032 (length file)) BadLogSize _ r in
+      (leb-true _ _ (s .0), leb-true _ _ (passed (leb (length file) longestFile) BadLogSize _ (s .1) .0))
 
-  pub refusing : (number : ℕ) → salvageRefusal file out report ≡ some number
-      → (refused number ≡ salvageAnswer file out report)
+  pub refusing : (refusal : Refusal) → salvageRefusal file out report ≡ some refusal
+      → (Refused refusal ≡ salvageAnswer file out report)
       × ((out ≡ salvageOut file out report) × (report ≡ salvageReport file out report))
-  refusing number r = (rw r refl, (rw r refl, rw r refl))
+  refusing refusal r = (rw r refl, (rw r refl, rw r refl))
 
   pub writing : (f : Figures) (o t : List ℕ) → salvageRefusal file out report ≡ none → f ≡ figures (length (salvaged file)) (reportOf file)
       → o ≡ overwritten out (salvaged file) → t ≡ overwritten report (numbersOf (droppedIn file))
-      → (wrote f ≡ salvageAnswer file out report) × ((o ≡ salvageOut file out report) × (t ≡ salvageReport file out report))
-  writing f o t r a b d = (rw r (ap wrote a), (rw r b, rw r d))
+      → (Written f ≡ salvageAnswer file out report) × ((o ≡ salvageOut file out report) × (t ≡ salvageReport file out report))
+  writing f o t r a b d = (rw r (ap Written a), (rw r b, rw r d))
 
 -- ---- the figures
 

@@ -22,7 +22,7 @@ use Rattle.log_kept.proofs.Kept.{bytesBy, fault-none, kept-here, kept-not, all-
 use Rattle.log_kept.proofs.Turns.{counts-of}
 use Rattle.log_salvage.specs.Report.{salvaged, differing, Report, reportOf, emptyReport}
 use Rattle.log_salvage.specs.Salvage.{salvageRefusal, salvageOut, Apart, Salvage}
-use Rattle.log_salvage.proofs.Answer.{no-longer, passed, passes}
+use Rattle.log_salvage.proofs.Answer.{no-longer, sized, passes}
 use Rattle.log_salvage.proofs.LeftOver.{left-over}
 
 -- the kept entries do not overlap
@@ -113,10 +113,10 @@ module _ (file : List ℕ) (s : Sound file) where
 
 module _ (file out report : List ℕ) (r : salvageRefusal file out report ≡ none) where
   short : length (salvaged file) ≤ length file
-  short = no-longer file (passed file out report r .0)
+  short = no-longer file (sized file out report r .0)
 
   salvaged-fits : length (salvaged file) ≤ longestFile
-  salvaged-fits = omega (arith, short, passed file out report r .1)
+  salvaged-fits = omega (arith, short, sized file out report r .1)
 
   written-sound : Sound (take (length (salvaged file)) (salvageOut file out report))
   written-sound =

@@ -6,7 +6,9 @@ use mathlib.Core.Option.{Option, none, some}
 use Prim.Native.Nat.{ℕ, zero, suc, _+_, _*_, _-_, _/_, _≤_}
 use lib.Dec.{leb, ltb}
 use lib.ListN.{length, take}
-use Rattle.lists.specs.Answer.{firstFailing, unlessRefused}
+use Rattle.answers.specs.Refusals.{firstFailing, unlessRefused}
+use Rattle.answers.specs.declared.Refusal.{Refusal}
+use Rattle.answers.specs.declared.Refusal.the-variants.{NoRoom, BadLogSize}
 use Rattle.lists.specs.Write.{overwritten}
 use Rattle.log_layout.specs.Log.{Entry, numbersOf, segmentsPlace, longestFile, Sound}
 use Rattle.log_layout.specs.Layout.{countIn, segmentsIn}
@@ -14,23 +16,18 @@ use Rattle.log_kept.specs.Kept.{entryCount, keptOf, droppedIn, keptSegments}
 use Rattle.log_salvage.specs.Report.{salvaged, Report, reportOf, emptyReport}
 use Rattle.log_salvage.specs.declared.Figures.{Figures}
 use Rattle.log_salvage.specs.declared.Salvaged.{Salvaged}
-use Rattle.log_salvage.specs.declared.Salvaged.the-variants.{Written, BadSize, NoRoom}
+use Rattle.log_salvage.specs.declared.Salvaged.the-variants.{Written, Refused}
 
 -- a file of no size that a log may have; an output shorter than the file; a report with fewer places, of two numbers each, than the
 -- segment count: in this order [I31 N4 N10 N18]
-unfoldable pub salvageRefusal : List ℕ → List ℕ → List ℕ → Option ℕ
+unfoldable pub salvageRefusal : List ℕ → List ℕ → List ℕ → Option Refusal
 salvageRefusal file out report =
     firstFailing
-    ((leb 1032 (length file), 33)
-    ∷ (leb (length file) longestFile, 33)
-    ∷ (leb (length file) (length out), 13)
-    ∷ (leb (entryCount file) (length report / 2), 13)
+    ((leb 1032 (length file), BadLogSize)
+    ∷ (leb (length file) longestFile, BadLogSize)
+    ∷ (leb (length file) (length out), NoRoom)
+    ∷ (leb (entryCount file) (length report / 2), NoRoom)
     ∷ [])
-
--- the bytes written and the figures of the report, or a refusal by its number
-pub data Answer : Type 0 where
-  wrote : Figures → Answer
-  refused : ℕ → Answer
 
 abbrev pub figures : ℕ → Report → Figures
 figures count r =
@@ -42,13 +39,13 @@ figures count r =
       header = r .header-changed;
     }
 
-abbrev pub answered : Option ℕ → Figures → Answer
-answered none f = wrote f
-answered (some number) f = refused number
+abbrev pub writtenUnless : Option Refusal → Figures → Salvaged
+writtenUnless none f = Written f
+writtenUnless (some refusal) f = Refused refusal
 
--- [I24-I28 I31]
-abbrev pub salvageAnswer : List ℕ → List ℕ → List ℕ → Answer
-salvageAnswer file out report = answered (salvageRefusal file out report) (figures (length (salvaged file)) (reportOf file))
+-- the bytes written and the figures of the report, or a refusal [I24-I28 I31]
+abbrev pub salvageAnswer : List ℕ → List ℕ → List ℕ → Salvaged
+salvageAnswer file out report = writtenUnless (salvageRefusal file out report) (figures (length (salvaged file)) (reportOf file))
 
 -- what the output holds; its bytes behind the log stay [I24 I31]
 abbrev pub salvageOut : List ℕ → List ℕ → List ℕ → List ℕ
@@ -57,12 +54,6 @@ salvageOut file out report = unlessRefused (salvageRefusal file out report) out 
 -- and the report: two numbers for each dropped entry; its places behind them stay [I25 I31]
 abbrev pub salvageReport : List ℕ → List ℕ → List ℕ → List ℕ
 salvageReport file out report = unlessRefused (salvageRefusal file out report) report (overwritten report (numbersOf (reportOf file .dropped)))
-
--- the code's answer [I31]
-abbrev pub salvagedAnswer : Salvaged → Answer
-salvagedAnswer (Written f) = wrote f
-salvagedAnswer BadSize = refused 33
-salvagedAnswer NoRoom = refused 13
 
 -- entries one behind the other, none before `limit` and none behind a file of `size` bytes [I22]
 abbrev pub Apart : ℕ → ℕ → List Entry → Type 0

@@ -1,4 +1,5 @@
 // Salvage of a cut log: what is sound in it is written as a log, and what was altered is reported.
+use answers::Refusal;
 use log_kept::Counts;
 use log_kept::Judged;
 use log_kept::Sorted;
@@ -21,7 +22,7 @@ ghost use Rattle.log.specs.Soundness.{sameNumbers};
 ghost use Rattle.log_kept.specs.Kept.{entryCount, keptOf, keptSegments};
 ghost use Rattle.log_kept.specs.Sorting.{counts};
 ghost use Rattle.log_salvage.specs.Report.{differing, salvaged, reportOf};
-ghost use Rattle.log_salvage.specs.Salvage.{figures, salvageAnswer, salvageOut, salvageReport, salvagedAnswer};
+ghost use Rattle.log_salvage.specs.Salvage.{figures, salvageAnswer, salvageOut, salvageReport};
 
 // The bytes written, and the report in numbers: dropped entries, index numbers that have changed, bytes behind the old index that
 // are in no kept segment, and whether the header has changed.
@@ -35,9 +36,7 @@ pub struct Figures {
 
 pub enum Salvaged {
     Written(Figures),
-    // Shorter than a log can be, or longer.
-    BadSize,
-    NoRoom,
+    Refused(Refusal),
 }
 
 // Writes the directory of the kept entries and their segments, side by side, and makes their index.
@@ -139,21 +138,21 @@ fn write_log(file: &[u8], out: &mut [u8], sorted: Counts) -> Figures
 // Writes the log of what is sound in a file, and reports what was altered: the dropped entries in the caller's report, number and
 // reason, and the rest in figures. [I21-I28 I31 N18]
 pub fn salvage(file: &[u8], out: &mut [u8], report: &mut [u32]) -> Salvaged
-    ensures { λ r. ⌜ salvagedAnswer r ≡ salvageAnswer (now (file .entry)) (now (out .entry)) (now (report .entry)) ⌝ }
+    ensures { λ r. ⌜ r ≡ salvageAnswer (now (file .entry)) (now (out .entry)) (now (report .entry)) ⌝ }
     ensures { λ _. ⌜ now (out .exit) ≡ salvageOut (now (file .entry)) (now (out .entry)) (now (report .entry)) ⌝ }
     ensures { λ _. ⌜ now (report .exit) ≡ salvageReport (now (file .entry)) (now (out .entry)) (now (report .entry)) ⌝ }
 {
     if file.len() < LOG_FRONT {
-        return Salvaged::BadSize;
+        return Salvaged::Refused(Refusal::BadLogSize);
     }
     if LONGEST_FILE < file.len() {
-        return Salvaged::BadSize;
+        return Salvaged::Refused(Refusal::BadLogSize);
     }
     if out.len() < file.len() {
-        return Salvaged::NoRoom;
+        return Salvaged::Refused(Refusal::NoRoom);
     }
     match log_kept::sort(file, report) {
         Sorted::Listed(sorted) => Salvaged::Written(write_log(file, out, sorted)),
-        Sorted::NoRoom => Salvaged::NoRoom,
+        Sorted::NoRoom => Salvaged::Refused(Refusal::NoRoom),
     }
 }

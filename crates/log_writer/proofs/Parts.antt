@@ -1,15 +1,18 @@
 -- A log by the lengths of its segments: its parts in a buffer, how long it is; what is written is sound.
 use mathlib.Core.Path.{_≡_, refl, sym, ap, ap₂, _∙_}
-use mathlib.Core.Bool.{Bool, true, false}
+use mathlib.Core.Bool.{true, false}
 use mathlib.Core.List.{List, [], _∷_, _++_}
 use mathlib.Core.Option.{none, some}
 use Prim.Native.Nat.{ℕ, zero, suc, _+_, _*_, _-_, _≤_, _<_}
 use native.Mathlib.Omega.{arith}
-use lib.Dec.{leb, eqb}
+use lib.Dec.{eqb}
 use lib.ListN.{length, take, drop, length-take, length-drop, take-append-drop}
 use lib.Seq.{take-all, length-take-le}
 use borrow.Author.Tests.{leb-true, eqb-true, eq-eqb, le-leb, lt-leb, ne-eqb}
-use Rattle.lists.specs.Answer.{Answer, count, refused, firstFailing, answered, unlessRefused}
+use Rattle.answers.specs.declared.Refusal.{Refusal}
+use Rattle.answers.specs.declared.Refusal.the-variants.{BadLog, NoRoom}
+use Rattle.answers.specs.declared.Answer.the-variants.{Count, Refused}
+use Rattle.answers.proofs.Laws.{passed}
 use Rattle.lists.specs.Write.{overwritten, placed}
 use Rattle.lists.proofs.Write.{overwritten-take}
 use Rattle.reading.specs.Promise.{joined}
@@ -77,7 +80,7 @@ module _ (out bytes lengths : List ℕ) (e : sum lengths ≡ length bytes) (h : 
 -- ---- the answer
 
 module _ (bytes lengths out : List ℕ) where
-  pub refused-sum : eqb (sum lengths) (length bytes) ≡ false → writeRefusal bytes lengths out ≡ some 31
+  pub refused-sum : eqb (sum lengths) (length bytes) ≡ false → writeRefusal bytes lengths out ≡ some BadLog
   unfolding writeRefusal
   refused-sum h = rw h
 
@@ -85,12 +88,12 @@ module _ (bytes lengths out : List ℕ) where
     size : length (written bytes lengths) ≡ segmentsPlace (length lengths) + length bytes
     size = written-length bytes lengths (eqb-true (sum lengths) (length bytes) e)
 
-    pub refused-long : longestFile < segmentsPlace (length lengths) + length bytes → writeRefusal bytes lengths out ≡ some 31
+    pub refused-long : longestFile < segmentsPlace (length lengths) + length bytes → writeRefusal bytes lengths out ≡ some BadLog
     unfolding writeRefusal
     refused-long h = rw (e, lt-leb (length (written bytes lengths)) longestFile (omega (arith, size, h)))
 
     module _ (l : segmentsPlace (length lengths) + length bytes ≤ longestFile) where
-      pub refused-room : length out < segmentsPlace (length lengths) + length bytes → writeRefusal bytes lengths out ≡ some 13
+      pub refused-room : length out < segmentsPlace (length lengths) + length bytes → writeRefusal bytes lengths out ≡ some NoRoom
       unfolding writeRefusal
       refused-room h =
           rw (e, le-leb (length (written bytes lengths)) longestFile (omega (arith, size, l)), lt-leb (length (written bytes lengths)) (length out) (omega (arith, size, h)))
@@ -100,33 +103,26 @@ module _ (bytes lengths out : List ℕ) where
       not-refused h =
           rw (e, le-leb (length (written bytes lengths)) longestFile (omega (arith, size, l)), le-leb (length (written bytes lengths)) (length out) (omega (arith, size, h)))
 
-  pub refusing : (number : ℕ) → writeRefusal bytes lengths out ≡ some number
-      → (refused number ≡ writeAnswer bytes lengths out) × (out ≡ writeOut bytes lengths out)
-  refusing number r = (rw r refl, rw r refl)
+  pub refusing : (refusal : Refusal) → writeRefusal bytes lengths out ≡ some refusal
+      → (Refused refusal ≡ writeAnswer bytes lengths out) × (out ≡ writeOut bytes lengths out)
+  refusing refusal r = (rw r refl, rw r refl)
 
   pub writing : (m : ℕ) (buffer : List ℕ) → writeRefusal bytes lengths out ≡ none → length (written bytes lengths) ≡ m
       → buffer ≡ overwritten out (written bytes lengths)
-      → (count m ≡ writeAnswer bytes lengths out) × (buffer ≡ writeOut bytes lengths out)
+      → (Count m ≡ writeAnswer bytes lengths out) × (buffer ≡ writeOut bytes lengths out)
   writing m buffer r l b = (rw (r, l) refl, rw r b)
 
   -- what a call that is not refused has passed
-  passed : writeRefusal bytes lengths out ≡ none → length (written bytes lengths) ≤ longestFile
+  fits : writeRefusal bytes lengths out ≡ none → length (written bytes lengths) ≤ longestFile
   unfolding writeRefusal
-  passed r = by-test (eqb (sum lengths) (length bytes)) refl (leb (length (written bytes lengths)) longestFile) refl r
-    where
-      by-test : (s : Bool) → eqb (sum lengths) (length bytes) ≡ s → (t : Bool) → leb (length (written bytes lengths)) longestFile ≡ t
-          → firstFailing ((s, 31) ∷ (t, 31) ∷ (leb (length (written bytes lengths)) (length out), 13) ∷ []) ≡ none
-          → length (written bytes lengths) ≤ longestFile
-      by-test true a true b z = leb-true _ _ b
-      by-test true a false b z = let k : _≡_ {A = ℕ} 0 1 = cc in absurd (omega arith)
-      by-test false a t b z = let k : _≡_ {A = ℕ} 0 1 = cc in absurd (omega arith)
+  fits r = leb-true _ _ (passed _ BadLog _ (passed (eqb (sum lengths) (length bytes)) BadLog _ r .1) .0)
 
 pub writes-sound : WritesSound
 writes-sound bytes lengths out r =
     let e : take (length (written bytes lengths)) (writeOut bytes lengths out) ≡ written bytes lengths =
     rw r (overwritten-take out (written bytes lengths)) in
     record {
-      fits = rw e (passed bytes lengths out r);
+      fits = rw e (fits bytes lengths out r);
       segments = cut lengths bytes;
       are = e;
     }

@@ -5,11 +5,13 @@ use mathlib.Core.Option.{Option, none}
 use Prim.Native.Nat.{ℕ, _+_}
 use lib.Dec.{leb, eqb}
 use lib.ListN.{length, take, drop}
-use Rattle.lists.specs.Answer.{Answer, count, refused, firstFailing, answered, unlessRefused}
+use Rattle.answers.specs.Refusals.{firstFailing, unlessRefused}
+use Rattle.answers.specs.Answers.{answered}
+use Rattle.answers.specs.declared.Refusal.{Refusal}
+use Rattle.answers.specs.declared.Refusal.the-variants.{BadLog, NoRoom}
+use Rattle.answers.specs.declared.Answer.{Answer}
 use Rattle.lists.specs.Write.{overwritten}
 use Rattle.log_layout.specs.Log.{Entry, logOf, longestFile, Sound}
-use Rattle.log_writer.specs.declared.LogWritten.{LogWritten}
-use Rattle.log_writer.specs.declared.LogWritten.the-variants.{Count, BadLayout, NoRoom}
 
 -- [I11]
 unfoldable pub sum : List ℕ → ℕ
@@ -30,12 +32,12 @@ abbrev pub written : List ℕ → List ℕ → List ℕ
 written bytes lengths = logOf (cut lengths bytes)
 
 -- lengths that do not add up to the bytes given, a file that would be too long, no room: in this order [I12 I13 N4 N10 N15]
-unfoldable pub writeRefusal : List ℕ → List ℕ → List ℕ → Option ℕ
+unfoldable pub writeRefusal : List ℕ → List ℕ → List ℕ → Option Refusal
 writeRefusal bytes lengths out =
     firstFailing
-    ((eqb (sum lengths) (length bytes), 31)
-    ∷ (leb (length (written bytes lengths)) longestFile, 31)
-    ∷ (leb (length (written bytes lengths)) (length out), 13)
+    ((eqb (sum lengths) (length bytes), BadLog)
+    ∷ (leb (length (written bytes lengths)) longestFile, BadLog)
+    ∷ (leb (length (written bytes lengths)) (length out), NoRoom)
     ∷ [])
 
 -- [I11-I13]
@@ -45,12 +47,6 @@ writeAnswer bytes lengths out = answered (writeRefusal bytes lengths out) (lengt
 -- [I11 I14]
 abbrev pub writeOut : List ℕ → List ℕ → List ℕ → List ℕ
 writeOut bytes lengths out = unlessRefused (writeRefusal bytes lengths out) out (overwritten out (written bytes lengths))
-
--- the code's answer in numbers [I12 I13]
-abbrev pub logWrittenAnswer : LogWritten → Answer
-logWrittenAnswer (Count n) = count n
-logWrittenAnswer BadLayout = refused 31
-logWrittenAnswer NoRoom = refused 13
 
 -- what is written is sound [I15]
 abbrev pub WritesSound : Type 0

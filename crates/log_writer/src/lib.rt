@@ -1,4 +1,6 @@
 // Writing a log: header, directory, index, and the segments as they are.
+use answers::Answer;
+use answers::Refusal;
 use log_layout::DIRECTORY;
 use log_layout::INDEX_COUNT;
 use log_layout::LOG_ENTRY;
@@ -12,15 +14,7 @@ ghost use lib.ListN.{length};
 ghost use Rattle.lists.specs.Write.{overwritten, placed};
 ghost use Rattle.log_index.specs.Last.{index};
 ghost use Rattle.log_layout.specs.Log.{laid, numbersOf, segmentsPlace};
-ghost use Rattle.log_writer.specs.Writing.{sum, cut, directoryBy, written, writeAnswer, writeOut, logWrittenAnswer};
-
-pub enum LogWritten {
-    // The bytes of the log.
-    Count(usize),
-    // The lengths do not add up to the bytes given, or the file would be too long.
-    BadLayout,
-    NoRoom,
-}
+ghost use Rattle.log_writer.specs.Writing.{sum, cut, directoryBy, written, writeAnswer, writeOut};
 
 // Whether the lengths add up to `count`. They are taken from it one by one, so that no sum wraps.
 fn adds_up(lengths: &[u32], count: usize) -> bool
@@ -85,24 +79,25 @@ fn put_log(out: &mut [u8], bytes: &[u8], lengths: &[u32])
 // The most segments whose directory a file has room for.
 const MOST_SEGMENTS: usize = 536870782;
 
-// Writes the log of the segments whose bytes are joined in `bytes` and whose lengths are `lengths`. [I11-I14 N15]
-pub fn write(bytes: &[u8], lengths: &[u32], out: &mut [u8]) -> LogWritten
-    ensures { λ r. ⌜ logWrittenAnswer r ≡ writeAnswer (now (bytes .entry)) (now (lengths .entry)) (now (out .entry)) ⌝ }
+// Writes the log of the segments whose bytes are joined in `bytes` and whose lengths are `lengths`. Refused, in this order: lengths
+// that do not add up to the bytes given, a file that would be too long, no room. A refusal writes nothing. [I11-I14 N15]
+pub fn write(bytes: &[u8], lengths: &[u32], out: &mut [u8]) -> Answer
+    ensures { λ r. ⌜ r ≡ writeAnswer (now (bytes .entry)) (now (lengths .entry)) (now (out .entry)) ⌝ }
     ensures { λ _. ⌜ now (out .exit) ≡ writeOut (now (bytes .entry)) (now (lengths .entry)) (now (out .entry)) ⌝ }
 {
     if !adds_up(lengths, bytes.len()) {
-        return LogWritten::BadLayout;
+        return Answer::Refused(Refusal::BadLog);
     }
     if MOST_SEGMENTS < lengths.len() {
-        return LogWritten::BadLayout;
+        return Answer::Refused(Refusal::BadLog);
     }
     let first = LOG_FRONT + LOG_ENTRY * lengths.len();
     if LONGEST_FILE - first < bytes.len() {
-        return LogWritten::BadLayout;
+        return Answer::Refused(Refusal::BadLog);
     }
     if out.len() < first + bytes.len() {
-        return LogWritten::NoRoom;
+        return Answer::Refused(Refusal::NoRoom);
     }
     put_log(out, bytes, lengths);
-    LogWritten::Count(first + bytes.len())
+    Answer::Count(first + bytes.len())
 }

@@ -4,42 +4,22 @@ use device::CarriedOut;
 use device::Replied;
 use device::Response;
 use device_instructions::RegisteredWrite;
-use device_packet::Answered;
 use device_packet::CarriedPacket;
-use device_packet::Exchanged;
 use device_status::Reply;
-use device_status::Written;
-use log::Checked;
 use log::Found;
 use log_salvage::Figures;
 use log_salvage::Salvaged;
-use log_writer::LogWritten;
-use packet_encoder::Encoded;
 use plan_check::Tested;
-use plan_writer::PlanWritten;
 use reader_core::Step;
 use reader_core::StepEvent;
 use reader_plain::Next;
-use stuffing::Unstuffed;
-use table_rules::Change;
 ghost use mathlib.Core.Path.{_≡_};
 ghost use mathlib.Core.Bool.{cond};
-ghost use Rattle.stuffing.specs.Answers.{unstuffedAnswer};
-ghost use Rattle.packet_encoder.specs.Encoding.{encodedAnswer};
-ghost use Rattle.table_rules.specs.Outcomes.{changeRefusal};
-ghost use Rattle.device_status.specs.Sending.{writtenAnswer};
-ghost use Rattle.device.specs.Answers.{repliedAnswer};
-ghost use Rattle.device_packet.specs.Exchange.{exchangedAnswer};
-ghost use Rattle.log_writer.specs.Writing.{logWrittenAnswer};
-ghost use Rattle.log.specs.Soundness.{checkedRefusal};
-ghost use Rattle.log.specs.Question.{foundAnswer};
-ghost use Rattle.log_salvage.specs.Salvage.{salvagedAnswer, wrote};
-ghost use Rattle.plan_writer.specs.Filling.{planWrittenAnswer};
-ghost use Rattle.lists.specs.Answer.{count as Answer·count};
-ghost use Rattle.numbers.specs.Exported.{exported, exportedRefusal, stepNumbers, nextNumbers, deviceNumbers, refusalNumber, carriedNumbers, foundNumbers, salvagedNumbers, testedNumber};
+ghost use Rattle.log_salvage.specs.declared.Salvaged.the-variants.{Written as Salvaged·Written};
+ghost use Rattle.numbers.specs.Exported.{stepNumbers, nextNumbers, deviceNumbers, refusalNumber, carriedNumbers, foundNumbers, salvagedNumbers, testedNumber};
 
 // What a feeding or gap call returns. kind 0: no event, from a gap call: nothing is left; 1: a packet of `count` bytes; 2: a bad
-// checksum; 25: the reader's count is above what can be held. `id` is that of the packet or of the bad checksum.
+// checksum; else the number of a refusal. `id` is that of the packet or of the bad checksum.
 #[repr(C)]
 pub struct StepNumbers {
     pub taken: usize,
@@ -98,46 +78,6 @@ pub struct SalvagedNumbers {
     pub header: u8,
 }
 
-fn count(n: usize) -> i64
-    ensures { λ r. ⌜ r ≡ exported (Answer·count n) ⌝ }
-{
-    if n <= 9223372036854775807 {
-        n as i64
-    } else {
-        9223372036854775807
-    }
-}
-
-pub fn encoded(answer: Encoded) -> i64
-    ensures { λ r. ⌜ r ≡ exported (encodedAnswer answer) ⌝ }
-{
-    match answer {
-        Encoded::Count(n) => count(n),
-        Encoded::BadId => -11,
-        Encoded::TooLong => -12,
-        Encoded::NoRoom => -13,
-    }
-}
-
-pub fn unstuffed(answer: Unstuffed) -> i64
-    ensures { λ r. ⌜ r ≡ exported (unstuffedAnswer answer) ⌝ }
-{
-    match answer {
-        Unstuffed::Count(n) => count(n),
-        Unstuffed::BadStuffing => -14,
-        Unstuffed::NoRoom => -13,
-    }
-}
-
-pub fn change(answer: Change) -> i64
-    ensures { λ r. ⌜ r ≡ exportedRefusal (changeRefusal answer) ⌝ }
-{
-    match answer {
-        Change::Done => 0,
-        Change::NotTable => -21,
-    }
-}
-
 // The packet's bytes are in the caller's buffer.
 pub fn step(answer: Step) -> StepNumbers
     ensures { λ r. ⌜ r ≡ stepNumbers answer ⌝ }
@@ -163,10 +103,10 @@ pub fn step(answer: Step) -> StepNumbers
             kind: 0,
             id: 0,
         },
-        StepEvent::Refused => StepNumbers {
+        StepEvent::Refused(refusal) => StepNumbers {
             taken,
             count: 0,
-            kind: 25,
+            kind: answers::number(refusal),
             id: 0,
         },
     }
@@ -222,66 +162,18 @@ fn moved(registered: RegisteredWrite) -> RegisteredWrite
 }
 
 pub fn response(answer: Response) -> DeviceNumbers
-    ensures { λ r. ⌜ r ≡ deviceNumbers (repliedAnswer (answer .replied)) (answer .registered) ⌝ }
+    ensures { λ r. ⌜ r ≡ deviceNumbers (answer .replied) (answer .registered) ⌝ }
 {
     let registered = moved(answer.registered);
     let replied = answer.replied;
     match replied {
         Replied::Sent(n, slot) => DeviceNumbers {
-            count: count(n),
+            count: answers::exported_count(n),
             slot,
             registered,
         },
-        Replied::NotTable => DeviceNumbers {
-            count: -21,
-            slot: 0,
-            registered,
-        },
-        Replied::BadId => DeviceNumbers {
-            count: -22,
-            slot: 0,
-            registered,
-        },
-        Replied::BadRegistered => DeviceNumbers {
-            count: -23,
-            slot: 0,
-            registered,
-        },
-        Replied::NoRoom => DeviceNumbers {
-            count: -24,
-            slot: 0,
-            registered,
-        },
-        Replied::BadReplyId => DeviceNumbers {
-            count: -11,
-            slot: 0,
-            registered,
-        },
-        Replied::LongReply => DeviceNumbers {
-            count: -12,
-            slot: 0,
-            registered,
-        },
-    }
-}
-
-pub fn answered(answer: Answered) -> DeviceNumbers
-    ensures { λ r. ⌜ r ≡ deviceNumbers (exchangedAnswer (answer .exchanged)) (answer .registered) ⌝ }
-{
-    let registered = answer.registered;
-    let exchanged = answer.exchanged;
-    match exchanged {
-        Exchanged::Device(replied) => response(Response {
-            replied,
-            registered,
-        }),
-        Exchanged::BadStuffing => DeviceNumbers {
-            count: -14,
-            slot: 0,
-            registered,
-        },
-        Exchanged::NoRoom => DeviceNumbers {
-            count: -13,
+        Replied::Refused(refusal) => DeviceNumbers {
+            count: answers::exported_refusal(refusal),
             slot: 0,
             registered,
         },
@@ -290,31 +182,16 @@ pub fn answered(answer: Answered) -> DeviceNumbers
 
 // The refusal alone: 0 where nothing is refused.
 fn replied_refusal(replied: Replied) -> i64
-    ensures { λ r. ⌜ r ≡ refusalNumber (repliedAnswer replied) ⌝ }
+    ensures { λ r. ⌜ r ≡ refusalNumber replied ⌝ }
 {
     match replied {
         Replied::Sent(_, _) => 0,
-        Replied::NotTable => -21,
-        Replied::BadId => -22,
-        Replied::BadRegistered => -23,
-        Replied::NoRoom => -24,
-        Replied::BadReplyId => -11,
-        Replied::LongReply => -12,
-    }
-}
-
-fn exchanged_refusal(exchanged: Exchanged) -> i64
-    ensures { λ r. ⌜ r ≡ refusalNumber (exchangedAnswer exchanged) ⌝ }
-{
-    match exchanged {
-        Exchanged::Device(replied) => replied_refusal(replied),
-        Exchanged::BadStuffing => -14,
-        Exchanged::NoRoom => -13,
+        Replied::Refused(refusal) => answers::exported_refusal(refusal),
     }
 }
 
 pub fn carried(answer: CarriedOut) -> CarriedNumbers
-    ensures { λ r. ⌜ r ≡ carriedNumbers (repliedAnswer (answer .refused)) (answer .reply) (answer .registered) ⌝ }
+    ensures { λ r. ⌜ r ≡ carriedNumbers (answer .refused) (answer .reply) (answer .registered) ⌝ }
 {
     let refused = answer.refused;
     let reply = answer.reply;
@@ -327,51 +204,20 @@ pub fn carried(answer: CarriedOut) -> CarriedNumbers
 }
 
 pub fn carried_packet(answer: CarriedPacket) -> CarriedNumbers
-    ensures { λ r. ⌜ r ≡ carriedNumbers (exchangedAnswer (answer .refused)) (answer .reply) (answer .registered) ⌝ }
+    ensures { λ r. ⌜ r ≡ carriedNumbers (answer .refused) (answer .reply) (answer .registered) ⌝ }
 {
     let refused = answer.refused;
     let reply = answer.reply;
     let registered = answer.registered;
     CarriedNumbers {
-        refusal: exchanged_refusal(refused),
+        refusal: replied_refusal(refused),
         reply,
         registered,
     }
 }
 
-pub fn written(answer: Written) -> i64
-    ensures { λ r. ⌜ r ≡ exported (writtenAnswer answer) ⌝ }
-{
-    match answer {
-        Written::Count(n) => count(n),
-        Written::BadId => -11,
-        Written::TooLong => -12,
-        Written::NoRoom => -24,
-    }
-}
-
-pub fn log_written(answer: LogWritten) -> i64
-    ensures { λ r. ⌜ r ≡ exported (logWrittenAnswer answer) ⌝ }
-{
-    match answer {
-        LogWritten::Count(n) => count(n),
-        LogWritten::BadLayout => -31,
-        LogWritten::NoRoom => -13,
-    }
-}
-
-pub fn checked(answer: Checked) -> i64
-    ensures { λ r. ⌜ r ≡ exportedRefusal (checkedRefusal answer) ⌝ }
-{
-    match answer {
-        Checked::Accepted => 0,
-        Checked::BadLayout => -31,
-        Checked::WrongIndex => -34,
-    }
-}
-
 pub fn found(answer: Found) -> FoundNumbers
-    ensures { λ r. ⌜ r ≡ foundNumbers (foundAnswer answer) ⌝ }
+    ensures { λ r. ⌜ r ≡ foundNumbers answer ⌝ }
 {
     match answer {
         Found::At(segment, offset) => FoundNumbers {
@@ -384,13 +230,8 @@ pub fn found(answer: Found) -> FoundNumbers
             segment: 0,
             offset: 0,
         },
-        Found::BadLayout => FoundNumbers {
-            found: -31,
-            segment: 0,
-            offset: 0,
-        },
-        Found::BadId => FoundNumbers {
-            found: -32,
+        Found::Refused(refusal) => FoundNumbers {
+            found: answers::exported_refusal(refusal),
             segment: 0,
             offset: 0,
         },
@@ -404,10 +245,10 @@ fn flag(set: bool) -> u8
 }
 
 fn figures(f: Figures) -> SalvagedNumbers
-    ensures { λ r. ⌜ r ≡ salvagedNumbers (wrote f) ⌝ }
+    ensures { λ r. ⌜ r ≡ salvagedNumbers (Salvaged·Written f) ⌝ }
 {
     SalvagedNumbers {
-        count: count(f.count),
+        count: answers::exported_count(f.count),
         dropped: f.dropped,
         index: f.index,
         leftover: f.leftover,
@@ -416,35 +257,17 @@ fn figures(f: Figures) -> SalvagedNumbers
 }
 
 pub fn salvaged(answer: Salvaged) -> SalvagedNumbers
-    ensures { λ r. ⌜ r ≡ salvagedNumbers (salvagedAnswer answer) ⌝ }
+    ensures { λ r. ⌜ r ≡ salvagedNumbers answer ⌝ }
 {
     match answer {
         Salvaged::Written(f) => figures(f),
-        Salvaged::BadSize => SalvagedNumbers {
-            count: -33,
+        Salvaged::Refused(refusal) => SalvagedNumbers {
+            count: answers::exported_refusal(refusal),
             dropped: 0,
             index: 0,
             leftover: 0,
             header: 0,
         },
-        Salvaged::NoRoom => SalvagedNumbers {
-            count: -13,
-            dropped: 0,
-            index: 0,
-            leftover: 0,
-            header: 0,
-        },
-    }
-}
-
-pub fn plan_written(answer: PlanWritten) -> i64
-    ensures { λ r. ⌜ r ≡ exported (planWrittenAnswer answer) ⌝ }
-{
-    match answer {
-        PlanWritten::Count(n) => count(n),
-        PlanWritten::BadCount => -41,
-        PlanWritten::BadGoal => -42,
-        PlanWritten::NoRoom => -13,
     }
 }
 
@@ -454,7 +277,6 @@ pub fn tested(answer: Tested) -> i64
     match answer {
         Tested::Accepted => 1,
         Tested::NotPlan => 0,
-        Tested::BadCount => -41,
-        Tested::BadGoal => -42,
+        Tested::Refused(refusal) => answers::exported_refusal(refusal),
     }
 }

@@ -1,11 +1,11 @@
 // Reading one packet of Protocol 2.0: the verdict on all its bytes, and the body as a part of them.
+use answers::Answer;
 use packet_rules::Judgement;
 use stuffing::Checked;
-use stuffing::Unstuffed;
 ghost use mathlib.Core.Path.{_≡_};
 ghost use mathlib.Core.List.{_++_};
 ghost use Rattle.crc.specs.Crc.{crcFrom};
-ghost use Rattle.stuffing.specs.Answers.{unstuffedAnswer, removalAnswer, removalOut};
+ghost use Rattle.stuffing.specs.Answers.{removalAnswer, removalOut};
 ghost use Rattle.packet_front.specs.Front.{header};
 ghost use Rattle.packet.specs.Packet.{bodyOf};
 ghost use Rattle.packet.specs.Verdict.{wholeAnswer};
@@ -22,8 +22,8 @@ pub fn body(packet: &[u8]) -> &[u8]
 }
 
 // Writes the packet's body without its stuffing to the start of out; refused as `unstuff_into` is. [N3 N4 S7]
-pub fn unstuff(packet: &[u8], out: &mut [u8]) -> Unstuffed
-    ensures { λ r. ⌜ unstuffedAnswer r ≡ removalAnswer (bodyOf (now (packet .entry))) (now (out .entry)) ⌝ }
+pub fn unstuff(packet: &[u8], out: &mut [u8]) -> Answer
+    ensures { λ r. ⌜ r ≡ removalAnswer (bodyOf (now (packet .entry))) (now (out .entry)) ⌝ }
     ensures { λ _. ⌜ now (out .exit) ≡ removalOut (bodyOf (now (packet .entry))) (now (out .entry)) ⌝ }
 {
     stuffing::unstuff_into(body(packet), out)

@@ -4,28 +4,23 @@ use mathlib.Core.Option.{Option}
 use Prim.Native.Nat.{ℕ, _+_}
 use lib.Dec.{leb}
 use lib.ListN.{length}
-use Rattle.lists.specs.Answer.{Answer, count, refused, firstFailing, answered, unlessRefused}
+use Rattle.answers.specs.Refusals.{firstFailing, unlessRefused}
+use Rattle.answers.specs.Answers.{answered}
+use Rattle.answers.specs.declared.Refusal.{Refusal}
+use Rattle.answers.specs.declared.Refusal.the-variants.{BadId, TooLong, NoRoom}
+use Rattle.answers.specs.declared.Answer.{Answer}
 use Rattle.lists.specs.Write.{placed}
 use Rattle.stuffing.specs.Stuffing.{stuff}
 use Rattle.packet_front.specs.Front.{goodId}
 use Rattle.packet_encoder.specs.Writing.{packetOf}
-use Rattle.packet_encoder.specs.declared.Encoded.{Encoded}
-use Rattle.packet_encoder.specs.declared.Encoded.the-variants.{Count, BadId, TooLong, NoRoom}
-
--- the refusal numbers of the encoder [E3 E5 K5 N1 N2]
-abbrev pub encodedAnswer : Encoded → Answer
-encodedAnswer (Count n) = count n
-encodedAnswer BadId = refused 11
-encodedAnswer TooLong = refused 12
-encodedAnswer NoRoom = refused 13
 
 -- the first refusal that applies: the ID, then a length field that would pass 1,024, then no room from `at` on
 -- [E5-E8 N1 N2 N4 N10 P5]
-unfoldable pub encodeRefusal : ℕ → List ℕ → List ℕ → ℕ → Option ℕ
+unfoldable pub encodeRefusal : ℕ → List ℕ → List ℕ → ℕ → Option Refusal
 encodeRefusal id body out at =
-    firstFailing ((goodId id, 11)
-    ∷ (leb (length (stuff body) + 2) 1024, 12)
-    ∷ (leb (at + length (packetOf id body)) (length out), 13)
+    firstFailing ((goodId id, BadId)
+    ∷ (leb (length (stuff body) + 2) 1024, TooLong)
+    ∷ (leb (at + length (packetOf id body)) (length out), NoRoom)
     ∷ [])
 
 -- [E1 E3]

@@ -1,4 +1,6 @@
 // The encoder of Protocol 2.0: writes the packet of an ID, an instruction and parameters into the caller's buffer.
+use answers::Answer;
+use answers::Refusal;
 use stuffing_writer::Length;
 ghost use mathlib.Core.Path.{_≡_};
 ghost use mathlib.Core.List.{_∷_};
@@ -8,15 +10,7 @@ ghost use Rattle.lists.specs.Write.{overwritten};
 ghost use Rattle.stuffing.specs.Stuffing.{stuff};
 ghost use Rattle.packet_front.specs.Front.{header};
 ghost use Rattle.packet_encoder.specs.Writing.{front, withChecksum, packetOf};
-ghost use Rattle.packet_encoder.specs.Encoding.{encodedAnswer, encodeAnswer, encodeOut};
-
-// The packet's byte count, or a refusal.
-pub enum Encoded {
-    Count(usize),
-    BadId,
-    TooLong,
-    NoRoom,
-}
+ghost use Rattle.packet_encoder.specs.Encoding.{encodeAnswer, encodeOut};
 
 // Writes header, ID and length field, for a stuffed body of n bytes, to the start of out.
 fn write_front(id: u8, n: usize, out: &mut [u8])
@@ -68,22 +62,22 @@ fn write_packet(id: u8, instruction: u8, params: &[u8], n: usize, out: &mut [u8]
 // Writes the packet with this ID, instruction and parameters to out from `at` on. Refused, in this order: an ID that is not
 // allowed, a length field past 1,024, no room from `at` on (`at` may lie past the end). A refusal writes nothing.
 // [C4 N1 N2 N4 N10-N12 N14 P1-P9 S2]
-pub fn encode(id: u8, instruction: u8, params: &[u8], out: &mut [u8], at: usize) -> Encoded
-    ensures { λ r. ⌜ encodedAnswer r ≡ encodeAnswer id (instruction ∷ now (params .entry)) (now (out .entry)) at ⌝ }
+pub fn encode(id: u8, instruction: u8, params: &[u8], out: &mut [u8], at: usize) -> Answer
+    ensures { λ r. ⌜ r ≡ encodeAnswer id (instruction ∷ now (params .entry)) (now (out .entry)) at ⌝ }
     ensures { λ _. ⌜ now (out .exit) ≡ encodeOut id (instruction ∷ now (params .entry)) (now (out .entry)) at ⌝ }
 {
     if !packet_front::good_id(id) {
-        return Encoded::BadId;
+        return Answer::Refused(Refusal::BadId);
     }
     let Length::Within(n) = stuffing_writer::stuffed_len(instruction, params, 1022) else {
-        return Encoded::TooLong;
+        return Answer::Refused(Refusal::TooLong);
     };
     if out.len() < at {
-        return Encoded::NoRoom;
+        return Answer::Refused(Refusal::NoRoom);
     }
     if out.len() - at < n + 9 {
-        return Encoded::NoRoom;
+        return Answer::Refused(Refusal::NoRoom);
     }
     write_packet(id, instruction, params, n, &mut out[at..]);
-    Encoded::Count(n + 9)
+    Answer::Count(n + 9)
 }

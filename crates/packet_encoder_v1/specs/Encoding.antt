@@ -6,17 +6,21 @@ use mathlib.Core.Option.{Option}
 use Prim.Native.Nat.{ℕ, _+_}
 use lib.Dec.{leb}
 use lib.ListN.{length}
-use Rattle.lists.specs.Answer.{Answer, firstFailing, answered, unlessRefused}
+use Rattle.answers.specs.Refusals.{firstFailing, unlessRefused}
+use Rattle.answers.specs.Answers.{answered}
+use Rattle.answers.specs.declared.Refusal.{Refusal}
+use Rattle.answers.specs.declared.Refusal.the-variants.{BadId, TooLong, NoRoom}
+use Rattle.answers.specs.declared.Answer.{Answer}
 use Rattle.lists.specs.Write.{placed}
 use Rattle.packet_encoder_v1.specs.Writing.{packetOf}
 
 module _ (good : ℕ → Bool) where
   -- the first refusal that applies: the ID, then a length that would pass 255, then no room from `at` on [N1 N2 N4 N10 O9 O10]
-  unfoldable pub encodeRefusal : ℕ → List ℕ → List ℕ → ℕ → Option ℕ
+  unfoldable pub encodeRefusal : ℕ → List ℕ → List ℕ → ℕ → Option Refusal
   encodeRefusal id body out at =
-      firstFailing ((good id, 11)
-      ∷ (leb (length body + 1) 255, 12)
-      ∷ (leb (at + length (packetOf id body)) (length out), 13)
+      firstFailing ((good id, BadId)
+      ∷ (leb (length body + 1) 255, TooLong)
+      ∷ (leb (at + length (packetOf id body)) (length out), NoRoom)
       ∷ [])
 
   -- [O9]

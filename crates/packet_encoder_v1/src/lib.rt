@@ -1,12 +1,12 @@
 // The encoder of Protocol 1.0 and Mercury: writes the packet of an ID, an instruction or error byte and parameters into the
 // caller's buffer.
-use packet_encoder::Encoded;
+use answers::Answer;
+use answers::Refusal;
 ghost use mathlib.Core.Path.{_≡_};
 ghost use mathlib.Core.List.{[], _∷_};
 ghost use Prim.Native.Nat.{_+_, _≤_};
 ghost use lib.ListN.{length};
 ghost use Rattle.lists.specs.Write.{overwritten};
-ghost use Rattle.packet_encoder.specs.Encoding.{encodedAnswer};
 ghost use Rattle.packet_v1.specs.Packet.{upTo, checksumOf};
 ghost use Rattle.packet_encoder_v1.specs.Writing.{packetOf};
 ghost use Rattle.packet_encoder_v1.specs.Encoding.{encodeAnswer, encodeOut};
@@ -45,30 +45,23 @@ fn write_packet(id: u8, instruction: u8, params: &[u8], out: &mut [u8])
 // Writes the packet with this ID, instruction or error byte and parameters to out from `at` on; the IDs of devices end with
 // `last`. Refused, in this order: an ID that is not allowed, a length past 255, no room from `at` on (`at` may lie past the end).
 // A refusal writes nothing. [N1 N2 N4 N10-N12 N14 O1-O5]
-pub fn encode(
-    last: u8,
-    id: u8,
-    instruction: u8,
-    params: &[u8],
-    out: &mut [u8],
-    at: usize,
-) -> Encoded
-    ensures { λ r. ⌜ encodedAnswer r ≡ encodeAnswer (upTo last) id (instruction ∷ now (params .entry)) (now (out .entry)) at ⌝ }
+pub fn encode(last: u8, id: u8, instruction: u8, params: &[u8], out: &mut [u8], at: usize) -> Answer
+    ensures { λ r. ⌜ r ≡ encodeAnswer (upTo last) id (instruction ∷ now (params .entry)) (now (out .entry)) at ⌝ }
     ensures { λ _. ⌜ now (out .exit) ≡ encodeOut (upTo last) id (instruction ∷ now (params .entry)) (now (out .entry)) at ⌝ }
 {
     if !packet_v1::good_id(last, id) {
-        return Encoded::BadId;
+        return Answer::Refused(Refusal::BadId);
     }
     let n = params.len();
     if 253 < n {
-        return Encoded::TooLong;
+        return Answer::Refused(Refusal::TooLong);
     }
     if out.len() < at {
-        return Encoded::NoRoom;
+        return Answer::Refused(Refusal::NoRoom);
     }
     if out.len() - at < n + 6 {
-        return Encoded::NoRoom;
+        return Answer::Refused(Refusal::NoRoom);
     }
     write_packet(id, instruction, params, &mut out[at..]);
-    Encoded::Count(n + 6)
+    Answer::Count(n + 6)
 }

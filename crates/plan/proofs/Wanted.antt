@@ -1,15 +1,17 @@
 -- Laws of the wanted goals.
-use mathlib.Core.Path.{_≡_, refl, sym, _∙_}
-use mathlib.Core.Bool.{Bool, true, false, _&&_}
+use mathlib.Core.Path.{_≡_, refl}
+use mathlib.Core.Bool.{true, _&&_}
 use mathlib.Core.List.{List, [], _∷_}
-use mathlib.Core.Option.{Option, none, some}
+use mathlib.Core.Option.{none}
 use Prim.Native.Nat.{ℕ, zero, suc, _≤_, _<_}
 use native.Mathlib.Omega.{arith}
 use lib.Dec.{eqb}
 use lib.IntN.{ℤ}
 use lib.ListN.{length, drop, getD, drop-of-length-le}
 use lib.Seq.{drop-cons}
-use borrow.Author.Tests.{eqb-true, eq-eqb}
+use borrow.Author.Tests.{eqb-true}
+use Rattle.answers.specs.declared.Refusal.the-variants.{NotGoals, BadGoal}
+use Rattle.answers.proofs.Laws.{passed}
 use Rattle.lists.proofs.Bools.{and-left, and-right}
 use Rattle.plan.specs.Goals.{unwanted, goalWithin, goalsWithin, goalsRefusal}
 
@@ -30,23 +32,11 @@ goal-there (g ∷ goals) (suc id) d e h = goal-there goals id d e (omega arith)
 
 pub goals-counted : (goals : List ℤ) → goalsRefusal goals ≡ none → length goals ≡ 253
 unfolding goalsRefusal
-goals-counted goals e = by-count (eqb (length goals) 253) refl
-  where
-    by-count : (b : Bool) → eqb (length goals) 253 ≡ b → length goals ≡ 253
-    by-count true t = eqb-true (length goals) 253 t
-    by-count false t = let z : _≡_ {A = Option ℕ} (some 41) none = sym (rw t) ∙ e in let y : _≡_ {A = ℕ} 0 1 = cc in absurd (omega arith)
+goals-counted goals e = eqb-true (length goals) 253 (passed (eqb (length goals) 253) NotGoals _ e .0)
 
 pub goals-within : (goals : List ℤ) → goalsRefusal goals ≡ none → goalsWithin goals ≡ true
 unfolding goalsRefusal
-goals-within goals e = by-goals (goalsWithin goals) refl
-  where
-    by-goals : (b : Bool) → goalsWithin goals ≡ b → b ≡ true
-    by-goals true t = refl
-    by-goals false t =
-        let n = goals-counted goals e in
-        let z : _≡_ {A = Option ℕ} (some 42) none = sym (rw (eq-eqb (length goals) 253 n, t)) ∙ e in
-        let y : _≡_ {A = ℕ} 0 1 = cc in
-        absurd (omega arith)
+goals-within goals e = passed (goalsWithin goals) BadGoal none (passed (eqb (length goals) 253) NotGoals _ e .1) .0
 
 -- any number of the list; past it none is wanted
 pub within-at : (goals : List ℤ) (id : ℕ) → goalsWithin goals ≡ true → goalWithin (getD goals id unwanted) ≡ true

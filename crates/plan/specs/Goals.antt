@@ -1,15 +1,15 @@
 -- The wanted goals: 253 signed numbers, one for each ID, in which -1 says that none is wanted.
 use mathlib.Core.Bool.{Bool, true, _&&_}
 use mathlib.Core.List.{List, [], _∷_}
-use mathlib.Core.Option.{Option, none, some}
+use mathlib.Core.Option.{Option}
 use Prim.Native.Nat.{ℕ}
 use lib.Dec.{eqb}
 use lib.IntN.{ℤ, pos, negsuc}
 use lib.ListN.{length, getD}
 use lib.Signed.{leZ}
-use Rattle.lists.specs.Answer.{firstFailing}
-use Rattle.plan.specs.declared.Goals.{Goals}
-use Rattle.plan.specs.declared.Goals.the-variants.{Good, BadCount, BadGoal}
+use Rattle.answers.specs.Refusals.{firstFailing}
+use Rattle.answers.specs.declared.Refusal.{Refusal}
+use Rattle.answers.specs.declared.Refusal.the-variants.{NotGoals, BadGoal}
 
 -- -1 [W1]
 abbrev pub unwanted : ℤ
@@ -33,11 +33,5 @@ goalsWithin [] = true
 goalsWithin (g ∷ gs) = goalWithin g && goalsWithin gs
 
 -- [N19 N20 W2]
-unfoldable pub goalsRefusal : List ℤ → Option ℕ
-goalsRefusal goals = firstFailing ((eqb (length goals) 253, 41) ∷ (goalsWithin goals, 42) ∷ [])
-
--- [K5 W2]
-abbrev pub goalsAnswer : Goals → Option ℕ
-goalsAnswer Good = none
-goalsAnswer BadCount = some 41
-goalsAnswer BadGoal = some 42
+unfoldable pub goalsRefusal : List ℤ → Option Refusal
+goalsRefusal goals = firstFailing ((eqb (length goals) 253, NotGoals) ∷ (goalsWithin goals, BadGoal) ∷ [])

@@ -1,11 +1,15 @@
 -- Our planner's plan: IDs rising, 203 devices to each packet but the last.
 use mathlib.Core.List.{List, [], _∷_, _++_}
-use mathlib.Core.Option.{Option, none, some}
+use mathlib.Core.Option.{Option}
 use Prim.Native.Nat.{ℕ, zero, suc}
 use lib.Dec.{leb}
 use lib.IntN.{ℤ, pos, negsuc}
 use lib.ListN.{length, take, drop}
-use Rattle.lists.specs.Answer.{Answer, firstFailing, answered, unlessRefused}
+use Rattle.answers.specs.Refusals.{firstFailing, orElse, unlessRefused}
+use Rattle.answers.specs.Answers.{answered}
+use Rattle.answers.specs.declared.Refusal.{Refusal}
+use Rattle.answers.specs.declared.Refusal.the-variants.{NoRoom}
+use Rattle.answers.specs.declared.Answer.{Answer}
 use Rattle.lists.specs.Numbers.{bytesOf}
 use Rattle.lists.specs.Write.{overwritten}
 use Rattle.reading.specs.Promise.{joined}
@@ -51,13 +55,9 @@ planPackets goals = packetsOf (entriesFrom goals 0)
 abbrev pub planOf : List ℤ → List ℕ
 planOf goals = joined (planPackets goals)
 
-abbrev pub orElse : Option ℕ → Option ℕ → Option ℕ
-orElse none second = second
-orElse (some number) second = some number
-
 -- 41 and 42 by the goals, then no room [N4 W2]
-unfoldable pub planRefusal : List ℤ → List ℕ → Option ℕ
-planRefusal goals out = orElse (goalsRefusal goals) (firstFailing ((leb (length (planOf goals)) (length out), 13) ∷ []))
+unfoldable pub planRefusal : List ℤ → List ℕ → Option Refusal
+planRefusal goals out = orElse (goalsRefusal goals) (firstFailing ((leb (length (planOf goals)) (length out), NoRoom) ∷ []))
 
 -- the plan's byte count, or a refusal [W7]
 abbrev pub planAnswer : List ℤ → List ℕ → Answer

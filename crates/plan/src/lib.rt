@@ -1,13 +1,9 @@
 // The wanted goals of a plan: one signed number for each ID, -1 for none. What a plan is stands in specs/.
+use answers::Answer;
+use answers::Refusal;
 ghost use mathlib.Core.Path.{_≡_};
-ghost use Rattle.plan.specs.Goals.{goalsWithin, goalsRefusal, goalsAnswer};
-
-// Whether the goals are 253 numbers, and each of them -1 or a goal.
-pub enum Goals {
-    Good,
-    BadCount,
-    BadGoal,
-}
+ghost use Rattle.answers.specs.Answers.{answered};
+ghost use Rattle.plan.specs.Goals.{goalsWithin, goalsRefusal};
 
 // IDs are 0 to 252.
 pub const IDS: usize = 253;
@@ -36,14 +32,14 @@ fn goals_within(goals: &[i32]) -> bool
 }
 
 // The refusals that the planner and the test of plans share, in this order. [W2]
-pub fn test_goals(goals: &[i32]) -> Goals
-    ensures { λ r. ⌜ goalsAnswer r ≡ goalsRefusal (now (goals .entry)) ⌝ }
+pub fn test_goals(goals: &[i32]) -> Answer
+    ensures { λ r. ⌜ r ≡ answered (goalsRefusal (now (goals .entry))) 0 ⌝ }
 {
     if goals.len() != IDS {
-        return Goals::BadCount;
+        return Answer::Refused(Refusal::NotGoals);
     }
     if !goals_within(goals) {
-        return Goals::BadGoal;
+        return Answer::Refused(Refusal::BadGoal);
     }
-    Goals::Good
+    Answer::Count(0)
 }

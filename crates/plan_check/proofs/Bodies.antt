@@ -8,13 +8,13 @@ use native.Mathlib.Omega.{arith}
 use lib.IntN.{ℤ}
 use lib.ListN.{length, take, drop, length-append}
 use borrow.Author.Tests.{le-leb}
-use Rattle.lists.specs.Answer.{count}
+use Rattle.answers.specs.declared.Refusal.{Refusal}
+use Rattle.answers.specs.declared.Answer.{Answer}
+use Rattle.answers.specs.declared.Answer.the-variants.{Count, Refused}
 use Rattle.lists.specs.Write.{overwritten}
 use Rattle.lists.proofs.Write.{overwritten-take}
 use Rattle.stuffing.specs.Stuffing.{unstuff}
-use Rattle.stuffing.specs.Answers.{unstuffedAnswer, removalRefusal, removalAnswer, removalOut}
-use Rattle.stuffing.specs.declared.Unstuffed.{Unstuffed}
-use Rattle.stuffing.specs.declared.Unstuffed.the-variants.{Count, BadStuffing, NoRoom}
+use Rattle.stuffing.specs.Answers.{removalRefusal, removalAnswer, removalOut}
 use Rattle.packet_front.specs.Front.{idOf}
 use Rattle.packet.specs.Packet.{bodyOf, WellFormed}
 use Rattle.plan.proofs.Packets.{packet-body-fits}
@@ -37,16 +37,14 @@ module _ (w buffer : List ℕ) (f : WellFormed w) (room : length buffer ≡ 1022
       let b = packet-body-fits w f in
       rw (f .stuffed, le-leb (length (unstuff (bodyOf w))) (length buffer) (omega arith))
 
-  answer-is : (r : Unstuffed) → unstuffedAnswer r ≡ count (length (unstuff (bodyOf w))) → r ≡ Count (length (unstuff (bodyOf w)))
-  answer-is (Count n) e = cc
-  answer-is BadStuffing e = let z : _≡_ {A = ℕ} 0 1 = cc in absurd (omega arith)
-  answer-is NoRoom e = let z : _≡_ {A = ℕ} 0 1 = cc in absurd (omega arith)
+  counts : (r : Answer) → r ≡ removalAnswer (bodyOf w) buffer → r ≡ Count (length (unstuff (bodyOf w)))
+  counts r e = e ∙ rw fits
 
-  pub counts : (r : Unstuffed) → unstuffedAnswer r ≡ removalAnswer (bodyOf w) buffer → r ≡ Count (length (unstuff (bodyOf w)))
-  counts r e = answer-is r (e ∙ rw fits)
+  pub never-refused : (r : Answer) → r ≡ removalAnswer (bodyOf w) buffer → (refusal : Refusal) → ¬ (r ≡ Refused refusal)
+  never-refused r e refusal q = let h = counts r e in let z : _≡_ {A = ℕ} 0 1 = cc in absurd (omega arith)
 
   -- the bytes that were counted are the body
-  pub body-taken : (r : Unstuffed) (n : ℕ) (out : List ℕ) → unstuffedAnswer r ≡ removalAnswer (bodyOf w) buffer → r ≡ Count n
+  pub body-taken : (r : Answer) (n : ℕ) (out : List ℕ) → r ≡ removalAnswer (bodyOf w) buffer → r ≡ Count n
       → out ≡ removalOut (bodyOf w) buffer → (n ≤ length out) × (take n out ≡ unstuff (bodyOf w))
   body-taken r n out e c o =
       let k : n ≡ length (unstuff (bodyOf w)) = cc (counts r e) in

@@ -8,7 +8,7 @@ use lib.IntN.{ℤ}
 use Rattle.plan.specs.Goals.{goalsRefusal}
 use Rattle.plan.specs.Plan.{Plan}
 use Rattle.plan_check.specs.declared.Tested.{Tested}
-use Rattle.plan_check.specs.declared.Tested.the-variants.{Accepted, NotPlan, BadCount, BadGoal}
+use Rattle.plan_check.specs.declared.Tested.the-variants.{Accepted, NotPlan, Refused}
 
 -- a test that says true where the statement holds, and false where it does not
 abbrev pub Decides : Bool → Type 0 → Type 0
@@ -19,5 +19,4 @@ Decides false P = ¬ P
 abbrev pub TestSays : List ℤ → List ℕ → Tested → Type 0
 TestSays goals bytes Accepted = (goalsRefusal goals ≡ none) × Plan goals bytes
 TestSays goals bytes NotPlan = (goalsRefusal goals ≡ none) × (¬ Plan goals bytes)
-TestSays goals bytes BadCount = goalsRefusal goals ≡ some 41
-TestSays goals bytes BadGoal = goalsRefusal goals ≡ some 42
+TestSays goals bytes (Refused refusal) = goalsRefusal goals ≡ some refusal

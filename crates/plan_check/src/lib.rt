@@ -1,11 +1,10 @@
 // The test of a plan: whether bytes are Sync Writes end to end that set the wanted goals, each once, and nothing else.
+use answers::Answer;
+use answers::Refusal;
 use device_parameters::Found;
 use packet_protocols::Protocol;
 use packet_rules::Judgement;
-use plan::Goals;
-use stuffing::Unstuffed;
 ghost use mathlib.Core.Path.{_≡_};
-ghost use mathlib.Core.Option.{none};
 ghost use Prim.Native.Nat.{ℕ, _+_, _≤_, _<_};
 ghost use lib.ListN.{length, take, getD};
 ghost use Rattle.lists.specs.Numbers.{numberAt};
@@ -24,8 +23,7 @@ const ENTRY: usize = 5;
 pub enum Tested {
     Accepted,
     NotPlan,
-    BadCount,
-    BadGoal,
+    Refused(Refusal),
 }
 
 // The four bytes of a goal.
@@ -130,7 +128,7 @@ fn mark_packet(goals: &[i32], packet: &[u8], stood: &mut [u8]) -> bool
         return false;
     }
     let mut buffer = [0u8; 1022];
-    let Unstuffed::Count(n) = packet::unstuff(packet, &mut buffer) else {
+    let Answer::Count(n) = packet::unstuff(packet, &mut buffer) else {
         return false;
     };
     let body: &[u8] = &buffer;
@@ -178,9 +176,8 @@ pub fn check(goals: &[i32], plan: &[u8]) -> Tested
     ensures { λ r. ⌜ TestSays (now (goals .entry)) (now (plan .entry)) r ⌝ }
 {
     match plan::test_goals(goals) {
-        Goals::BadCount => Tested::BadCount,
-        Goals::BadGoal => Tested::BadGoal,
-        Goals::Good => {
+        Answer::Refused(refusal) => Tested::Refused(refusal),
+        Answer::Count(_) => {
             if is_plan(goals, plan) {
                 Tested::Accepted
             } else {

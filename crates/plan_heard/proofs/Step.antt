@@ -6,7 +6,7 @@ use Prim.Native.Nat.{ℕ, _+_, _≤_}
 use native.Mathlib.Omega.{arith}
 use lib.ListN.{length, take, drop, length-append, length-take, length-drop, take-append-drop}
 use borrow.Author.Tests.{le-leb, ne-eqb}
-use Rattle.lists.specs.Answer.{firstFailing, unlessRefused}
+use Rattle.answers.specs.Refusals.{firstFailing, unlessRefused}
 use Rattle.lists.specs.Numbers.{numberAt}
 use Rattle.lists.specs.Write.{overwritten}
 use Rattle.lists.proofs.Numbers.{part-number}
@@ -131,11 +131,11 @@ module _ (w : List ℕ) (g : GoalWrite w) where
         pub four : length bytes ≡ 4
         pub are : numberAt bytes 0 4 ≡ goal
         pub left : hears form d (packet w)
-            ≡ changed d (unlessRefused (firstFailing ((admits (d .table) goal, 0x06) ∷ [])) (d .table) (stored (d .table) 116 bytes)) w
+            ≡ changed d (unlessRefused (firstFailing {R = ℕ} ((admits (d .table) goal, 0x06) ∷ [])) (d .table) (stored (d .table) 116 bytes)) w
 
       written : (bytes : List ℕ) (goal : ℕ) → length bytes ≡ 4 → numberAt bytes 0 4 ≡ goal → goal ≤ 4095
           → write (d .table) (d .registered) 116 bytes .table
-          ≡ unlessRefused (firstFailing ((admits (d .table) goal, 0x06) ∷ [])) (d .table) (stored (d .table) 116 bytes)
+          ≡ unlessRefused (firstFailing {R = ℕ} ((admits (d .table) goal, 0x06) ∷ [])) (d .table) (stored (d .table) 116 bytes)
       unfolding write
       written bytes goal four are low =
           ap (λ (r : Option ℕ). unlessRefused r (d .table) (stored (d .table) 116 bytes)) (rule-is (d .table) bytes goal (fit .sized) four are low)

@@ -8,7 +8,7 @@ use lib.Dec.{eqb, ltb}
 use lib.IntN.{pos}
 use lib.ListN.{length, getD}
 use borrow.Author.Tests.{lt-ltb, le-leb}
-use Rattle.lists.specs.Answer.{firstFailing}
+use Rattle.answers.specs.Refusals.{firstFailing}
 use Rattle.lists.specs.Numbers.{numberAt}
 use Rattle.table_registers.specs.Registers.{registers, permitsBy, everyByte, tableSize, torqueEnable, minPosition, maxPosition, goalPosition}
 use Rattle.table_items.specs.Items.{valueOf, valueInRange}
@@ -32,14 +32,14 @@ covered = refl
 
 -- the stages of the write rule for four bytes there
 stages : (table new : List ℕ) (n : ℕ) (b : Bool) → n ≡ 4 → everyTouched 116 4 (valueInRange new) registers ≡ true → limitsKept 116 4 new ≡ b
-    → firstFailing
+    → firstFailing {R = ℕ}
     ((ltb 0 n, 0x05)
     ∷ (everyByte (leastToWrite table) 116 n, 0x07)
     ∷ (everyTouched 116 n (covers 116 n) registers, 0x05)
     ∷ (everyTouched 116 n (valueInRange new) registers, 0x04)
     ∷ (limitsKept 116 n new, 0x06)
     ∷ [])
-    ≡ firstFailing ((b, 0x06) ∷ [])
+    ≡ firstFailing {R = ℕ} ((b, 0x06) ∷ [])
 stages table new n b e ranges limits = rw (e, permitted table, covered, ranges, limits)
 
 module _ (table bytes : List ℕ) (goal : ℕ) (sized : length table ≡ tableSize) (four : length bytes ≡ 4) (is : numberAt bytes 0 4 ≡ goal)
@@ -70,6 +70,6 @@ module _ (table bytes : List ℕ) (goal : ℕ) (sized : length table ≡ tableSi
   unfolding limitsKept
   limits-are = inside-is
 
-  pub rule-is : writeRule table 116 bytes ≡ firstFailing ((admits table goal, 0x06) ∷ [])
+  pub rule-is : writeRule table 116 bytes ≡ firstFailing {R = ℕ} ((admits table goal, 0x06) ∷ [])
   unfolding writeRule
   rule-is = stages table (stored table 116 bytes) (length bytes) (admits table goal) four in-range limits-are

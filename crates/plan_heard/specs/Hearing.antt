@@ -1,7 +1,7 @@
 -- A device with its buffers, and what it is after the events that it is handed.
 use mathlib.Core.List.{List, [], _∷_}
 use Prim.Native.Nat.{ℕ}
-use Rattle.lists.specs.Answer.{unlessRefused}
+use Rattle.answers.specs.Refusals.{unlessRefused}
 use Rattle.stuffing.specs.Stuffing.{unstuff}
 use Rattle.stuffing.specs.Answers.{removalRefusal, removalOut}
 use Rattle.reading.specs.Reading.{Event, packet, badChecksum}

@@ -8,6 +8,7 @@ use Prim.Native.Nat.{ℕ, _≤_, _<_}
 use lib.IntN.{ℤ, pos}
 use lib.ListN.{length, getD}
 use lib.Signed.{leZ}
+use Rattle.answers.specs.declared.Refusal.{Refusal}
 use Rattle.stuffing.specs.Stuffing.{unstuff}
 use Rattle.reading.specs.Calls.{Call}
 use Rattle.reading.specs.Lists.{model, after, took, given}
@@ -31,7 +32,7 @@ abbrev pub admits : List ℕ → ℕ → Bool
 admits table goal = leZ (valueOf minPosition table) (pos goal) && leZ (pos goal) (valueOf maxPosition table)
 
 -- the device's own test of faults: 21 to 23, and in the one call 24
-abbrev pub faultOf : Form → Device → Option ℕ
+abbrev pub faultOf : Form → Device → Option Refusal
 faultOf inTwo d = stateRefusal (d .table) (d .registered)
 faultOf unstuffed d = stateRefusal (d .table) (d .registered)
 faultOf inOne d = callRefusal (d .table) (d .registered) (d .reply)

@@ -1,5 +1,6 @@
 // Our planner: writes the wanted goals as Sync Writes, IDs rising, as many devices to a packet as fit.
-use plan::Goals;
+use answers::Answer;
+use answers::Refusal;
 ghost use mathlib.Core.Path.{_≡_};
 ghost use mathlib.Core.List.{[], _∷_, _++_};
 ghost use Prim.Native.Nat.{_+_, _*_, _/_, _≤_, _<_, min};
@@ -8,15 +9,7 @@ ghost use Rattle.lists.specs.Write.{overwritten, placed};
 ghost use Rattle.table_items.specs.Items.{unsigned};
 ghost use Rattle.plan.specs.Planner.{entriesFrom, entryBytes, listBytes, goalPacket, packetsOf, planOf, planAnswer, planOut};
 ghost use Rattle.plan.proofs.Packets.{Rising};
-ghost use Rattle.plan_writer.specs.Filling.{planWrittenAnswer, entriesAt};
-
-// The plan's byte count, or a refusal.
-pub enum PlanWritten {
-    Count(usize),
-    BadCount,
-    BadGoal,
-    NoRoom,
-}
+ghost use Rattle.plan_writer.specs.Filling.{entriesAt};
 
 // The most entries that a packet holds: 5 bytes each behind instruction, address and length, in a body of 1,022.
 const MOST: usize = 203;
@@ -132,24 +125,19 @@ fn write_packets(goals: &[i32], n: usize, out: &mut [u8])
 
 // Writes the plan of the wanted goals to the start of out. Refused, in this order: a list that is not 253 long, a number below -1 or
 // above 4,095, no room. A refusal writes nothing. [N4 N12 N14 W1 W2 W6 W7]
-pub fn write_plan(goals: &[i32], out: &mut [u8]) -> PlanWritten
-    ensures { λ r. ⌜ planWrittenAnswer r ≡ planAnswer (now (goals .entry)) (now (out .entry)) ⌝ }
+pub fn write_plan(goals: &[i32], out: &mut [u8]) -> Answer
+    ensures { λ r. ⌜ r ≡ planAnswer (now (goals .entry)) (now (out .entry)) ⌝ }
     ensures { λ _. ⌜ now (out .exit) ≡ planOut (now (goals .entry)) (now (out .entry)) ⌝ }
 {
-    match plan::test_goals(goals) {
-        Goals::BadCount => {
-            return PlanWritten::BadCount;
-        }
-        Goals::BadGoal => {
-            return PlanWritten::BadGoal;
-        }
-        Goals::Good => {}
-    }
+    let tested = plan::test_goals(goals);
+    let Answer::Count(_) = tested else {
+        return tested;
+    };
     let n = count_wanted(goals);
     let size = 14 * ((n + 202) / MOST) + 5 * n;
     if out.len() < size {
-        return PlanWritten::NoRoom;
+        return Answer::Refused(Refusal::NoRoom);
     }
     write_packets(goals, n, out);
-    PlanWritten::Count(size)
+    Answer::Count(size)
 }

@@ -8,6 +8,7 @@ use native.Mathlib.Omega.{arith}
 use lib.ListN.{length, take, drop, replicate}
 use lib.Dec.{eqb}
 use borrow.Author.Tests.{ltb-true, eqb-true, eqb-false}
+use Rattle.answers.specs.declared.Refusal.the-variants.{BadReader}
 use Rattle.reading.specs.Rules.{isPacket, Rules}
 use Rattle.reading.specs.Reading.{Event, packet, readFuel, readFrom, reading, open′}
 use Rattle.reading.specs.Calls.{feed, gap, CallResult, event, silent, first, fed, call, Fewest}
@@ -151,7 +152,7 @@ module _ (p : Protocol) (most : ℕ) (a b : List ℕ) (h : ℕ) (c : Tested p mo
         same-taken = t .follows .same-taken (lent (full p) most) (feed (0x00 ∷ 0x00 ∷ [])) (omega arith) ∙ c .full-taken;
         same-next = t .follows .same-next (lent (full p) most) gap (omega arith) .1 ∙ c .full-next;
         stays-legal = t .follows .same-next (lent (full p) most) (feed []) (omega arith) .0;
-        never-refused = t .never-refused (used p) refl (earlier ++ feed (full p) ∷ []) gap;
+        never-refused = t .never-refused (used p) refl (earlier ++ feed (full p) ∷ []) gap BadReader;
         followed = t .followed-by (replicate most 0) .1 (omega (arith, zeros));
         too-few = λ f. let few = t .followed-by (replicate (most - 1) 0) .0 f in absurd (omega (arith, few, fewer));
         none-without-ff = none-across [] (quiet ++ a) [] (sym (append-nil (quiet ++ a))) (ltb-true _ _ refl) (omega (arith, long));

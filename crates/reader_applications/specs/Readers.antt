@@ -5,6 +5,7 @@ use mathlib.Core.List.{List, [], _∷_, _++_, map, List·Memᴰ}
 use mathlib.Core.Option.{none, some}
 use Prim.Native.Nat.{ℕ, _+_, _-_, _≤_, _<_}
 use lib.ListN.{length, take, drop, replicate}
+use Rattle.answers.specs.declared.Refusal.the-variants.{BadReader}
 use Rattle.reading.specs.Rules.{Rules}
 use Rattle.reading.specs.Reading.{Event, packet, badChecksum, Found, open′}
 use Rattle.reading.specs.Calls.{feed, gap, event, silent, first, fed, call}
@@ -66,7 +67,7 @@ pub record ReaderApplied (p : Protocol) (most : ℕ) (a b : List ℕ) (h : ℕ) 
   pub same-next : heldIn (recordsOf p .next (lent (full p) most) gap) ≡ []
   pub stays-legal : recordsOf p .next (lent (full p) most) (feed []) .count ≤ most
   -- as many bytes are held as can be
-  pub never-refused : ¬ (stepIn p (after (recordsOf p) (used p) (earlier ++ feed (full p) ∷ [])) gap .event ≡ Refused)
+  pub never-refused : ¬ (stepIn p (after (recordsOf p) (used p) (earlier ++ feed (full p) ∷ [])) gap .event ≡ Refused BadReader)
   pub followed : Followed (rulesOf p) (replicate most 0)
   pub too-few : ¬ Followed (rulesOf p) (replicate (most - 1) 0)
   pub none-without-ff : ¬ rulesOf p .WellFormed (quiet ++ a)

@@ -24,7 +24,7 @@ abbrev pub sizeIn : StepEvent → ℕ
 sizeIn (Packet id n) = n
 sizeIn (BadChecksum id) = 0
 sizeIn Silent = 0
-sizeIn Refused = 0
+sizeIn (Refused refusal) = 0
 
 -- the step says what the result says; the held bytes and the packet's bytes stand at the start of their buffers
 pub record Delivered (p : Protocol) (r : CallResult) (step : Step) (held bytes : List ℕ) : Type 0 where

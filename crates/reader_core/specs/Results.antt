@@ -6,6 +6,7 @@ use mathlib.Core.Option.{Option, none, some}
 use Prim.Native.Nat.{ℕ, _+_, _-_, min}
 use lib.Dec.{leb}
 use lib.ListN.{length, drop, replicate}
+use Rattle.answers.specs.declared.Refusal.the-variants.{BadReader}
 use Rattle.lists.specs.Write.{overwritten, padded}
 use Rattle.reading.specs.Reading.{Event, packet, badChecksum}
 use Rattle.reading.specs.Calls.{CallResult}
@@ -35,7 +36,7 @@ packetBytes none = []
 abbrev pub stepFor : Protocol → ℕ → CallResult → Step
 stepFor p count r =
     cond (leb count (mostHeld p)) (record { taken = r .taken; held = length (r .held); event = eventFor p (r .answer) })
-    (record { taken = 0; held = count; event = Refused })
+    (record { taken = 0; held = count; event = Refused BadReader })
 
 -- the bytes that were lent for them: those held then, followed by 0 [F15 F16 N12]
 abbrev pub heldFor : Protocol → ℕ → List ℕ → CallResult → List ℕ

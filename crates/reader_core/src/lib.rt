@@ -1,4 +1,5 @@
 // The reader's feeding and gap calls, in place on the caller's held bytes and packet buffer.
+use answers::Refusal;
 use packet_protocols::Protocol;
 use packet_rules::Judgement;
 use reader_scan::Scanned;
@@ -26,7 +27,7 @@ pub enum StepEvent {
     Packet { id: u8, size: usize },
     BadChecksum { id: u8 },
     Silent,
-    Refused,
+    Refused(Refusal),
 }
 
 // What a call returns: how many bytes it took, how many are held now, and its event.
@@ -232,7 +233,7 @@ fn size_of(event: StepEvent) -> usize
         StepEvent::Packet { id: _, size } => size,
         StepEvent::BadChecksum { id: _ } => 0,
         StepEvent::Silent => 0,
-        StepEvent::Refused => 0,
+        StepEvent::Refused(_) => 0,
     }
 }
 
@@ -289,7 +290,7 @@ pub fn feed_in(held: &mut [u8; 1030], count: usize, chunk: &[u8], packet: &mut [
         × (now (packet .exit) ≡ packetFor Two count (now (packet .entry)) (call (rulesOf Two) (take count (now (held .entry))) (Call·feed (now (chunk .entry))))) ⌝ }
 {
     if 1030 < count {
-        return stepped(0, count, StepEvent::Refused);
+        return stepped(0, count, StepEvent::Refused(Refusal::BadReader));
     }
     feed_by(Protocol::Two, held, count, chunk, packet)
 }
@@ -302,7 +303,7 @@ pub fn gap_in(held: &mut [u8; 1030], count: usize, packet: &mut [u8; 1031]) -> S
         × (now (packet .exit) ≡ packetFor Two count (now (packet .entry)) (call (rulesOf Two) (take count (now (held .entry))) Call·gap)) ⌝ }
 {
     if 1030 < count {
-        return stepped(0, count, StepEvent::Refused);
+        return stepped(0, count, StepEvent::Refused(Refusal::BadReader));
     }
     gap_by(Protocol::Two, held, count, packet)
 }
@@ -314,7 +315,7 @@ pub fn feed_p1(held: &mut [u8; 258], count: usize, chunk: &[u8], packet: &mut [u
         × (now (packet .exit) ≡ packetFor One count (now (packet .entry)) (call (rulesOf One) (take count (now (held .entry))) (Call·feed (now (chunk .entry))))) ⌝ }
 {
     if 258 < count {
-        return stepped(0, count, StepEvent::Refused);
+        return stepped(0, count, StepEvent::Refused(Refusal::BadReader));
     }
     feed_by(Protocol::One, held, count, chunk, packet)
 }
@@ -326,7 +327,7 @@ pub fn gap_p1(held: &mut [u8; 258], count: usize, packet: &mut [u8; 259]) -> Ste
         × (now (packet .exit) ≡ packetFor One count (now (packet .entry)) (call (rulesOf One) (take count (now (held .entry))) Call·gap)) ⌝ }
 {
     if 258 < count {
-        return stepped(0, count, StepEvent::Refused);
+        return stepped(0, count, StepEvent::Refused(Refusal::BadReader));
     }
     gap_by(Protocol::One, held, count, packet)
 }
@@ -343,7 +344,7 @@ pub fn feed_mercury(
         × (now (packet .exit) ≡ packetFor Mercury count (now (packet .entry)) (call (rulesOf Mercury) (take count (now (held .entry))) (Call·feed (now (chunk .entry))))) ⌝ }
 {
     if 258 < count {
-        return stepped(0, count, StepEvent::Refused);
+        return stepped(0, count, StepEvent::Refused(Refusal::BadReader));
     }
     feed_by(Protocol::Mercury, held, count, chunk, packet)
 }
@@ -355,7 +356,7 @@ pub fn gap_mercury(held: &mut [u8; 258], count: usize, packet: &mut [u8; 259]) -
         × (now (packet .exit) ≡ packetFor Mercury count (now (packet .entry)) (call (rulesOf Mercury) (take count (now (held .entry))) Call·gap)) ⌝ }
 {
     if 258 < count {
-        return stepped(0, count, StepEvent::Refused);
+        return stepped(0, count, StepEvent::Refused(Refusal::BadReader));
     }
     gap_by(Protocol::Mercury, held, count, packet)
 }
@@ -389,7 +390,7 @@ pub fn feed_lean(held: &mut [u8; 1030], count: usize, chunk: &[u8], packet: &mut
         × (now (packet .exit) ≡ leanPacketFor Two count (now (packet .entry)) (call (rulesOf Two) (take count (now (held .entry))) (Call·feed (now (chunk .entry))))) ⌝ }
 {
     if 1030 < count {
-        return stepped(0, count, StepEvent::Refused);
+        return stepped(0, count, StepEvent::Refused(Refusal::BadReader));
     }
     let step = feed_slices(Protocol::Two, held, count, chunk, packet);
     clear_reached(held, count, packet, step);
@@ -403,7 +404,7 @@ pub fn gap_lean(held: &mut [u8; 1030], count: usize, packet: &mut [u8; 1031]) ->
         × (now (packet .exit) ≡ leanPacketFor Two count (now (packet .entry)) (call (rulesOf Two) (take count (now (held .entry))) Call·gap)) ⌝ }
 {
     if 1030 < count {
-        return stepped(0, count, StepEvent::Refused);
+        return stepped(0, count, StepEvent::Refused(Refusal::BadReader));
     }
     let step = gap_slices(Protocol::Two, held, count, packet);
     clear_reached(held, count, packet, step);

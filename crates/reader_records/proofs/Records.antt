@@ -7,6 +7,7 @@ use native.Mathlib.Omega.{arith}
 use borrow.Author.Tests.{le-leb, eq-eqb}
 use lib.ListN.{length, take, replicate, length-take}
 use lib.Seq.{take-at}
+use Rattle.answers.specs.declared.Refusal.{Refusal}
 use Rattle.reading.specs.Reading.{Event, packet, badChecksum}
 use Rattle.reading.specs.Calls.{CallResult, Call, call}
 use Rattle.reading.specs.Lists.{after, Follows}
@@ -71,10 +72,10 @@ module _ (p : Protocol) (r : Reader) (c : Call) (h : r .count ≤ mostHeld p) wh
           rw (e, eq-eqb (idIn p w) (idIn p w) refl)
       by (some (badChecksum id)) = refl
 
-  never-told : ¬ (stepIn p r c .event ≡ Refused)
-  never-told e = by (result .answer) (rw step-is at e)
+  never-told : (refusal : Refusal) → ¬ (stepIn p r c .event ≡ Refused refusal)
+  never-told refusal e = by (result .answer) (rw step-is at e)
     where
-      by : (a : Option Event) → ¬ (eventFor p a ≡ Refused)
+      by : (a : Option Event) → ¬ (eventFor p a ≡ Refused refusal)
       by none e = let z : _≡_ {A = ℕ} 0 1 = cc in omega arith
       by (some (packet w)) e = let z : _≡_ {A = ℕ} 0 1 = cc in omega arith
       by (some (badChecksum id)) e = let z : _≡_ {A = ℕ} 0 1 = cc in omega arith
@@ -96,11 +97,11 @@ module _ (p : Protocol) where
 
   never-refused : NeverRefusedIn p
   unfolding follows
-  never-refused r e cs c =
+  never-refused r e cs c refusal =
       let f = follows .fresh r e in
       let n = follows-after (rulesOf p) (recordsOf p) Legal heldIn follows r [] cs (f .0) (f .1) in
       let x = after (recordsOf p) r cs in
-      never-told p x c (n .0)
+      never-told p x c (n .0) refusal
 
 -- ---- the record after a call
 

@@ -7,6 +7,7 @@ use mathlib.Core.Option.{Option, none, some}
 use Prim.Native.Nat.{ℕ, _≤_}
 use lib.Dec.{eqb}
 use lib.ListN.{length, take, replicate}
+use Rattle.answers.specs.declared.Refusal.{Refusal}
 use Rattle.reading.specs.Reading.{Event, packet, badChecksum}
 use Rattle.reading.specs.Calls.{Call, call}
 use Rattle.reading.specs.Lists.{AnyReader, after, Follows}
@@ -58,7 +59,7 @@ abbrev pub eventIn : Protocol → StepEvent → List ℕ → Option Event
 eventIn p (Packet id n) bytes = cond (eqb id (idIn p (take n bytes))) (some (packet (take n bytes))) none
 eventIn p (BadChecksum id) bytes = some (badChecksum id)
 eventIn p Silent bytes = none
-eventIn p Refused bytes = none
+eventIn p (Refused refusal) bytes = none
 
 -- The records as a reader, of which demand 3 is promised: a fresh one is any with count 0, whatever lies past it. Each list of
 -- calls keeps to one protocol. [F1 F2 O15 Q1]
@@ -79,7 +80,8 @@ records = recordsOf Two
 -- whatever came before [O15 Q2]
 abbrev pub NeverRefusedIn : Protocol → Type 0
 NeverRefusedIn p =
-    (r : Reader) → r .count ≡ 0 → (cs : List Call) (c : Call) → ¬ (stepIn p (after (recordsOf p) r cs) c .event ≡ Refused)
+    (r : Reader) → r .count ≡ 0 → (cs : List Call) (c : Call) (refusal : Refusal)
+    → ¬ (stepIn p (after (recordsOf p) r cs) c .event ≡ Refused refusal)
 
 -- what is promised of every list of calls of a protocol, with the figure: one byte less than its longest packet [O15]
 pub record ProtocolPromises (p : Protocol) (most : ℕ) : Type 0 where

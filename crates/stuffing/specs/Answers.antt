@@ -5,29 +5,25 @@ use mathlib.Core.Option.{Option}
 use Prim.Native.Nat.{ℕ}
 use lib.Dec.{leb}
 use lib.ListN.{length}
-use Rattle.lists.specs.Answer.{Answer, count, refused, firstFailing, answered, unlessRefused}
+use Rattle.answers.specs.Refusals.{firstFailing, unlessRefused}
+use Rattle.answers.specs.Answers.{answered}
+use Rattle.answers.specs.declared.Refusal.{Refusal}
+use Rattle.answers.specs.declared.Refusal.the-variants.{BadStuffing, NoRoom}
+use Rattle.answers.specs.declared.Answer.{Answer}
 use Rattle.lists.specs.Write.{overwritten}
 use Rattle.stuffing.specs.Stuffing.{wellStuffed, unstuff}
 use Rattle.stuffing.specs.declared.Checked.{Checked}
 use Rattle.stuffing.specs.declared.Checked.the-variants.{Good, Bad}
-use Rattle.stuffing.specs.declared.Unstuffed.{Unstuffed}
-use Rattle.stuffing.specs.declared.Unstuffed.the-variants.{Count, BadStuffing, NoRoom}
 
 -- the stuffing test, with the count of the unstuffed bytes where it passes [K5]
 abbrev pub checked : List ℕ → Checked
 checked body = cond (wellStuffed body) (Good (length (unstuff body))) Bad
 
--- the refusal numbers of removal [N3 S9]
-abbrev pub unstuffedAnswer : Unstuffed → Answer
-unstuffedAnswer (Count n) = count n
-unstuffedAnswer BadStuffing = refused 14
-unstuffedAnswer NoRoom = refused 13
-
 -- removal into a buffer: the stuffing is tested before the room [N3 N4 S9-S11]
-unfoldable pub removalRefusal : List ℕ → List ℕ → Option ℕ
+unfoldable pub removalRefusal : List ℕ → List ℕ → Option Refusal
 removalRefusal body out =
-    firstFailing ((wellStuffed body, 14)
-    ∷ (leb (length (unstuff body)) (length out), 13)
+    firstFailing ((wellStuffed body, BadStuffing)
+    ∷ (leb (length (unstuff body)) (length out), NoRoom)
     ∷ [])
 
 -- [S8]

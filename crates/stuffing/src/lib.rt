@@ -1,23 +1,18 @@
 // Byte stuffing of packet bodies: the test, and unstuffing.
+use answers::Answer;
+use answers::Refusal;
 ghost use mathlib.Core.Path.{_≡_};
 ghost use mathlib.Core.Bool.{true};
 ghost use Prim.Native.Nat.{_≤_};
 ghost use lib.ListN.{length};
 ghost use Rattle.lists.specs.Write.{overwritten};
 ghost use Rattle.stuffing.specs.Stuffing.{markAt, wellStuffed, unstuff};
-ghost use Rattle.stuffing.specs.Answers.{checked, unstuffedAnswer, removalAnswer, removalOut};
+ghost use Rattle.stuffing.specs.Answers.{checked, removalAnswer, removalOut};
 
 // Whether a body is well stuffed, and its unstuffed byte count.
 pub enum Checked {
     Good(usize),
     Bad,
-}
-
-// The count of the unstuffed bytes, or a refusal.
-pub enum Unstuffed {
-    Count(usize),
-    BadStuffing,
-    NoRoom,
 }
 
 // Whether the byte at i ends FF FF FD, where `before` stands right before the bytes. It is tested first: it is rarely FD.
@@ -83,20 +78,20 @@ fn write_unstuffed(body: &[u8], out: &mut [u8])
 
 // Writes the body without its stuffing to the start of out. Refused, in this order: a body that is not well stuffed, a buffer
 // without room. A refusal writes nothing. A body that has no stuffing is copied. [N3 N4 N10-N12 N14 S6-S11]
-pub fn unstuff_into(body: &[u8], out: &mut [u8]) -> Unstuffed
-    ensures { λ r. ⌜ unstuffedAnswer r ≡ removalAnswer (now (body .entry)) (now (out .entry)) ⌝ }
+pub fn unstuff_into(body: &[u8], out: &mut [u8]) -> Answer
+    ensures { λ r. ⌜ r ≡ removalAnswer (now (body .entry)) (now (out .entry)) ⌝ }
     ensures { λ _. ⌜ now (out .exit) ≡ removalOut (now (body .entry)) (now (out .entry)) ⌝ }
 {
     let Checked::Good(n) = check(body) else {
-        return Unstuffed::BadStuffing;
+        return Answer::Refused(Refusal::BadStuffing);
     };
     if out.len() < n {
-        return Unstuffed::NoRoom;
+        return Answer::Refused(Refusal::NoRoom);
     }
     if n == body.len() {
         buffers::place(out, 0, body);
     } else {
         write_unstuffed(body, out);
     }
-    Unstuffed::Count(n)
+    Answer::Count(n)
 }

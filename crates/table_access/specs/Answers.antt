@@ -3,7 +3,7 @@ use mathlib.Core.List.{List}
 use Prim.Native.Nat.{ℕ}
 use lib.IntN.{ℤ}
 use lib.ListN.{take, drop, replicate}
-use Rattle.lists.specs.Answer.{unlessRefused}
+use Rattle.answers.specs.Refusals.{unlessRefused}
 use Rattle.lists.specs.Write.{padded}
 use Rattle.table_rules.specs.Rules.{stored, readRule, writeRule}
 use Rattle.table_rules.specs.Outcomes.{inTable, onTable}

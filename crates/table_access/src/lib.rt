@@ -1,4 +1,6 @@
 // The control table: 136 bytes of registers. A write is judged whole before a byte of it is stored.
+use answers::Answer;
+use answers::Refusal;
 use table_registers::FRESH_BAUD_CODE;
 use table_registers::FRESH_FIRMWARE_VERSION;
 use table_registers::FRESH_ID;
@@ -16,15 +18,14 @@ use table_registers::REG_MODEL_NUMBER;
 use table_registers::REG_PRESENT_POSITION;
 use table_registers::REG_STATUS_RETURN_LEVEL;
 use table_registers::TABLE_BYTES;
-use table_rules::Change;
 use table_rules::Outcome;
 ghost use mathlib.Core.Path.{_≡_};
-ghost use mathlib.Core.Option.{none};
 ghost use Prim.Native.Nat.{_+_, _≤_};
 ghost use lib.ListN.{length, take, drop};
+ghost use Rattle.answers.specs.Answers.{answered};
 ghost use Rattle.lists.specs.Write.{padded};
 ghost use Rattle.table_rules.specs.Rules.{readRule, writeRule};
-ghost use Rattle.table_rules.specs.Outcomes.{refusalOf, changeRefusal, inTable};
+ghost use Rattle.table_rules.specs.Outcomes.{refusalOf, inTable, sizeRefusal};
 ghost use Rattle.table_access.specs.Answers.{freshOut, measureOut, readBytes, writeOut};
 
 // The bytes that were read, with 0 after them, where the outcome is Done.
@@ -86,12 +87,12 @@ pub fn read(table: &[u8], address: u16, count: u16) -> Reading
 }
 
 // The table as it comes from the factory: each register has its fresh value, undefined bytes are 0. [N5 N12 N13 T4]
-pub fn fresh(table: &mut [u8]) -> Change
-    ensures { λ r. ⌜ changeRefusal r ≡ inTable (now (table .entry)) none ⌝ }
+pub fn fresh(table: &mut [u8]) -> Answer
+    ensures { λ r. ⌜ r ≡ answered (sizeRefusal (now (table .entry))) 0 ⌝ }
     ensures { λ _. ⌜ now (table .exit) ≡ freshOut (now (table .entry)) ⌝ }
 {
     if table.len() != TABLE_BYTES {
-        return Change::NotTable;
+        return Answer::Refused(Refusal::NotATable);
     }
     buffers::clear(table, 0);
     table[REG_MODEL_NUMBER] = (FRESH_MODEL_NUMBER % 256) as u8;
@@ -102,16 +103,16 @@ pub fn fresh(table: &mut [u8]) -> Change
     table[REG_MAX_POSITION] = (FRESH_MAX_POSITION % 256) as u8;
     table[REG_MAX_POSITION + 1] = (FRESH_MAX_POSITION / 256) as u8;
     table[REG_STATUS_RETURN_LEVEL] = FRESH_STATUS_RETURN_LEVEL;
-    Change::Done
+    Answer::Count(0)
 }
 
 // The measurement call: present position and hardware error. [N5 N12 N13 T3 T5]
-pub fn measure(table: &mut [u8], position: i32, error: u8) -> Change
-    ensures { λ r. ⌜ changeRefusal r ≡ inTable (now (table .entry)) none ⌝ }
+pub fn measure(table: &mut [u8], position: i32, error: u8) -> Answer
+    ensures { λ r. ⌜ r ≡ answered (sizeRefusal (now (table .entry))) 0 ⌝ }
     ensures { λ _. ⌜ now (table .exit) ≡ measureOut (now (table .entry)) position error ⌝ }
 {
     if table.len() != TABLE_BYTES {
-        return Change::NotTable;
+        return Answer::Refused(Refusal::NotATable);
     }
     let u = table_items::unsigned_of(position);
     table[REG_PRESENT_POSITION] = (u % 256) as u8;
@@ -119,5 +120,5 @@ pub fn measure(table: &mut [u8], position: i32, error: u8) -> Change
     table[REG_PRESENT_POSITION + 2] = (u / 256 / 256 % 256) as u8;
     table[REG_PRESENT_POSITION + 3] = (u / 256 / 256 / 256 % 256) as u8;
     table[REG_HARDWARE_ERROR] = error;
-    Change::Done
+    Answer::Count(0)
 }

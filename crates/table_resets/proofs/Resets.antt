@@ -2,12 +2,15 @@
 use mathlib.Core.Path.{_≡_, refl, sym, ap, _∙_}
 use mathlib.Core.Bool.{Bool, true, false, cond, not, _&&_}
 use mathlib.Core.List.{List, [], _∷_}
-use mathlib.Core.Option.{none, some}
 use Prim.Native.Nat.{ℕ, suc, _+_, _≤_}
 use native.Mathlib.Omega.{arith}
 use lib.Dec.{leb}
 use lib.ListN.{length, take, drop, getD, set}
 use lib.Seq.{drop-cons, set-getD, sets}
+use borrow.Author.Tests.{eq-eqb, ne-eqb}
+use Rattle.answers.specs.Answers.{answered}
+use Rattle.answers.specs.declared.Refusal.the-variants.{NotATable}
+use Rattle.answers.specs.declared.Answer.the-variants.{Count, Refused}
 use Rattle.table_registers.specs.Registers.{Register, registers, tableSize, endOf, writable}
 use Rattle.table_registers.proofs.Rows.{inside, first-inside}
 use Rattle.lists.proofs.Bools.{and-right}
@@ -15,19 +18,19 @@ use Rattle.lists.specs.Numbers.{bytesOf}
 use Rattle.table_items.specs.Items.{put}
 use Rattle.table_access.specs.Fresh.{freshened}
 use Rattle.table_rules.specs.Rules.{stored}
-use Rattle.table_rules.specs.Outcomes.{inTable, onTable}
-use Rattle.table_rules.proofs.Size.{in-table, on-table, not-in-table, off-table}
+use Rattle.table_rules.specs.Outcomes.{sizeRefusal, onTable}
+use Rattle.table_rules.proofs.Size.{on-table, off-table}
 use Rattle.table_access.proofs.Put.{put-sets, put-length}
 use Rattle.table_rules.proofs.Stored.{stored-sets}
 use Rattle.table_resets.specs.Resets.{only, isRom, resetAtReboot, rebooted, resetRom, keeping, keepsIdAndBaud}
 
 -- a table of another size: the answer and what is left
-pub refused : (table new : List ℕ) → (length table ≡ tableSize → ⊥) → (some 21 ≡ inTable table none) × (table ≡ onTable table new)
-refused table new n = (sym (not-in-table table n none), sym (off-table table n new))
+pub refused : (table new : List ℕ) → (length table ≡ tableSize → ⊥) → (Refused NotATable ≡ answered (sizeRefusal table) 0) × (table ≡ onTable table new)
+refused table new n = (rw (ne-eqb (length table) tableSize n), sym (off-table table n new))
 
 -- and one of its size
-pub not-refused : (table : List ℕ) → length table ≡ tableSize → none ≡ inTable table none
-not-refused table s = sym (in-table table s none)
+pub not-refused : (table : List ℕ) → length table ≡ tableSize → Count 0 ≡ answered (sizeRefusal table) 0
+not-refused table s = rw (eq-eqb (length table) tableSize s)
 
 -- on a list that is written out this computes to the stores themselves, those of the first register first
 abbrev stores : List Register → List ℕ → List ℕ

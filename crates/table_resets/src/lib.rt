@@ -1,4 +1,6 @@
 // Reboot and Factory Reset, on the table; stores go by rising addresses. A table of another size is refused and stays as it is.
+use answers::Answer;
+use answers::Refusal;
 use table_registers::FRESH_BAUD_CODE;
 use table_registers::FRESH_ID;
 use table_registers::FRESH_MAX_POSITION;
@@ -16,20 +18,19 @@ use table_registers::REG_REGISTERED_INSTRUCTION;
 use table_registers::REG_STATUS_RETURN_LEVEL;
 use table_registers::REG_TORQUE_ENABLE;
 use table_registers::TABLE_BYTES;
-use table_rules::Change;
 ghost use mathlib.Core.Path.{_≡_};
 ghost use mathlib.Core.Bool.{cond};
-ghost use mathlib.Core.Option.{none};
-ghost use Rattle.table_rules.specs.Outcomes.{changeRefusal, inTable, onTable};
+ghost use Rattle.answers.specs.Answers.{answered};
+ghost use Rattle.table_rules.specs.Outcomes.{sizeRefusal, onTable};
 ghost use Rattle.table_resets.specs.Resets.{rebooted, resetRom, keeping};
 
 // RAM items fresh, present position as it was, min position as the goal.
-pub fn reboot(table: &mut [u8]) -> Change
-    ensures { λ r. ⌜ changeRefusal r ≡ inTable (now (table .entry)) none ⌝ }
+pub fn reboot(table: &mut [u8]) -> Answer
+    ensures { λ r. ⌜ r ≡ answered (sizeRefusal (now (table .entry))) 0 ⌝ }
     ensures { λ _. ⌜ now (table .exit) ≡ onTable (now (table .entry)) (rebooted (now (table .entry))) ⌝ }
 {
     if table.len() != TABLE_BYTES {
-        return Change::NotTable;
+        return Answer::Refused(Refusal::NotATable);
     }
     let a = table[REG_MIN_POSITION];
     let b = table[REG_MIN_POSITION + 1];
@@ -48,7 +49,7 @@ pub fn reboot(table: &mut [u8]) -> Change
     table[REG_GOAL_POSITION + 1] = b;
     table[REG_GOAL_POSITION + 2] = c;
     table[REG_GOAL_POSITION + 3] = d;
-    Change::Done
+    Answer::Count(0)
 }
 
 // The byte where it is kept, the fresh one where it is not.
@@ -59,12 +60,12 @@ fn kept_or(keeps: bool, byte: u8, fresh: u8) -> u8
 }
 
 // Factory Reset: homing offset and both limits fresh, and of ID and baud code what is not kept.
-pub fn reset_rom(table: &mut [u8], keeps_id: bool, keeps_baud: bool) -> Change
-    ensures { λ r. ⌜ changeRefusal r ≡ inTable (now (table .entry)) none ⌝ }
+pub fn reset_rom(table: &mut [u8], keeps_id: bool, keeps_baud: bool) -> Answer
+    ensures { λ r. ⌜ r ≡ answered (sizeRefusal (now (table .entry))) 0 ⌝ }
     ensures { λ _. ⌜ now (table .exit) ≡ onTable (now (table .entry)) (resetRom (keeping «keeps_id» «keeps_baud») (now (table .entry))) ⌝ }
 {
     if table.len() != TABLE_BYTES {
-        return Change::NotTable;
+        return Answer::Refused(Refusal::NotATable);
     }
     table[REG_ID] = kept_or(keeps_id, table[REG_ID], FRESH_ID);
     table[REG_BAUD_CODE] = kept_or(keeps_baud, table[REG_BAUD_CODE], FRESH_BAUD_CODE);
@@ -80,5 +81,5 @@ pub fn reset_rom(table: &mut [u8], keeps_id: bool, keeps_baud: bool) -> Change
     table[REG_MIN_POSITION + 1] = 0;
     table[REG_MIN_POSITION + 2] = 0;
     table[REG_MIN_POSITION + 3] = 0;
-    Change::Done
+    Answer::Count(0)
 }

@@ -8,7 +8,7 @@ use native.Mathlib.Omega.{arith}
 use lib.Dec.{eqb, ltb}
 use lib.ListN.{length, getD}
 use borrow.Author.Tests.{eq-eqb, ne-eqb, eqb-true, lt-ltb, le-ltb, ltb-true}
-use Rattle.lists.specs.Answer.{unlessRefused}
+use Rattle.answers.specs.Refusals.{unlessRefused}
 use Rattle.table_registers.specs.Registers.{registers, tableSize, torqueEnable, everyByte}
 use Rattle.table_items.specs.Items.{valueInRange}
 use Rattle.table_rules.specs.Rules.{leastToWrite, covers, everyTouched, limitsKept, stored, readRule, writeRule}

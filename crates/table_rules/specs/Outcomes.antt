@@ -1,16 +1,16 @@
 -- What becomes of a read or a write, as a number of RULES.
 use mathlib.Core.Bool.{Bool, true, false, cond}
-use mathlib.Core.List.{List}
+use mathlib.Core.List.{List, [], _∷_}
 use mathlib.Core.Option.{Option, none, some}
 use Prim.Native.Nat.{ℕ}
 use lib.Dec.{eqb}
 use lib.ListN.{length}
-use Rattle.lists.specs.Answer.{unlessRefused}
+use Rattle.answers.specs.Refusals.{numberOf, firstFailing, unlessRefused}
+use Rattle.answers.specs.declared.Refusal.{Refusal}
+use Rattle.answers.specs.declared.Refusal.the-variants.{NotATable}
 use Rattle.table_registers.specs.Registers.{tableSize}
 use Rattle.table_rules.specs.declared.Outcome.{Outcome}
 use Rattle.table_rules.specs.declared.Outcome.the-variants.{Done, DataRange, DataLength, DataLimit, NoAccess, NotTable}
-use Rattle.table_rules.specs.declared.Change.{Change}
-use Rattle.table_rules.specs.declared.Change.the-variants.{Done as Change·Done, NotTable as Change·NotTable}
 
 -- the numbers of the outcomes: error numbers of a status packet, and 21, which is the caller's fault [K5 N5 N11]
 abbrev pub refusalOf : Outcome → Option ℕ
@@ -19,12 +19,7 @@ refusalOf DataRange = some 0x04
 refusalOf DataLength = some 0x05
 refusalOf DataLimit = some 0x06
 refusalOf NoAccess = some 0x07
-refusalOf NotTable = some 21
-
--- likewise of a change that any table takes [K5 N5]
-abbrev pub changeRefusal : Change → Option ℕ
-changeRefusal Change·Done = none
-changeRefusal Change·NotTable = some 21
+refusalOf NotTable = some (numberOf NotATable)
 
 -- [K5]
 abbrev pub isDone : Outcome → Bool
@@ -38,7 +33,11 @@ isDone NotTable = false
 -- A table of another size is refused before anything else, and stays as it is: every function on a table goes by these.
 -- [N5 N13]
 abbrev pub inTable : List ℕ → Option ℕ → Option ℕ
-inTable table next = cond (eqb (length table) tableSize) next (some 21)
+inTable table next = cond (eqb (length table) tableSize) next (some (numberOf NotATable))
+
+-- the refusal of a change that any table takes [N5 N13]
+abbrev pub sizeRefusal : List ℕ → Option Refusal
+sizeRefusal table = firstFailing ((eqb (length table) tableSize, NotATable) ∷ [])
 
 abbrev pub onTable : List ℕ → List ℕ → List ℕ
-onTable table new = unlessRefused (inTable table none) table new
+onTable table new = unlessRefused (sizeRefusal table) table new

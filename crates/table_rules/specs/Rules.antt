@@ -7,7 +7,7 @@ use Prim.Native.Nat.{ℕ, _+_}
 use lib.Dec.{leb, ltb, eqb}
 use lib.ListN.{length, getD}
 use lib.Signed.{leZ}
-use Rattle.lists.specs.Answer.{firstFailing}
+use Rattle.answers.specs.Refusals.{firstFailing}
 use Rattle.lists.specs.Write.{placed}
 use Rattle.table_registers.specs.Registers.{Register, registers, endOf, everyByte, torqueEnable, minPosition, maxPosition, goalPosition}
 use Rattle.table_items.specs.Items.{valueOf, valueInRange}

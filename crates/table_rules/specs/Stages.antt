@@ -4,7 +4,7 @@ use mathlib.Core.List.{List, [], _∷_}
 use mathlib.Core.Option.{Option}
 use Prim.Native.Nat.{ℕ, _+_}
 use lib.Dec.{leb, ltb}
-use Rattle.lists.specs.Answer.{firstFailing}
+use Rattle.answers.specs.Refusals.{firstFailing}
 use Rattle.table_registers.specs.Registers.{registers}
 use Rattle.table_items.specs.Items.{valueInRange}
 use Rattle.table_rules.specs.Rules.{covers, everyTouched}

@@ -36,12 +36,6 @@ pub enum Outcome {
     NotTable,
 }
 
-// What became of a change that any table takes: a table of another size alone is refused.
-pub enum Change {
-    Done,
-    NotTable,
-}
-
 pub fn is_done(outcome: Outcome) -> bool
     ensures { λ r. ⌜ r ≡ isDone outcome ⌝ }
 {

@@ -6,15 +6,14 @@
 //      `refused` if its ID is above 252; then `stored ADDRESS VALUE` for each byte of the control table that has changed
 // Reading stops at a record that is cut short or of another form. The last line, `end BYTES`, has the count of bytes before it.
 // Before the first device the control table is all 0.
+use answers::Answer;
 use device::Replied;
 use device_instructions::RegisteredWrite;
 use device_status::Reply;
-use device_status::Written;
 use libc::STDIN_FILENO;
 use libc::STDOUT_FILENO;
 use reader_core::Step;
 use reader_core::StepEvent;
-use stuffing::Unstuffed;
 ghost use Prim.Native.Nat.{_≤_};
 
 fn wide(x: u8) -> u64 {
@@ -107,28 +106,21 @@ fn print_reply(reply: Reply) {
     let mut out = [0u8; 32];
     let slot = reply.slot;
     match device_status::send(reply, &mut out) {
-        Written::Count(n) => {
+        Answer::Count(n) => {
             if n == 0 {
                 print_silence();
             } else {
                 print_status(slot, first(&out, n));
             }
         }
-        Written::BadId => print_refusal(),
-        Written::TooLong => print_refusal(),
-        Written::NoRoom => print_refusal(),
+        Answer::Refused(_) => print_refusal(),
     }
 }
 
 fn print_answer(refused: Replied, reply: Reply) {
     match refused {
         Replied::Sent(_, _) => print_reply(reply),
-        Replied::NotTable => print_refusal(),
-        Replied::BadId => print_refusal(),
-        Replied::BadRegistered => print_refusal(),
-        Replied::NoRoom => print_refusal(),
-        Replied::BadReplyId => print_refusal(),
-        Replied::LongReply => print_refusal(),
+        Replied::Refused(_) => print_refusal(),
     }
 }
 
@@ -167,11 +159,10 @@ fn answer(
     kept
 }
 
-fn unstuffed(got: Unstuffed) -> usize {
+fn unstuffed(got: Answer) -> usize {
     match got {
-        Unstuffed::Count(n) => n,
-        Unstuffed::BadStuffing => 0,
-        Unstuffed::NoRoom => 0,
+        Answer::Count(n) => n,
+        Answer::Refused(_) => 0,
     }
 }
 
@@ -205,7 +196,7 @@ fn is_event(event: StepEvent) -> bool {
         StepEvent::Packet { .. } => true,
         StepEvent::BadChecksum { .. } => true,
         StepEvent::Silent => false,
-        StepEvent::Refused => false,
+        StepEvent::Refused(_) => false,
     }
 }
 
@@ -219,7 +210,7 @@ fn hear_event(
         StepEvent::Packet { id, size } => hear_packet(table, registered, id, first(found, size)),
         StepEvent::BadChecksum { id } => hear_bad_checksum(table, registered, id),
         StepEvent::Silent => registered,
-        StepEvent::Refused => registered,
+        StepEvent::Refused(_) => registered,
     }
 }
 

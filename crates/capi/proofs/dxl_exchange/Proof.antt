@@ -14,8 +14,8 @@ use Rattle.capi.proofs.dxl_exchange.Tie as tie
 answer-requires : tie.Need-answer-requires
 answer-requires c κs = search needs
 
-answered-requires : tie.Need-answered-requires
-answered-requires c κs = search needs
+response-requires : tie.Need-response-requires
+response-requires c κs = search needs
 
 same-length : tie.Need-same-length
 same-length c = search needs
@@ -29,9 +29,9 @@ same-length-3 c = search needs
 returns : tie.Need-returns
 returns c =
     let e = c .before .before .before .before .before .before .before .answer .ensures in
-    let q = c .answered .ensures ∙ ap₂ deviceNumbers (e .0) (e .1 .0) in (
+    let q = c .response .ensures ∙ ap₂ deviceNumbers (e .0) (e .1 .0) in (
       q,
-      ((e .1 .1 .0, e .1 .1 .1 .0, e .1 .1 .1 .1), ((device-promises, exchange-promises, stays-accepted, goal-within-limits, cases-hold), ap₂ stateOf (e .1 .1 .0) (its-registered _ (e .0) (e .1 .0) (c .answered .ensures)))),
+      ((e .1 .1 .0, e .1 .1 .1 .0, e .1 .1 .1 .1), ((device-promises, exchange-promises, stays-accepted, goal-within-limits, cases-hold), ap₂ stateOf (e .1 .1 .0) (its-registered _ (e .0) (e .1 .0) (c .response .ensures)))),
     )
 
 pub dxl-exchange-spec : {M : Type 1} → statement M
@@ -39,7 +39,7 @@ dxl-exchange-spec =
     tie.close
     (tie.spec
     answer-requires
-    answered-requires
+    response-requires
     same-length
     same-length-2
     same-length-3

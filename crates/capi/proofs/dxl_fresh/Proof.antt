@@ -6,7 +6,7 @@ use Prim.Native.Nat.{ℕ}
 use Rattle.device_calls.specs.Calls.{stateOf}
 use Rattle.device_calls.proofs.Stays.{stays-accepted}
 use Rattle.device_calls.proofs.GoalWithinLimits.{goal-within-limits}
-use Rattle.numbers.specs.Exported.{exportedRefusal}
+use Rattle.answers.specs.Answers.{exported}
 use borrow.Author.Needs.{needs}
 use Rattle.capi.proofs.dxl_fresh.Statement.{statement}
 use Rattle.capi.proofs.dxl_fresh.Tie as tie
@@ -14,8 +14,8 @@ use Rattle.capi.proofs.dxl_fresh.Tie as tie
 fresh-requires : tie.Need-fresh-requires
 fresh-requires c κs = search needs
 
-change-requires : tie.Need-change-requires
-change-requires c κs = search needs
+exported-requires : tie.Need-exported-requires
+exported-requires c κs = search needs
 
 same-length : tie.Need-same-length
 same-length c = search needs
@@ -23,9 +23,9 @@ same-length c = search needs
 returns : tie.Need-returns
 returns c =
     let e = c .before .before .before .fresh in (
-      toZ-ofZ {w = w64} (record { sfits = c .change .ok }) ∙ c .change .ensures ∙ ap exportedRefusal (e .ensures .0),
+      toZ-ofZ {w = w64} (record { sfits = c .exported .ok }) ∙ c .exported .ensures ∙ ap exported (e .ensures .0),
       (e .ensures .1, ((λ w. ap (λ (t : List ℕ). stateOf t w) (e .ensures .1)), (stays-accepted, goal-within-limits))),
     )
 
 pub dxl-fresh-spec : {M : Type 1} → statement M
-dxl-fresh-spec = tie.close (tie.spec fresh-requires change-requires same-length returns)
+dxl-fresh-spec = tie.close (tie.spec fresh-requires exported-requires same-length returns)

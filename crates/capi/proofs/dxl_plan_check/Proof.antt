@@ -7,7 +7,7 @@ use mir.Facts.{toZ-ofZ}
 use mir.Syntax.{w64}
 use Rattle.plan_check.specs.Tested.{TestSays}
 use Rattle.plan_check.specs.declared.Tested.{Tested}
-use Rattle.plan_check.specs.declared.Tested.the-variants.{Accepted, NotPlan, BadCount, BadGoal}
+use Rattle.plan_check.specs.declared.Tested.the-variants.{Accepted, NotPlan, Refused}
 use Rattle.numbers.specs.Exported.{testedNumber}
 use Rattle.plan_heard.proofs.OnBoard.{plan-carried-out}
 use Rattle.capi.specs.Plans.{CheckSays}
@@ -18,8 +18,7 @@ use Rattle.capi.proofs.dxl_plan_check.Tie as tie
 says : (goals : List ℤ) (bytes : List ℕ) (t : Tested) → TestSays goals bytes t → CheckSays goals bytes (testedNumber t)
 says goals bytes Accepted p = rw (p .0) (inl (refl, p .1))
 says goals bytes NotPlan p = rw (p .0) (inr (refl, p .1))
-says goals bytes BadCount p = rw p refl
-says goals bytes BadGoal p = rw p refl
+says goals bytes (Refused refusal) p = rw p refl
 
 check-requires : tie.Need-check-requires
 check-requires c κs = search needs

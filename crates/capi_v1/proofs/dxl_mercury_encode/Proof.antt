@@ -3,7 +3,7 @@ use mir.Facts.{toZ-ofZ}
 use mir.Syntax.{w64}
 use Rattle.packet_v1.specs.Packet.{upTo, lastOfMercury}
 use Rattle.packet_encoder_v1.proofs.RoundTrip.{round-trip}
-use Rattle.numbers.specs.Exported.{exported}
+use Rattle.answers.specs.Answers.{exported}
 use borrow.Author.Needs.{needs}
 use Rattle.capi_v1.proofs.dxl_mercury_encode.Statement.{statement}
 use Rattle.capi_v1.proofs.dxl_mercury_encode.Tie as tie
@@ -11,8 +11,8 @@ use Rattle.capi_v1.proofs.dxl_mercury_encode.Tie as tie
 encode-requires : tie.Need-encode-requires
 encode-requires c κs = search needs
 
-encoded-requires : tie.Need-encoded-requires
-encoded-requires c κs = search needs
+exported-requires : tie.Need-exported-requires
+exported-requires c κs = search needs
 
 same-length : tie.Need-same-length
 same-length c = search needs
@@ -20,9 +20,9 @@ same-length c = search needs
 returns : tie.Need-returns
 returns c =
     let e = c .before .before .before .encode in (
-      toZ-ofZ {w = w64} (record { sfits = c .encoded .ok }) ∙ c .encoded .ensures ∙ ap exported (e .ensures .0),
+      toZ-ofZ {w = w64} (record { sfits = c .exported .ok }) ∙ c .exported .ensures ∙ ap exported (e .ensures .0),
       (e .ensures .1, round-trip (upTo lastOfMercury)),
     )
 
 pub dxl-mercury-encode-spec : {M : Type 1} → statement M
-dxl-mercury-encode-spec = tie.close (tie.spec encode-requires encoded-requires same-length returns)
+dxl-mercury-encode-spec = tie.close (tie.spec encode-requires exported-requires same-length returns)

@@ -1,7 +1,5 @@
 use mathlib.Core.Path.{_≡_}
-use mathlib.Core.List.{[], _∷_}
 use native.Mathlib.Omega.{arith}
-use types.Run.{miss}
 use Rattle.device.specs.Answers.{stateRefusal, roomRefusal, callRefusal}
 use Rattle.device.proofs.Calls.{then-room, refuses-room, accepts-room, fault-told, no-fault, state-refused}
 use borrow.Author.Needs.{needs}
@@ -14,13 +12,15 @@ state-refusal-requires c κs = search needs
 enum-told : tie.Need-enum-told
 enum-told c = search needs
 
+enum-told-2 : tie.Need-enum-told-2
+enum-told-2 c = search needs
+
 returns : tie.Need-returns
 returns c =
-    let a = c .before .before .before .before .args in
-    let i = c .before .state-refusal in
+    let a = c .before .before .before .before .before .args in
+    let i = c .before .before .state-refusal in
     state-refused (a .table .now) (a .registered) (a .out .now) (i .result)
-    (fault-told (stateRefusal (a .table .now) (a .registered)) (i .result) (i .ensures)
-    (λ n slot e. miss (1 ∷ 2 ∷ 3 ∷ 4 ∷ 5 ∷ 6 ∷ []) 0 tt (rw e at (c .match .keys2))))
+    (fault-told (stateRefusal (a .table .now) (a .registered)) (i .result) (i .ensures) _ (c .enum-told2 .given .1))
 
 -- the buffer is looked at, once the match is passed
 by-room : (t : tie.After-enum-told) → let a = t .before .before .before .before .before .args in
@@ -45,4 +45,4 @@ returns-3 c =
 
 pub call-refusal-spec : {M : Type 1} → statement M
 call-refusal-spec =
-    tie.close (tie.spec state-refusal-requires enum-told returns returns-2 returns-3)
+    tie.close (tie.spec state-refusal-requires enum-told enum-told-2 returns returns-2 returns-3)

@@ -1,9 +1,7 @@
 use mathlib.Core.Path.{_≡_, ap, _∙_}
-use mathlib.Core.List.{[], _∷_}
 use mathlib.Core.Option.{none}
-use types.Run.{miss}
 use Rattle.device.specs.Device.{carryOut}
-use Rattle.device.specs.Answers.{repliedAnswer, stateRefusal}
+use Rattle.device.specs.Answers.{stateRefusal}
 use Rattle.device.specs.declared.CarriedOut.{CarriedOut}
 use Rattle.device.proofs.Calls.{state-accepted, fault-told, no-fault}
 use borrow.Author.Needs.{needs}
@@ -16,6 +14,9 @@ state-refusal-requires c κs = search needs
 enum-told : tie.Need-enum-told
 enum-told c = search needs
 
+enum-told-2 : tie.Need-enum-told-2
+enum-told-2 c = search needs
+
 silence-requires : tie.Need-silence-requires
 silence-requires c κs = search needs
 
@@ -25,10 +26,9 @@ same-length c = search needs
 returns : tie.Need-returns
 returns c =
     let m = c .before in
-    let i = m .before in
+    let i = m .before .before in
     let a = i .before .before .before .before .args in
-    let q = fault-told (stateRefusal (a .table .now) (a .registered)) (i .state-refusal .result) (i .state-refusal .ensures)
-    (λ n slot e. miss (1 ∷ 2 ∷ 3 ∷ 4 ∷ 5 ∷ 6 ∷ []) 0 tt (rw e at (m .match .keys2))) in
+    let q = fault-told (stateRefusal (a .table .now) (a .registered)) (i .state-refusal .result) (i .state-refusal .ensures) _ (m .enum-told2 .given .1) in
     (i .state-refusal .ensures, (c .silence .ensures ∙ q .silences _, (q .keeps _ _, (q .errs _, q .leaves _ _))))
 
 -- nothing is refused, once the match is passed
@@ -50,7 +50,7 @@ returns-2 c =
     let d = c .before .before in
     let e = passes (d .before .before) in
     let r = d .dispatch .ensures in (
-      rw e (ap (λ (x : CarriedOut). repliedAnswer (x .refused)) (r .0)),
+      rw e (ap (λ (x : CarriedOut). x .refused) (r .0)),
       (rw e (ap (λ (x : CarriedOut). x .reply) (r .0)), (rw e (ap (λ (x : CarriedOut). x .registered) (r .0)), (rw e (ap (λ (x : CarriedOut). x .error) (r .0)), rw e (r .1)))),
     )
 
@@ -60,6 +60,7 @@ carry-out-spec =
     (tie.spec
     state-refusal-requires
     enum-told
+    enum-told-2
     silence-requires
     same-length
     returns

@@ -1,7 +1,5 @@
 use mathlib.Core.Path.{_≡_, ap, _∙_}
-use mathlib.Core.List.{[], _∷_}
 use native.Mathlib.Omega.{arith}
-use types.Run.{miss}
 use Rattle.device_status.specs.Sending.{statusAnswer, statusOut}
 use Rattle.device_status.specs.declared.Reply.{Reply}
 use Rattle.device.specs.Answers.{withSlot, stateRefusal}
@@ -33,6 +31,9 @@ carry-out-requires c κs = search needs
 enum-told : tie.Need-enum-told
 enum-told c = search needs
 
+enum-told-2 : tie.Need-enum-told-2
+enum-told-2 c = search needs
+
 same-length-3 : tie.Need-same-length-3
 same-length-3 c = search needs
 
@@ -45,12 +46,11 @@ both r =
 
 returns-2 : tie.Need-returns-2
 returns-2 c =
-    let r = c .before .before .before .before .before in
+    let r = c .before .before .before .before .before .before in
     let a = r .before .before .before .before .before .before .args in
     let e = r .carry-out .ensures in
     let s = both r in
-    let q = fault-told (stateRefusal (a .table .now) (a .registered)) (r .carry-out .result .refused) (e .0)
-    (λ n slot h. miss (1 ∷ 2 ∷ 3 ∷ 4 ∷ 5 ∷ 6 ∷ []) 0 tt (rw h at (c .match .keys2))) in
+    let q = fault-told (stateRefusal (a .table .now) (a .registered)) (r .carry-out .result .refused) (e .0) _ (c .enum-told2 .given .1) in
     (q .stops _ _ ∙ s .same-answer, (e .1 .1 .0 ∙ s .same-registered, (e .1 .1 .1 .1 ∙ s .same-table, q .leaves _ _ ∙ s .same-reply)))
 
 send-requires : tie.Need-send-requires
@@ -89,6 +89,7 @@ hear-spec =
     returns
     carry-out-requires
     enum-told
+    enum-told-2
     same-length-3
     returns-2
     send-requires

@@ -1,5 +1,5 @@
 use mathlib.Core.Path.{ap, _∙_}
-use Rattle.lists.specs.Answer.{Answer}
+use Rattle.answers.specs.declared.Answer.{Answer}
 use Rattle.device.specs.Answers.{withSlot}
 use borrow.Author.Needs.{needs}
 use Rattle.device.proofs.send.Statement.{statement}

@@ -1,17 +1,14 @@
-use mathlib.Core.Path.{_≡_, sym, ap, _∙_}
-use mathlib.Core.List.{[], _∷_}
+use mathlib.Core.Path.{ap, _∙_}
 use native.Mathlib.Omega.{arith}
-use types.Run.{miss}
 use Rattle.stuffing.specs.Answers.{removalRefusal}
 use Rattle.packet.specs.Packet.{bodyOf}
-use Rattle.device_status.specs.Status.{silence}
 use Rattle.device_status.specs.Sending.{statusAnswer, statusOut}
 use Rattle.device_status.specs.declared.Reply.{Reply}
-use Rattle.device.specs.Answers.{withSlot, repliedAnswer, answeredBy, callRefusal}
+use Rattle.device.specs.Answers.{withSlot, callRefusal}
 use Rattle.device.proofs.Calls.{fault-told, no-fault, short-refused}
-use Rattle.device_packet.specs.Exchange.{exchangedAnswer, packetRefusal, packetReply}
+use Rattle.device_packet.specs.Exchange.{packetRefusal, packetReply}
 use Rattle.device_packet.proofs.Hearing.{answers-first, keeps-first, leaves-first}
-use Rattle.device_packet.proofs.Split.{SameAsOne, with-room, not-device, goes-on}
+use Rattle.device_packet.proofs.Split.{SameAsOne, with-room, goes-on}
 use borrow.Author.Needs.{needs}
 use Rattle.device_packet.proofs.answer.Statement.{statement}
 use Rattle.device_packet.proofs.answer.Tie as tie
@@ -52,8 +49,11 @@ both r =
 carry-out-requires : tie.Need-carry-out-requires
 carry-out-requires c κs = search needs
 
-enum-known-refused : tie.Need-enum-known-refused
-enum-known-refused c = search needs
+enum-told : tie.Need-enum-told
+enum-told c = search needs
+
+enum-told-2 : tie.Need-enum-told-2
+enum-told-2 c = search needs
 
 same-length-4 : tie.Need-same-length-4
 same-length-4 c = search needs
@@ -63,22 +63,17 @@ same-length-5 c = search needs
 
 returns-2 : tie.Need-returns-2
 returns-2 c =
-    let r = c .before .before .before .before .before .before .before in
+    let r = c .before .before .before .before .before .before .before .before in
     let e = r .carry-out .ensures in
     let s = both r in
     let a = r .before .before .before .before .before .before .before .before .args in
     let refusal = packetRefusal (a .table .now) (a .registered) (a .packet .now) (a .body .now) in
     let reply = packetReply (a .table .now) (a .registered) (a .packet .now) (a .body .now) in
-    let q = not-device refusal (r .carry-out .result .refused) (e .0) (λ x h. miss (1 ∷ 2 ∷ []) 0 tt (rw h at (c .match .keys2))) reply (a .out .now) in
-    (q .0 ∙ s .same-answer, (e .1 .1 .0 ∙ s .same-registered, (e .1 .1 .1 .0 ∙ s .same-table, (e .1 .1 .1 .1 ∙ s .same-body, q .1 ∙ s .same-reply))))
+    let q = fault-told refusal (r .carry-out .result .refused) (e .0) _ (c .enum-told2 .given .1) in
+    (q .stops reply (a .out .now) ∙ s .same-answer, (e .1 .1 .0 ∙ s .same-registered, (e .1 .1 .1 .0 ∙ s .same-table, (e .1 .1 .1 .1 ∙ s .same-body, q .leaves (a .out .now) (statusOut reply (a .out .now)) ∙ s .same-reply))))
 
--- the first call leads to the device, which tells
-told : (k : tie.After-known-told) → let r = k .before .before .before .before .before .before .before .before .before in let a = r .before .before .before .before .before .before .before .before .args in
-    repliedAnswer (k .before .refused .given .0 .0) ≡ answeredBy (packetRefusal (a .table .now) (a .registered) (a .packet .now) (a .body .now)) silence
-told k = ap exchangedAnswer (sym (k .before .refused .given .1)) ∙ k .before .before .before .before .before .before .before .before .before .carry-out .ensures .0
-
-enum-told : tie.Need-enum-told
-enum-told c = search needs
+send-requires : tie.Need-send-requires
+send-requires c κs = search needs
 
 same-length-6 : tie.Need-same-length-6
 same-length-6 c = search needs
@@ -86,42 +81,20 @@ same-length-6 c = search needs
 same-length-7 : tie.Need-same-length-7
 same-length-7 c = search needs
 
-returns-3 : tie.Need-returns-3
-returns-3 c =
-    let k = c .before in
-    let r = k .before .before .before .before .before .before .before .before .before in
-    let e = r .carry-out .ensures in
-    let s = both r in
-    let a = r .before .before .before .before .before .before .before .before .args in
-    let refusal = packetRefusal (a .table .now) (a .registered) (a .packet .now) (a .body .now) in
-    let reply = packetReply (a .table .now) (a .registered) (a .packet .now) (a .body .now) in
-    let q = fault-told refusal (k .before .refused .given .0 .0) (told k) (λ n slot h. miss (1 ∷ 2 ∷ 3 ∷ 4 ∷ 5 ∷ 6 ∷ []) 0 tt (rw h at (c .match2 .keys2))) in
-    (q .stops reply (a .out .now) ∙ s .same-answer, (e .1 .1 .0 ∙ s .same-registered, (e .1 .1 .1 .0 ∙ s .same-table, (e .1 .1 .1 .1 ∙ s .same-body, q .leaves (a .out .now) (statusOut reply (a .out .now)) ∙ s .same-reply))))
-
-send-requires : tie.Need-send-requires
-send-requires c κs = search needs
-
 same-length-8 : tie.Need-same-length-8
 same-length-8 c = search needs
 
-same-length-9 : tie.Need-same-length-9
-same-length-9 c = search needs
-
-same-length-10 : tie.Need-same-length-10
-same-length-10 c = search needs
-
-returns-4 : tie.Need-returns-4
-returns-4 c =
+returns-3 : tie.Need-returns-3
+returns-3 c =
     let g = c .before .before in
     let t = g .before .before in
-    let k = t .before .before in
-    let r = k .before .before .before .before .before .before .before .before .before in
+    let r = t .before .before .before .before .before .before .before .before in
     let a = r .before .before .before .before .before .before .before .before .args in
     let e = r .carry-out .ensures in
     let s = both r in
     let refusal = packetRefusal (a .table .now) (a .registered) (a .packet .now) (a .body .now) in
     let reply = packetReply (a .table .now) (a .registered) (a .packet .now) (a .body .now) in
-    let f = no-fault refusal (k .before .refused .given .0 .0) (told k) _ _ (t .enum-told .given .1) in
+    let f = no-fault refusal (r .carry-out .result .refused) (e .0) _ _ (t .enum-told .given .1) in
     let n = goes-on refusal f reply (a .out .now) in
     let q = e .1 .0 in (
       g .send .ensures .0 ∙ ap (λ (x : Reply). withSlot (statusAnswer x (a .out .now)) (x .slot)) q ∙ n .0 ∙ s .same-answer,
@@ -145,16 +118,13 @@ answer-spec =
     same-length-3
     returns
     carry-out-requires
-    enum-known-refused
+    enum-told
+    enum-told-2
     same-length-4
     same-length-5
     returns-2
-    enum-told
+    send-requires
     same-length-6
     same-length-7
-    returns-3
-    send-requires
     same-length-8
-    same-length-9
-    same-length-10
-    returns-4)
+    returns-3)

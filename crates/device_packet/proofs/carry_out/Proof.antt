@@ -1,8 +1,7 @@
 use mathlib.Core.Path.{_≡_, sym, ap, _∙_}
-use mathlib.Core.List.{[], _∷_}
-use types.Run.{miss}
-use Rattle.stuffing.specs.Answers.{unstuffedAnswer, removalRefusal}
-use Rattle.stuffing.proofs.Answers.{Removed, removed, removal-refused}
+use Rattle.answers.proofs.Laws.{refused}
+use Rattle.stuffing.specs.Answers.{removalRefusal}
+use Rattle.stuffing.proofs.Answers.{Removed, removed}
 use Rattle.packet.specs.Packet.{bodyOf}
 use Rattle.device.specs.Answers.{stateRefusal, carriedReply, carriedRegistered, carriedTable}
 use Rattle.device_dispatch.specs.declared.Heard.the-variants.{Packet}
@@ -19,6 +18,9 @@ state-refusal-requires c κs = search needs
 enum-told : tie.Need-enum-told
 enum-told c = search needs
 
+enum-told-2 : tie.Need-enum-told-2
+enum-told-2 c = search needs
+
 first-refusal-requires : tie.Need-first-refusal-requires
 first-refusal-requires c κs = search needs
 
@@ -33,12 +35,11 @@ same-length-2 c = search needs
 
 returns : tie.Need-returns
 returns c =
-    let i = c .before .before .before .before in
+    let i = c .before .before .before .before .before in
     let a = i .before .before .before .before .before .args in
     let d = stateRefusal (a .table .now) (a .registered) in
     let b = removalRefusal (bodyOf (a .packet .now)) (a .body .now) in
-    let q = fault-told d (i .state-refusal .result) (i .state-refusal .ensures)
-    (λ n slot h. miss (1 ∷ 2 ∷ 3 ∷ 4 ∷ 5 ∷ 6 ∷ []) 0 tt (rw h at (c .before .before .before .match .keys2))) in (
+    let q = fault-told d (i .state-refusal .result) (i .state-refusal .ensures) _ (c .before .before .before .enum-told2 .given .1) in (
       c .before .first-refusal .ensures ∙ told-first b d _ q,
       (c .silence .ensures ∙ silences-first b d _ q _, (keeps-first b d _ q _ _, (leaves-first b d _ q _ _ .0, leaves-first b d _ q _ _ .1))),
     )
@@ -46,25 +47,19 @@ returns c =
 unstuff-requires : tie.Need-unstuff-requires
 unstuff-requires c κs = search needs
 
-enum-told-2 : tie.Need-enum-told-2
-enum-told-2 c = search needs
+enum-known-refusal : tie.Need-enum-known-refusal
+enum-known-refusal c = search needs
 
 silence-requires-2 : tie.Need-silence-requires-2
 silence-requires-2 c κs = search needs
-
-enum-told-3 : tie.Need-enum-told-3
-enum-told-3 c = search needs
-
-silence-requires-3 : tie.Need-silence-requires-3
-silence-requires-3 c κs = search needs
 
 enum-known-n : tie.Need-enum-known-n
 enum-known-n c = search needs
 
 -- the removal is done
-gone : (t : tie.After-known-told) → let a = t .before .before .before .before .before .before .before .before .before .before .before .before .before .before .args in
+gone : (t : tie.After-known-told2) → let a = t .before .before .before .before .before .before .before .before .before .before .before .before .before .before .args in
     Removed (bodyOf (a .packet .now)) (a .body .now) (t .before .n .given .0 .0)
-gone t = removed _ _ _ (ap unstuffedAnswer (sym (t .before .n .given .1)) ∙ t .before .before .before .before .before .unstuff .ensures .0)
+gone t = removed _ _ _ (sym (t .before .before .before .before .before .unstuff .ensures .0) ∙ t .before .n .given .1)
 
 id-heard-requires : tie.Need-id-heard-requires
 id-heard-requires c κs = gone c .well
@@ -88,8 +83,10 @@ same-length-4 c = search needs
 
 returns-2 : tie.Need-returns-2
 returns-2 c =
-    let u = c .before .before .before .before .before in
-    let e = removal-refused _ _ 14 (ap unstuffedAnswer (sym (c .before .enum-told2 .given .1)) ∙ u .unstuff .ensures .0) in
+    let u = c .before .before .before .before .before .before in
+    let r = c .before .before .refusal .given in
+    let a = u .before .before .before .before .before .before .before .before .before .args in
+    let e = refused (removalRefusal (bodyOf (a .packet .now)) (a .body .now)) _ _ (sym (u .unstuff .ensures .0) ∙ r .1) in
     (rw e, (rw e (c .silence2 .ensures), (rw e, (rw e, rw e (rw e at (u .unstuff .ensures .1))))))
 
 same-length-5 : tie.Need-same-length-5
@@ -100,18 +97,6 @@ same-length-6 c = search needs
 
 returns-3 : tie.Need-returns-3
 returns-3 c =
-    let u = c .before .before .before .before .before in
-    let e = removal-refused _ _ 13 (ap unstuffedAnswer (sym (c .before .enum-told3 .given .1)) ∙ u .unstuff .ensures .0) in
-    (rw e, (rw e (c .silence3 .ensures), (rw e, (rw e, rw e (rw e at (u .unstuff .ensures .1))))))
-
-same-length-7 : tie.Need-same-length-7
-same-length-7 c = search needs
-
-same-length-8 : tie.Need-same-length-8
-same-length-8 c = search needs
-
-returns-4 : tie.Need-returns-4
-returns-4 c =
     let h = c .before .before .before .before in
     let s = h .before .before .before in
     let t = s .before in
@@ -143,16 +128,15 @@ carry-out-spec =
     (tie.spec
     state-refusal-requires
     enum-told
+    enum-told-2
     first-refusal-requires
     silence-requires
     same-length
     same-length-2
     returns
     unstuff-requires
-    enum-told-2
+    enum-known-refusal
     silence-requires-2
-    enum-told-3
-    silence-requires-3
     enum-known-n
     id-heard-requires
     slice-reshare-prefix-carry-out
@@ -163,7 +147,4 @@ carry-out-spec =
     returns-2
     same-length-5
     same-length-6
-    returns-3
-    same-length-7
-    same-length-8
-    returns-4)
+    returns-3)

@@ -1,7 +1,6 @@
-use mathlib.Core.Path.{ap, _∙_}
+use mathlib.Core.Path.{_∙_}
 use native.Mathlib.Omega.{arith}
 use borrow.Author.Tests.{eq-eqb, ne-eqb}
-use Rattle.device_status.specs.Sending.{writtenAnswer}
 use Rattle.device_status.proofs.Sending.{refuses-id, refuses-count, refuses-room, accepts, fits, goes-out}
 use borrow.Author.Needs.{needs}
 use Rattle.device_status.proofs.send.Statement.{statement}
@@ -35,22 +34,19 @@ returns-4 c =
 write-status-requires : tie.Need-write-status-requires
 write-status-requires c κs = search needs
 
-as-written-requires : tie.Need-as-written-requires
-as-written-requires c κs = search needs
-
 same-length : tie.Need-same-length
 same-length c = search needs
 
 returns-5 : tie.Need-returns-5
 returns-5 c =
-    let w = c .before .before .before in
+    let w = c .before .before in
     let k = w .before .before in
     let a = k .before .before .before .before .before .before .before .before .args in
     let e = accepts (a .reply) (a .out .now) (omega arith) (omega arith) (omega arith) in
     let f = fits (a .reply) (a .out .now) (omega arith) (omega arith) (omega arith) in
     let s = ne-eqb (a .reply .speaks) 0 (k .if4 .left) in
-    let g = goes-out (a .reply) (a .out .now) (omega arith) (omega arith) (omega arith) (w .write-status .result) (w .write-status .ensures .0) in
-    (rw (e, s) (ap writtenAnswer (c .as-written .ensures) ∙ g), rw (e, s) (rw f at (w .write-status .ensures .1)))
+    let g = goes-out (a .reply) (a .out .now) (omega arith) (omega arith) (omega arith) in
+    (w .write-status .ensures .0 ∙ g ∙ rw (e, s), rw (e, s) (rw f at (w .write-status .ensures .1)))
 
 pub send-spec : {M : Type 1} → statement M
 send-spec =
@@ -61,6 +57,5 @@ send-spec =
     returns-3
     returns-4
     write-status-requires
-    as-written-requires
     same-length
     returns-5)

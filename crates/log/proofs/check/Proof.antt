@@ -13,7 +13,7 @@ laid-out-requires : tie.Need-laid-out-requires
 laid-out-requires c κs = search needs
 
 returns : tie.Need-returns
-returns c = sym (wrong-layout _ (sym (c .before .laid-out .ensures) ∙ not-true (c .before .laid-out .result) (c .if1 .taken)))
+returns c = sym (rw (wrong-layout _ (sym (c .before .laid-out .ensures) ∙ not-true (c .before .laid-out .result) (c .if1 .taken))))
 
 index-of-requires : tie.Need-index-of-requires
 index-of-requires c κs = search needs
@@ -24,16 +24,16 @@ index-right-requires c κs = search needs
 returns-2 : tie.Need-returns-2
 returns-2 c = let p = c .before .before .before in
     let f = p .before .before .before .args .file .now in
-    sym
+    sym (rw
     (right-index f (sym (p .before .laid-out .ensures) ∙ not-false (p .before .laid-out .result) (p .if1 .left))
-    (ap (sameNumbers (indexIn f)) (sym (c .before .before .index-of .ensures)) ∙ sym (c .before .index-right .ensures) ∙ c .if2 .taken))
+    (ap (sameNumbers (indexIn f)) (sym (c .before .before .index-of .ensures)) ∙ sym (c .before .index-right .ensures) ∙ c .if2 .taken)))
 
 returns-3 : tie.Need-returns-3
 returns-3 c = let p = c .before .before .before in
     let f = p .before .before .before .args .file .now in
-    sym
+    sym (rw
     (wrong-index f (sym (p .before .laid-out .ensures) ∙ not-false (p .before .laid-out .result) (p .if1 .left))
-    (ap (sameNumbers (indexIn f)) (sym (c .before .before .index-of .ensures)) ∙ sym (c .before .index-right .ensures) ∙ c .if2 .left))
+    (ap (sameNumbers (indexIn f)) (sym (c .before .before .index-of .ensures)) ∙ sym (c .before .index-right .ensures) ∙ c .if2 .left)))
 
 pub check-spec : {M : Type 1} → statement M
 check-spec =

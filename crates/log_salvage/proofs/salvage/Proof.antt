@@ -1,5 +1,6 @@
 use mathlib.Core.Path.{_≡_, refl, sym, ap, _∙_}
 use native.Mathlib.Omega.{arith}
+use Rattle.answers.specs.declared.Refusal.the-variants.{NoRoom, BadLogSize}
 use Rattle.log_kept.proofs.Turns.{told-listed, told-refused}
 use Rattle.log_salvage.proofs.Answer.{too-small, too-large, no-room, no-places, passes, refusing, writing}
 use borrow.Author.Needs.{needs}
@@ -8,15 +9,15 @@ use Rattle.log_salvage.proofs.salvage.Tie as tie
 
 returns : tie.Need-returns
 returns c = let a = c .before .before .before .before .args in
-    refusing (a .file .now) (a .out .now) (a .report .now) 33 (too-small _ _ _ (search needs))
+    refusing (a .file .now) (a .out .now) (a .report .now) BadLogSize (too-small _ _ _ (search needs))
 
 returns-2 : tie.Need-returns-2
 returns-2 c = let a = c .before .before .before .before .before .args in
-    refusing (a .file .now) (a .out .now) (a .report .now) 33 (too-large _ _ _ (search needs) (search needs))
+    refusing (a .file .now) (a .out .now) (a .report .now) BadLogSize (too-large _ _ _ (search needs) (search needs))
 
 returns-3 : tie.Need-returns-3
 returns-3 c = let a = c .before .before .before .before .before .before .args in
-    refusing (a .file .now) (a .out .now) (a .report .now) 13 (no-room _ _ _ (search needs) (search needs) (search needs))
+    refusing (a .file .now) (a .out .now) (a .report .now) NoRoom (no-room _ _ _ (search needs) (search needs) (search needs))
 
 sort-requires : tie.Need-sort-requires
 sort-requires c κs = search needs
@@ -53,7 +54,7 @@ returns-5 : tie.Need-returns-5
 returns-5 c = let a = c .before .before .before .before .before .before .before .before .before .before .before .before .args in
     let s = c .before .before .before .before .sort in
     let t = told-refused (a .file .now) (a .report .now) (sym (s .ensures .0) ∙ c .enum-told .given .1) in
-    let r = refusing (a .file .now) (a .out .now) (a .report .now) 13 (no-places _ _ _ (search needs) (search needs) (search needs) (t .0)) in
+    let r = refusing (a .file .now) (a .out .now) (a .report .now) NoRoom (no-places _ _ _ (search needs) (search needs) (search needs) (t .0)) in
     (r .0, (r .1 .0, s .ensures .1 ∙ t .1 ∙ r .1 .1))
 
 pub salvage-spec : {M : Type 1} → statement M

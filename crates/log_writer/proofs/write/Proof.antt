@@ -1,6 +1,7 @@
 use mathlib.Core.Path.{_≡_, refl, sym, _∙_}
 use native.Mathlib.Omega.{arith}
 use borrow.Author.Tests.{not-true, not-false, eqb-true}
+use Rattle.answers.specs.declared.Refusal.the-variants.{BadLog, NoRoom}
 use Rattle.log_writer.proofs.Parts.{refused-sum, refused-long, refused-room, not-refused, refusing, writing, written-length}
 use borrow.Author.Needs.{needs}
 use Rattle.log_writer.proofs.write.Statement.{statement}
@@ -11,13 +12,13 @@ adds-up-requires c κs = search needs
 
 returns : tie.Need-returns
 returns c = let a = c .before .before .before .before .before .args in
-    refusing (a .bytes .now) (a .lengths .now) (a .out .now) 31
+    refusing (a .bytes .now) (a .lengths .now) (a .out .now) BadLog
     (refused-sum _ _ _ (sym (c .before .adds-up .ensures) ∙ not-true (c .before .adds-up .result) (c .if1 .taken)))
 
 returns-2 : tie.Need-returns-2
 returns-2 c = let a = c .before .before .before .before .before .before .args in
     let p = c .before in
-    refusing (a .bytes .now) (a .lengths .now) (a .out .now) 31
+    refusing (a .bytes .now) (a .lengths .now) (a .out .now) BadLog
     (refused-long _ _ _ (sym (p .before .adds-up .ensures) ∙ not-false (p .before .adds-up .result) (p .if1 .left)) (omega (arith, c .if2 .taken)))
 
 mul-first : tie.Need-mul-first
@@ -32,7 +33,7 @@ sub-if3 c = search needs
 returns-3 : tie.Need-returns-3
 returns-3 c = let a = c .before .before .before .before .before .before .before .args in
     let p = c .before .before in
-    refusing (a .bytes .now) (a .lengths .now) (a .out .now) 31
+    refusing (a .bytes .now) (a .lengths .now) (a .out .now) BadLog
     (refused-long _ _ _ (sym (p .before .adds-up .ensures) ∙ not-false (p .before .adds-up .result) (p .if1 .left)) (omega (arith, c .if3 .taken)))
 
 add-if4 : tie.Need-add-if4
@@ -41,7 +42,7 @@ add-if4 c = search needs
 returns-4 : tie.Need-returns-4
 returns-4 c = let a = c .before .before .before .before .before .before .before .before .args in
     let p = c .before .before .before in
-    refusing (a .bytes .now) (a .lengths .now) (a .out .now) 13
+    refusing (a .bytes .now) (a .lengths .now) (a .out .now) NoRoom
     (refused-room _ _ _ (sym (p .before .adds-up .ensures) ∙ not-false (p .before .adds-up .result) (p .if1 .left))
     (omega (arith, c .before .if3 .left, c .before .before .if2 .left)) (omega (arith, c .if4 .taken)))
 
@@ -49,8 +50,8 @@ put-log-requires : tie.Need-put-log-requires
 put-log-requires c κs = let p = c .before .before .before .before in
     (eqb-true _ _ (sym (p .before .adds-up .ensures) ∙ not-false (p .before .adds-up .result) (p .if1 .left)), omega (arith, c .before .if4 .left))
 
-add-t8 : tie.Need-add-t8
-add-t8 c = search needs
+add-t10 : tie.Need-add-t10
+add-t10 c = search needs
 
 same-length : tie.Need-same-length
 same-length c = search needs
@@ -78,6 +79,6 @@ write-spec =
     add-if4
     returns-4
     put-log-requires
-    add-t8
+    add-t10
     same-length
     returns-5)

@@ -12,13 +12,13 @@ use Rattle.numbers.proofs.carried_packet.Tie as tie
 abbrev numbers : ℤ → Reply → RegisteredWrite → CarriedNumbers
 numbers refusal reply w = record { refusal = refusal; reply = reply; registered = w }
 
-exchanged-refusal-requires : tie.Need-exchanged-refusal-requires
-exchanged-refusal-requires c κs = search needs
+replied-refusal-requires : tie.Need-replied-refusal-requires
+replied-refusal-requires c κs = search needs
 
 returns : tie.Need-returns
 returns c =
     let a = c .before .before .before .args .answer in
-    ap (λ (z : ℤ). numbers z (a .reply) (a .registered)) (toZ-ofZ {w = w64} (record { sfits = c .exchanged-refusal .ok }) ∙ c .exchanged-refusal .ensures)
+    ap (λ (z : ℤ). numbers z (a .reply) (a .registered)) (toZ-ofZ {w = w64} (record { sfits = c .replied-refusal .ok }) ∙ c .replied-refusal .ensures)
 
 pub carried-packet-spec : {M : Type 1} → statement M
-carried-packet-spec = tie.close (tie.spec exchanged-refusal-requires returns)
+carried-packet-spec = tie.close (tie.spec replied-refusal-requires returns)

@@ -12,14 +12,14 @@ use Rattle.numbers.proofs.figures.Tie as tie
 abbrev numbers : Figures → ℤ → ℕ → SalvagedNumbers
 numbers f count header = record { count = count; dropped = f .dropped; index = f .index; leftover = f .leftover; header = header }
 
-count-requires : tie.Need-count-requires
-count-requires c κs = search needs
+exported-count-requires : tie.Need-exported-count-requires
+exported-count-requires c κs = search needs
 
 flag-requires : tie.Need-flag-requires
 flag-requires c κs = search needs
 
 returns : tie.Need-returns
-returns c = ap₂ (numbers (c .before .before .args .f)) (toZ-ofZ {w = w64} (record { sfits = c .before .count .ok }) ∙ c .before .count .ensures) (c .flag .ensures)
+returns c = ap₂ (numbers (c .before .before .args .f)) (toZ-ofZ {w = w64} (record { sfits = c .before .exported-count .ok }) ∙ c .before .exported-count .ensures) (c .flag .ensures)
 
 pub figures-spec : {M : Type 1} → statement M
-figures-spec = tie.close (tie.spec count-requires flag-requires returns)
+figures-spec = tie.close (tie.spec exported-count-requires flag-requires returns)

@@ -97,8 +97,8 @@ write-packet-requires c κs =
     let m = measured (c .before .before .before) in
     (sym (m .1), omega arith, simp (length-take, length-drop) (omega arith))
 
-add-t11 : tie.Need-add-t11
-add-t11 c = search needs
+add-t14 : tie.Need-add-t14
+add-t14 c = search needs
 
 same-length : tie.Need-same-length
 same-length c = search needs
@@ -138,6 +138,6 @@ encode-spec =
     part-write-packet-start
     part-write-packet-end
     write-packet-requires
-    add-t11
+    add-t14
     same-length
     returns-5)

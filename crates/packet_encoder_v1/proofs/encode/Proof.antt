@@ -73,8 +73,8 @@ part-write-packet-end c = search needs
 write-packet-requires : tie.Need-write-packet-requires
 write-packet-requires c κs = search needs
 
-add-t11 : tie.Need-add-t11
-add-t11 c = search needs
+add-t14 : tie.Need-add-t14
+add-t14 c = search needs
 
 same-length : tie.Need-same-length
 same-length c = search needs
@@ -109,6 +109,6 @@ encode-spec =
     part-write-packet-start
     part-write-packet-end
     write-packet-requires
-    add-t11
+    add-t14
     same-length
     returns-5)

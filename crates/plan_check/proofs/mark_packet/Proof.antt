@@ -1,13 +1,12 @@
 use mathlib.Core.Path.{_≡_, refl, sym, subst}
-use mathlib.Core.List.{List, [], _∷_}
+use mathlib.Core.List.{List}
 use Prim.Native.Nat.{ℕ, _≤_}
 use lib.ListN.{length, take}
 use lib.Seq.{length-take-le}
-use types.Run.{miss}
 use Rattle.stuffing.specs.Stuffing.{unstuff}
 use Rattle.packet.specs.Packet.{bodyOf}
 use Rattle.plan_check.specs.Checking.{BodySays}
-use Rattle.plan_check.proofs.Bodies.{counts, body-taken, packet-says}
+use Rattle.plan_check.proofs.Bodies.{never-refused, body-taken, packet-says}
 use borrow.Author.Needs.{needs}
 use Rattle.plan_check.proofs.mark_packet.Statement.{statement}
 use Rattle.plan_check.proofs.mark_packet.Tie as tie
@@ -27,10 +26,15 @@ unstuff-requires c κs = search needs
 enum-known-n : tie.Need-enum-known-n
 enum-known-n c = search needs
 
+enum-told : tie.Need-enum-told
+enum-told c = search needs
+
 returns-2 : tie.Need-returns-2
 returns-2 c =
-    let u = c .before .before in
-    λ g. absurd (miss (1 ∷ 2 ∷ []) 0 tt (rw (counts (u .before .before .before .before .before .before .args .packet .now) _ (g .well) refl (u .unstuff .result) (u .unstuff .ensures .0)) at (c .match .keys2)))
+    let u = c .before .before .before in
+    λ g. absurd
+    (never-refused (u .before .before .before .before .before .before .args .packet .now) _ (g .well) refl (u .unstuff .result) (u .unstuff .ensures .0) _
+    (c .enum-told .given .1))
 
 -- the buffer, once the body is in it
 taken : (k : tie.After-known-told) → let u = k .before .before .before .before in let n = k .before .n .given .0 .0 in
@@ -72,6 +76,7 @@ mark-packet-spec =
     slice-aggregate-unstuff
     unstuff-requires
     enum-known-n
+    enum-told
     returns-2
     slice-aggregate-body
     slice-aggregate-mark-body

@@ -1,10 +1,11 @@
-use mathlib.Core.Path.{_≡_, sym, ap, _∙_}
+use mathlib.Core.Path.{_≡_, sym, _∙_}
 use mathlib.Core.Option.{none}
 use Prim.Native.Nat.{_+_, _*_, _/_, _≤_}
 use native.Mathlib.Omega.{arith}
 use lib.ListN.{length}
 use borrow.Author.Tests.{le-leb, lt-leb}
-use Rattle.plan.specs.Goals.{goalsRefusal, goalsAnswer}
+use Rattle.answers.proofs.Laws.{counted, refused}
+use Rattle.plan.specs.Goals.{goalsRefusal}
 use Rattle.plan.specs.Planner.{planOf, planRefusal}
 use Rattle.plan.proofs.Wanted.{goals-counted}
 use Rattle.plan_writer.proofs.Sending.{entries-good, count-few, size-is}
@@ -18,19 +19,16 @@ test-goals-requires c κs = search needs
 enum-told : tie.Need-enum-told
 enum-told c = search needs
 
-returns : tie.Need-returns
-unfolding planRefusal
-returns c = let e = sym (c .before .before .test-goals .ensures) ∙ ap goalsAnswer (c .enum-told .given .1) in (rw e, rw e)
-
 enum-told-2 : tie.Need-enum-told-2
 enum-told-2 c = search needs
 
-returns-2 : tie.Need-returns-2
+returns : tie.Need-returns
 unfolding planRefusal
-returns-2 c = let e = sym (c .before .before .test-goals .ensures) ∙ ap goalsAnswer (c .enum-told2 .given .1) in (rw e, rw e)
-
-enum-told-3 : tie.Need-enum-told-3
-enum-told-3 c = search needs
+returns c =
+    let k = c .before .before in
+    let r = c .enum-told2 .given in
+    let e = refused (goalsRefusal (k .before .before .args .goals .now)) 0 _ (sym (k .test-goals .ensures) ∙ r .1) in
+    (r .1 ∙ rw e, rw e)
 
 count-wanted-requires : tie.Need-count-wanted-requires
 count-wanted-requires c κs = search needs
@@ -38,7 +36,9 @@ count-wanted-requires c κs = search needs
 -- the goals are not refused, and the size is the plan's
 module _ (k : tie.After-count-wanted) where
   good : goalsRefusal (k .before .before .before .before .before .args .goals .now) ≡ none
-  good = sym (k .before .before .before .test-goals .ensures) ∙ ap goalsAnswer (k .before .enum-told3 .given .1)
+  good =
+      let g = k .before .before .before in
+      counted (goalsRefusal (g .before .before .args .goals .now)) 0 _ (sym (g .test-goals .ensures) ∙ k .before .enum-told .given .1) .0
 
   few : k .count-wanted .result ≤ 253
   few = count-few (k .before .before .before .before .before .args .goals .now) good (k .count-wanted .result) (k .count-wanted .ensures)
@@ -58,9 +58,9 @@ mul-size-2 c = let f = few c in omega arith
 add-size-2 : tie.Need-add-size-2
 add-size-2 c = let f = few c in omega arith
 
-returns-3 : tie.Need-returns-3
+returns-2 : tie.Need-returns-2
 unfolding planRefusal
-returns-3 c =
+returns-2 c =
     let k = c .before in
     let a = k .before .before .before .before .before .args in
     let l = lt-leb (length (planOf (a .goals .now))) (length (a .out .now)) (omega (arith, size k, c .if1 .taken)) in
@@ -75,9 +75,9 @@ write-packets-requires c κs =
 same-length : tie.Need-same-length
 same-length c = search needs
 
-returns-4 : tie.Need-returns-4
+returns-3 : tie.Need-returns-3
 unfolding planRefusal
-returns-4 c =
+returns-3 c =
     let k = c .before .before .before .before .before in
     let a = k .before .before .before .before .before .args in
     let l = le-leb (length (planOf (a .goals .now))) (length (a .out .now)) (omega (arith, size k, c .before .before .before .before .if1 .left)) in
@@ -89,16 +89,14 @@ write-plan-spec =
     (tie.spec
     test-goals-requires
     enum-told
-    returns
     enum-told-2
-    returns-2
-    enum-told-3
+    returns
     count-wanted-requires
     add-size
     mul-size
     mul-size-2
     add-size-2
-    returns-3
+    returns-2
     write-packets-requires
     same-length
-    returns-4)
+    returns-3)

@@ -5,7 +5,7 @@ use native.Mathlib.Omega.{arith}
 use lib.ListN.{length}
 use lib.Seq.{take-all}
 use borrow.Author.Tests.{le-leb, lt-leb}
-use Rattle.lists.specs.Answer.{count}
+use Rattle.answers.specs.declared.Answer.the-variants.{Count}
 use Rattle.lists.specs.Write.{overwritten}
 use Rattle.stuffing.specs.Stuffing.{wellStuffed, unstuff}
 use Rattle.stuffing.specs.Answers.{removalRefusal}
@@ -63,7 +63,7 @@ returns-3 c =
     let l = le-leb (length (unstuff (a .body .now))) (length (a .out .now)) (omega arith) in
     let same = unstuff-same (a .body .now) (g .0) (omega arith) in
     let all = take-all (length (a .out .now) - 0) (a .body .now) (omega arith) in (
-      rw (g .0, l) (ap count (sym (g .1))),
+      rw (g .0, l) (ap Count (sym (g .1))),
       rw (g .0, l) (c .before .before .place .ensures ∙ ap (overwritten (a .out .now)) (all ∙ sym same)),
     )
 
@@ -77,7 +77,7 @@ returns-4 c =
     let a = t .before .before .before .before .before .before .args in
     let g = good t in
     let l = le-leb (length (unstuff (a .body .now))) (length (a .out .now)) (omega arith) in
-    (rw (g .0, l) (ap count (sym (g .1))), rw (g .0, l) (c .before .before .write-unstuffed .ensures))
+    (rw (g .0, l) (ap Count (sym (g .1))), rw (g .0, l) (c .before .before .write-unstuffed .ensures))
 
 pub unstuff-into-spec : {M : Type 1} → statement M
 unstuff-into-spec =

@@ -2,7 +2,7 @@ use mathlib.Core.Path.{_≡_, sym, ap, _∙_}
 use mathlib.Core.Option.{Option, none}
 use Prim.Native.Nat.{ℕ}
 use borrow.Author.Tests.{not-true, not-false}
-use Rattle.lists.specs.Answer.{unlessRefused}
+use Rattle.answers.specs.Refusals.{unlessRefused}
 use Rattle.buffers.proofs.Parts.{placed-whole}
 use Rattle.table_rules.specs.Rules.{stored, writeRule}
 use Rattle.table_rules.specs.Outcomes.{inTable}

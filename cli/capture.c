@@ -47,24 +47,31 @@ static int next_character(struct capture *capture)
     return *capture->at++;
 }
 
-static int is_text(int byte)
+/* How many bytes the character of a text has that begins there; 0 if none does. */
+static size_t text_at(const uint8_t *bytes)
 {
-    return (byte >= 0x20 && byte < 0x7F) || byte == '\t' || byte == '\r' || byte == '\n';
+    return *bytes == '\t' || *bytes == '\r' || *bytes == '\n' ? 1 : printable((const char *)bytes);
 }
 
-/* A capture that begins with nothing but printed characters is text; a packet begins with FF. */
+/* A capture that begins with nothing but printed characters is text; a packet begins with FF. The mark EF BB BF before a text is no
+ * part of it. */
 static int look(struct capture *capture)
 {
-    size_t before;
+    size_t before, width;
     do {
         before = capture->left;
         if (!refill(capture))
             return 0;
     } while (capture->left < LOOK && capture->left > before);
     capture->text = capture->left > 0;
-    for (size_t i = 0; i < capture->left && i < LOOK; i++)
-        if (!is_text(capture->at[i]))
-            capture->text = 0;
+    for (size_t i = 0; capture->text && i < capture->left && i < LOOK; i += width) {
+        width = text_at(capture->at + i);
+        capture->text = width > 0;
+    }
+    if (capture->text && capture->left >= 3 && memcmp(capture->at, "\xEF\xBB\xBF", 3) == 0) {
+        capture->at += 3;
+        capture->left -= 3;
+    }
     return 1;
 }
 
@@ -210,7 +217,7 @@ static int next_token(struct capture *capture)
         capture->at--;
         capture->left++;
     }
-    return n < TOKEN ? 1 : wrong_line(capture, "a longer word than a time or bytes in hex");
+    return n < TOKEN ? 1 : wrong_line(capture, "a longer word than 4095 characters");
 }
 
 /* Whether the first token says what the text is: pairs of digits are bytes, any other number is a time. */
@@ -224,12 +231,13 @@ static int decides(struct capture *capture)
     return capture->decided;
 }
 
-/* Words in the first line are a heading. */
+/* Words in the first line are a heading; what begins like a number is none, but a time or bytes that are wrong. */
 static int begin_text(struct capture *capture)
 {
     if (decides(capture))
         return 1;
-    int answer = capture->line == 0 ? skip_line(capture) : NOTHING_LEFT;
+    int heading = capture->line == 0 && strchr("+-.0123456789", capture->token[0]) == NULL;
+    int answer = heading ? skip_line(capture) : NOTHING_LEFT;
     if (answer == '\n')
         answer = next_token(capture);
     if (answer == UNREADABLE || (answer == 1 && decides(capture)))
@@ -300,16 +308,20 @@ static void take_byte(struct capture *capture, struct block *block, int byte)
     capture->begun = 1;
 }
 
-/* Up to the next gap: a byte behind it is carried into the next block. */
+/* Up to the next gap: a byte behind it is carried into the next block. The bytes before a wrong line are read. */
 static int next_text(struct capture *capture, struct block *block)
 {
+    if (capture->broken)
+        return 0;
     if (capture->carried >= 0)
         take_byte(capture, block, capture->carried);
     capture->carried = -1;
     while (block->n < BLOCK) {
         int byte = next_byte(capture);
-        if (byte == UNREADABLE)
-            return 0;
+        if (byte == UNREADABLE) {
+            capture->broken = 1;
+            return block->n > 0;
+        }
         if (byte == NOTHING_LEFT) {
             block->gap = block->end = 1;
             return 1;

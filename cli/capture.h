@@ -4,7 +4,7 @@
 
 #include "words.h"
 
-enum { BLOCK = 65536, TOKEN = 40 };
+enum { BLOCK = 65536, TOKEN = 4096 };
 
 struct block {
     uint8_t bytes[BLOCK];
@@ -19,6 +19,8 @@ struct capture {
     int file;          /* -1 where the bytes are in memory */
     int text, timed;   /* hex in lines; and each line begins with a time */
     int decided;       /* whether it does is known */
+    int broken;        /* a line of the text is wrong, and it was said */
+    uint64_t segment;  /* the number of the first segment */
     int64_t gap, byte_time;
     const uint8_t *at; /* what was read, or the memory */
     size_t left;

@@ -21,9 +21,9 @@ struct exchange {
 /* Who is there to answer a Ping to all devices is not known. */
 enum { NOBODY, HAS_TO, MAY };
 
-/* The last bad checksum, which may be answered too, and may stand for a reply. */
+/* The last bad checksum of an ID, which may be answered too, and may stand for a reply. */
 struct bad {
-    int there, id;
+    int there;
     uint64_t offset;
     int64_t ended;
 };
@@ -34,7 +34,7 @@ struct teller {
     void *hearer;
     struct totals *totals;
     struct exchange exchange;
-    struct bad bad;
+    struct bad bad[IDS];
     struct meaning meaning;
 };
 
@@ -106,10 +106,10 @@ static void find_data(const struct protocol *protocol, const struct exchange *ex
 static void pair(struct teller *teller, struct event *event)
 {
     struct exchange *exchange = &teller->exchange;
-    struct bad *bad = &teller->bad;
     unsigned id = event->item->id;
+    struct bad *bad = &teller->bad[id];
     int checksum = is_second(teller->protocol) && (teller->meaning.code & 0x7F) == DXL_ERROR_CHECKSUM;
-    if (checksum && bad->there && bad->id == (int)id) {
+    if (checksum && bad->there) {
         event->answers = TO_BAD_CHECKSUM;
         event->asked = bad->offset;
         event->asked_name = "bad checksum";
@@ -142,8 +142,8 @@ static int tell_missing(struct teller *teller, uint64_t offset, int64_t until)
             continue;
         struct event event = {.offset = offset, .id = id, .asked = exchange->offset, .asked_name = exchange->name, .time = until};
         event.delay = until - exchange->ended;
-        event.damaged = teller->bad.there && teller->bad.id == id && teller->bad.offset > exchange->offset;
-        event.damaged_at = teller->bad.offset;
+        event.damaged = teller->bad[id].there && teller->bad[id].offset > exchange->offset;
+        event.damaged_at = teller->bad[id].offset;
         exchange->answers[id] = NOBODY;
         teller->totals->missing++;
         goes_on = tell(teller, &event);
@@ -162,7 +162,7 @@ static int hear_packet(struct teller *teller, struct event *event)
         take_as_status(meaning);
     if (meaning->status) {
         pair(teller, event);
-        teller->totals->errors += meaning->code != 0;
+        teller->totals->errors += (unsigned)is_trouble(event);
         return tell(teller, event);
     }
     if (!tell_missing(teller, item->offset, item->first))
@@ -177,7 +177,7 @@ static int hear_bad_checksum(struct teller *teller, struct event *event)
     teller->totals->bad++;
     if (find_meaning(teller->protocol, item->bytes, item->n, &teller->meaning))
         event->meaning = &teller->meaning;
-    teller->bad = (struct bad){1, item->id, item->offset, item->last};
+    teller->bad[item->id] = (struct bad){1, item->offset, item->last};
     return tell(teller, event);
 }
 

@@ -32,10 +32,11 @@ static const char HELP[] =
 static const char HELP_WRITE[] =
     "usage: dxl log write OUT CAPTURE...\n"
     "\n"
-    "Writes a log of the captures to OUT. Each CAPTURE is a file with the bytes of one segment, and they are numbered from 0 in the\n"
-    "order given. An OUT that is there is replaced once the new log is complete; until then it stays, and whatever goes wrong leaves\n"
-    "it as it was. A link is replaced itself. All captures together may have some 4 gigabytes, and must not change meanwhile; where\n"
-    "there are several, a copy of them is kept in the folder of OUT until the log is written.\n";
+    "Writes a log of the captures to OUT. Each CAPTURE is a file with the raw bytes of one segment (text is not read as hex\n"
+    "here), and they are numbered from 0 in the order given. An OUT that is there is replaced once the new log is complete; until then\n"
+    "it stays, and whatever goes wrong leaves it as it was. A link is replaced itself. All captures together may have some 4\n"
+    "gigabytes, and must not change meanwhile; where there are several, a copy of them is kept in the folder of OUT until the log is\n"
+    "written.\n";
 
 static const char HELP_CHECK[] =
     "usage: dxl log check LOG\n"
@@ -148,6 +149,8 @@ static int log_write(const struct options *options, int n, char **words)
     begin_work("writing the log");
     int status = write_log(words[0], &captures);
     end_work();
+    free(captures.files);
+    free(captures.lengths);
     return status;
 }
 
@@ -186,12 +189,11 @@ static int map_log(const char *name, struct mapped *log)
     return answer >= 0 || refuse_log(name, log, answer);
 }
 
-/* The bytes of the segment that the words LOG and N name: DONE, or how the program ends. */
-static int find_segment(const char *help, char **words, struct mapped *log, const uint8_t **bytes, size_t *n)
+/* Number and bytes of the segment that the words LOG and N name: DONE, or how the program ends. */
+static int find_segment(const char *help, char **words, struct mapped *log, uint32_t *number, const uint8_t **bytes, size_t *n)
 {
     char text[80];
-    uint32_t number;
-    const char *name = words[0], *why = parse_number(words[1], &number);
+    const char *name = words[0], *why = parse_number(words[1], number);
     if (why != NULL) {
         say_failure(words[1], why);
         return usage(help);
@@ -199,12 +201,12 @@ static int find_segment(const char *help, char **words, struct mapped *log, cons
     if (!map_log(name, log))
         return FAILED;
     uint32_t segments = number_at(log->bytes);
-    if (number < segments) {
-        *bytes = log->bytes + number_at(entry_at(log, number));
-        *n = number_at(entry_at(log, number) + 4);
+    if (*number < segments) {
+        *bytes = log->bytes + number_at(entry_at(log, *number));
+        *n = number_at(entry_at(log, *number) + 4);
         return DONE;
     }
-    snprintf(text, sizeof text, "no segment %" PRIu32 ": it has %" PRIu32 ", numbered from 0", number, segments);
+    snprintf(text, sizeof text, "no segment %" PRIu32 ": it has %" PRIu32 ", numbered from 0", *number, segments);
     say_failure(file_name(name), text);
     return NO;
 }
@@ -215,11 +217,13 @@ static int log_show(const struct options *options, int n, char **words)
     struct mapped log;
     struct capture capture;
     const uint8_t *bytes;
+    uint32_t number;
     size_t count;
-    int status = find_segment(HELP_SHOW_LOG, words, &log, &bytes, &count);
+    int status = find_segment(HELP_SHOW_LOG, words, &log, &number, &bytes, &count);
     if (status != DONE)
         return status;
     open_memory(file_name(words[0]), bytes, count, &capture);
+    capture.segment = number;
     return printed(show_capture(&capture, options));
 }
 
@@ -229,8 +233,9 @@ static int log_extract(const struct options *options, int n, char **words)
     struct mapped log;
     struct output output;
     const uint8_t *bytes;
+    uint32_t number;
     size_t count;
-    int status = find_segment(HELP_EXTRACT, words, &log, &bytes, &count);
+    int status = find_segment(HELP_EXTRACT, words, &log, &number, &bytes, &count);
     if (status != DONE)
         return status;
     if (!may_be_written(words[2]))

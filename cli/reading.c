@@ -220,6 +220,8 @@ int read_items(struct capture *capture, const struct protocol *protocol, int (*h
     struct block *block = malloc(sizeof *block);
     int good = listener != NULL && block != NULL;
     *total = 0;
+    if (listener != NULL)
+        listener->segment = capture->segment;
     if (!good)
         say_failure(capture->name, "no memory");
     while (good && listener->goes_on) {

@@ -88,8 +88,13 @@ static void warn_of_count(const struct cut_log *log)
 {
     char why[120];
     uint32_t count = number_at(log->file.bytes), place = number_at(log->file.bytes + 12);
-    if ((uint64_t)place == LOG_HEADER + DXL_LOG_ENTRY * (uint64_t)count)
+    if ((uint64_t)place == LOG_HEADER + DXL_LOG_ENTRY * (uint64_t)count) {
+        snprintf(why, sizeof why, "warning: its header counts %" PRIu32 " segments, and the file ends behind the entries of %zu", count,
+                 log->numbers / 2);
+        if (log->numbers / 2 < count)
+            say_failure(file_name(log->name), why);
         return;
+    }
     int tells = place >= LOG_HEADER && (place - LOG_HEADER) % DXL_LOG_ENTRY == 0;
     if (tells)
         snprintf(why, sizeof why, "warning: its header counts %" PRIu32 " segments, and the place of its index tells %" PRIu32, count,

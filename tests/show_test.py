@@ -373,7 +373,7 @@ class Times(Folder):
         """Comma or blank, one byte or many in a line, 0x, a heading, comments, ends of lines."""
         whole = "".join(f"{time} {data.hex(' ')}\n" for time, data in self.LINES)
         bytes_ = "".join(f"{time:.7f},0x{byte:02X},,\r\n" for time, data in self.LINES for byte in data)
-        for text in [whole, whole.upper(), whole.rstrip("\n"), whole.replace(" ", "\t"), whole.replace(" ", ", "), "# a log\n\n" + whole, "Time [s],Value,Parity\n" + whole,
+        for text in [whole, whole.upper(), whole.rstrip("\n"), whole.replace(" ", "\t"), whole.replace(" ", ", "), "# a log\n\n" + whole, "Time [s],Value,Parity\n" + whole, ("\ufeff" + whole).encode(), ("Time [\u00b5s]\n" + whole).encode(),
                      bytes_, "Time [s],Value,Parity Error,Framing Error\r\n" + bytes_, whole.replace("0.001 ", "1e-3 ").replace("0.0015", "+15.0E-4"),
                      "".join(f"{time}; {data.hex()[:20]} {data.hex()[20:]}  # a packet\n" for time, data in self.LINES)]:
             with self.subTest(text[:30]):
@@ -391,7 +391,8 @@ class Times(Folder):
                                 ("hello\n", 2, "neither a time in seconds nor bytes in hex; --raw takes the file as it is"),
                                 ("hello", 1, "neither a time in seconds nor bytes in hex; --raw takes the file as it is"),
                                 ("FF F\nFF FFF", 2, "not bytes in hex"), ("FF 0x\n", 1, "not bytes in hex"),
-                                ("0.1 " + "F" * 50, 1, "a longer word than a time or bytes in hex"),
+                                ("0.1 " + "F" * 4096, 1, "a longer word than 4095 characters"),
+                                ("1.2.3 FF\n0.1 FF\n", 1, "neither a time in seconds nor bytes in hex; --raw takes the file as it is"),
                                 ("0.1 FF\n1e99 FF", 2, "it does not begin with a time in seconds"),
                                 ("0.1 FF\n0.2 FF\n1.2.3 FF", 3, "it does not begin with a time in seconds"),
                                 ("# x\nTime\nText\n", 2, "neither a time in seconds nor bytes in hex; --raw takes the file as it is")]:
@@ -399,6 +400,8 @@ class Times(Folder):
                 capture = self.file("capture", text)
                 code, _, err = run("show", capture)
                 self.assertEqual((code, err), (FAILED, f"dxl: {capture}:{line}: {why}\n"))
+        code, out, _ = run("show", self.file("capture", packet(1, PING).hex() + "\nFG\n"))  # what stands before it is shown
+        self.assertEqual((code, out.split()[1:]), (FAILED, [">", "ID", "1", "Ping"]))
 
     # [L14]
     def test_raw_or_text(self):

@@ -21,7 +21,7 @@ use Rattle.reading.specs.Across.{reachesAcross}
 use Rattle.reading.proofs.Across.{across-decided}
 use Rattle.reading.proofs.Decided.{EachPacket, all-well}
 use Rattle.packet_front.specs.Front.{lengthOf, idOf}
-use Rattle.packet_front.specs.Begun.{frontAgrees, lengthAgrees}
+use Rattle.packet_front.specs.Header.{frontAgrees, lengthAgrees}
 use Rattle.packet.specs.Packet.{bodyOf, checksumRight}
 use Rattle.packet.specs.Verdict.{protocol2}
 use Rattle.packet.proofs.Laws.{laws}

@@ -1,4 +1,4 @@
--- Bytes moved within and between buffers: one turn of each loop, and what it comes to at the end.
+-- Bytes moved within and between buffers: one round of each loop, and what it comes to at the end.
 use mathlib.Core.Path.{_≡_, refl, sym, ap, ap₂, _∙_}
 use mathlib.Core.List.{List, _++_, append-nil, append-assoc}
 use Prim.Native.Nat.{ℕ, _+_, _-_, _≤_, _<_, min}

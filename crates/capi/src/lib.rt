@@ -14,13 +14,13 @@ ghost use mathlib.Core.Path.{_≡_};
 ghost use mathlib.Core.List.{_∷_};
 ghost use Rattle.answers.specs.Answers.{answered, exported};
 ghost use Rattle.crc.specs.Crc.{crcFrom};
-ghost use Rattle.crc.specs.Laws.{SumLaws};
-ghost use Rattle.crc.specs.Flips.{flippedSum, Flipped};
+ghost use Rattle.crc.specs.Laws.{ChecksumLaws};
+ghost use Rattle.crc.specs.Flips.{flippedChecksum, FlippedChecksum};
 ghost use Rattle.stuffing.specs.Answers.{removalAnswer, removalOut};
 ghost use Rattle.packet_encoder.specs.Encoding.{encodeAnswer, encodeOut};
 ghost use Rattle.packet_encoder.specs.RoundTrip.{RoundTrip};
 ghost use Rattle.table_rules.specs.Outcomes.{sizeRefusal};
-ghost use Rattle.table_rules.specs.Fence.{Fence};
+ghost use Rattle.table_rules.specs.LimitTests.{LimitTests};
 ghost use Rattle.table_access.specs.Answers.{freshOut, measureOut};
 ghost use Rattle.reading.specs.Calls.{feed as Call·feed, gap as Call·gap};
 ghost use Rattle.packet.specs.Burst.{BurstDetected};
@@ -58,7 +58,7 @@ ghost use Rattle.capi.specs.Plans.{CheckSays};
 #[no_mangle]
 pub extern "C" fn dxl_crc16(start: u16, bytes: &[u8]) -> u16
     ensures { λ crc. ⌜ crc ≡ crcFrom start (now (bytes .entry)) ⌝ }
-    ensures { λ _. ⌜ SumLaws ⌝ }
+    ensures { λ _. ⌜ ChecksumLaws ⌝ }
 {
     crc16::update(start, bytes)
 }
@@ -66,8 +66,8 @@ pub extern "C" fn dxl_crc16(start: u16, bytes: &[u8]) -> u16
 // The checksum after bits were flipped, from the one before. That it is the checksum of the changed bytes is promised too. [C9]
 #[no_mangle]
 pub extern "C" fn dxl_crc16_flipped(crc: u16, flips: &[u8], after: usize) -> u16
-    ensures { λ r. ⌜ r ≡ flippedSum crc (now (flips .entry)) after ⌝ }
-    ensures { λ _. ⌜ Flipped ⌝ }
+    ensures { λ r. ⌜ r ≡ flippedChecksum crc (now (flips .entry)) after ⌝ }
+    ensures { λ _. ⌜ FlippedChecksum ⌝ }
 {
     crc16_flips::flipped(crc, flips, after)
 }
@@ -292,7 +292,7 @@ pub extern "C" fn dxl_device(
         (callRegistered (now (table .entry)) registered (heardBy kind) (idOfKind kind id) (now (body .entry)) (now (reply .entry))) ⌝ }
     ensures { λ _. ⌜ (now (table .exit) ≡ callTable (now (table .entry)) registered (heardBy kind) (idOfKind kind id) (now (body .entry)) (now (reply .entry)))
         × (now (reply .exit) ≡ callOut (now (table .entry)) registered (heardBy kind) (idOfKind kind id) (now (body .entry)) (now (reply .entry))) ⌝ }
-    ensures { λ _. ⌜ DevicePromises × StaysAccepted × GoalWithinLimits × Fence ⌝ }
+    ensures { λ _. ⌜ DevicePromises × StaysAccepted × GoalWithinLimits × LimitTests ⌝ }
     ensures { λ r. ⌜ stateOf (now (table .exit)) (r .registered)
         ≡ afterCall (stateOf (now (table .entry)) registered) (Call·device (heardBy kind) (idOfKind kind id) (now (body .entry)) (now (reply .entry))) ⌝ }
 {
@@ -338,7 +338,7 @@ pub extern "C" fn dxl_carry_out(
         (carriedReply (now (table .entry)) registered (heardBy kind) (idOfKind kind id) (now (body .entry)))
         (carriedRegistered (now (table .entry)) registered (heardBy kind) (idOfKind kind id) (now (body .entry))) ⌝ }
     ensures { λ _. ⌜ now (table .exit) ≡ carriedTable (now (table .entry)) registered (heardBy kind) (idOfKind kind id) (now (body .entry)) ⌝ }
-    ensures { λ _. ⌜ DevicePromises × Split × StaysAccepted × GoalWithinLimits × Fence ⌝ }
+    ensures { λ _. ⌜ DevicePromises × Split × StaysAccepted × GoalWithinLimits × LimitTests ⌝ }
     ensures { λ r. ⌜ stateOf (now (table .exit)) (r .registered)
         ≡ afterCall (stateOf (now (table .entry)) registered) (Call·carry (heardBy kind) (idOfKind kind id) (now (body .entry))) ⌝ }
 {

@@ -10,7 +10,7 @@ ghost use Prim.Native.Nat.{min};
 ghost use lib.ListN.{length, take, drop, replicate};
 ghost use Rattle.lists.specs.Write.{overwritten};
 ghost use Rattle.crc.specs.Crc.{crcFrom};
-ghost use Rattle.crc.specs.Laws.{SumLaws};
+ghost use Rattle.crc.specs.Laws.{ChecksumLaws};
 ghost use Rattle.stuffing.specs.Stuffing.{stuff};
 ghost use Rattle.stuffing.specs.Answers.{checked};
 ghost use Rattle.reading.specs.Calls.{feed as Call·feed};
@@ -37,7 +37,7 @@ pub struct VerdictNumbers {
 #[no_mangle]
 pub extern "C" fn dxl_test_crc16_small(start: u16, bytes: &[u8]) -> u16
     ensures { λ crc. ⌜ crc ≡ crcFrom start (now (bytes .entry)) ⌝ }
-    ensures { λ _. ⌜ SumLaws ⌝ }
+    ensures { λ _. ⌜ ChecksumLaws ⌝ }
 {
     crc16_small::update(start, bytes)
 }
@@ -46,7 +46,7 @@ pub extern "C" fn dxl_test_crc16_small(start: u16, bytes: &[u8]) -> u16
 #[no_mangle]
 pub extern "C" fn dxl_test_crc16_fold(start: u16, bytes: &[u8]) -> u16
     ensures { λ crc. ⌜ crc ≡ crcFrom start (now (bytes .entry)) ⌝ }
-    ensures { λ _. ⌜ SumLaws ⌝ }
+    ensures { λ _. ⌜ ChecksumLaws ⌝ }
 {
     crc16_fold::update(start, bytes)
 }

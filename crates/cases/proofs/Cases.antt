@@ -26,7 +26,7 @@ use Rattle.stuffing.specs.Stuffing.{stuffAfter, stuff, wellAfter, wellStuffed, 
 use Rattle.stuffing.specs.Answers.{removalRefusal}
 use Rattle.packet_front.specs.Front.{lengthOf}
 use Rattle.packet.specs.Packet.{bodyOf, checksumRight, WellFormed}
-use Rattle.packet_front.specs.Begun.{frontAgrees, lengthAgrees}
+use Rattle.packet_front.specs.Header.{frontAgrees, lengthAgrees}
 use Rattle.packet.specs.Verdict.{verdict, protocol2}
 use Rattle.packet.proofs.Laws.{laws}
 use Rattle.packet_encoder.specs.Writing.{withChecksum, packetOf}

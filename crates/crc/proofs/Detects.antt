@@ -12,7 +12,7 @@ use Rattle.crc.specs.Crc.{polynomial, reduceIf, shift, shifts, crcByte, 
 use Rattle.crc.specs.Laws.{xorBytes}
 use Rattle.crc.proofs.Linear.{shifts-xor}
 use Rattle.crc.proofs.Shifts.{shifts-low, zeros-shift}
-use Rattle.crc.proofs.Laws.{sum-laws, shift-lt, shifts-lt, crc-lt}
+use Rattle.crc.proofs.Laws.{checksum-laws, shift-lt, shifts-lt, crc-lt}
 use Rattle.crc.proofs.Flips.{flipped, xor-zeros}
 
 -- ---- only 0 is shifted to 0
@@ -103,7 +103,7 @@ few-changed start a d d′ y few n b b′ e =
     sym (xor-twice crc (crcFrom 0 (flips ++ zeros))) ∙ ap (bitXor crc) same ∙ xor-self crc in
     let alone : crcFrom 0 flips ≡ 0 =
     only-zero (length y * 8) (crcFrom 0 flips) (crc-lt 0 flips (omega arith))
-    (sym (sum-laws .joined 0 flips zeros ∙ zeros-shift (length y) (crcFrom 0 flips)) ∙ change) in
+    (sym (checksum-laws .joined 0 flips zeros ∙ zeros-shift (length y) (crcFrom 0 flips)) ∙ change) in
     let none : flips ≡ replicate (length d) 0 =
     few-zeros flips (omega (arith, m)) (difference-bytes d d′ b b′) alone ∙ ap (λ (k : ℕ). replicate k 0) m in
     sym (by-difference d d′ n) ∙ ap (xorBytes d) none ∙ xor-zeros d

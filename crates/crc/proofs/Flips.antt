@@ -7,9 +7,9 @@ use lib.Bits.{bitXor, xor-comm, xor-zero-r}
 use lib.ListN.{length, replicate, length-append, length-replicate}
 use Rattle.crc.specs.Crc.{shifts, crcFrom}
 use Rattle.crc.specs.Laws.{xorBytes}
-use Rattle.crc.specs.Flips.{Flipped}
+use Rattle.crc.specs.Flips.{FlippedChecksum}
 use Rattle.crc.proofs.Shifts.{zeros-shift}
-use Rattle.crc.proofs.Laws.{sum-laws}
+use Rattle.crc.proofs.Laws.{checksum-laws}
 
 pub xor-zeros : (c : List ℕ) → xorBytes c (replicate (length c) 0) ≡ c
 unfolding xorBytes
@@ -21,7 +21,7 @@ pub crc-apart : (c : ℕ) (s : List ℕ) → crcFrom c s ≡ bitXor (shifts (len
 crc-apart c s =
     let zeros : List ℕ = replicate (length s) 0 in
     ap (crcFrom c) (sym (xor-zeros s))
-    ∙ sum-laws .adds 0 c s zeros (simp length-replicate)
+    ∙ checksum-laws .adds 0 c s zeros (simp length-replicate)
     ∙ xor-comm (crcFrom 0 s) (crcFrom c zeros)
     ∙ ap (λ (x : ℕ). bitXor x (crcFrom 0 s)) (zeros-shift (length s) c)
 
@@ -32,12 +32,12 @@ xor-parts [] (y ∷ f) c d e = absurd (omega arith)
 xor-parts (x ∷ b) [] c d e = absurd (omega arith)
 xor-parts (x ∷ b) (y ∷ f) c d e = ap (λ (l : List ℕ). bitXor x y ∷ l) (xor-parts b f c d (omega arith))
 
-pub flipped : Flipped
+pub flipped : FlippedChecksum
 flipped start a b c flips e =
     let zeros : List ℕ = replicate (length c) 0 in
     let same : length (b ++ c) ≡ length (flips ++ zeros) = simp (length-append, length-replicate) (omega arith) in
-    ap (λ (x : ℕ). bitXor x (crcFrom 0 (flips ++ zeros))) (sum-laws .joined start a (b ++ c))
-    ∙ sym (sum-laws .adds (crcFrom start a) 0 (b ++ c) (flips ++ zeros) same)
+    ap (λ (x : ℕ). bitXor x (crcFrom 0 (flips ++ zeros))) (checksum-laws .joined start a (b ++ c))
+    ∙ sym (checksum-laws .adds (crcFrom start a) 0 (b ++ c) (flips ++ zeros) same)
     ∙ ap₂ crcFrom (xor-zero-r (crcFrom start a))
     (xor-parts b flips c zeros e ∙ ap (λ (l : List ℕ). xorBytes b flips ++ l) (xor-zeros c))
-    ∙ sym (sum-laws .joined start a (xorBytes b flips ++ c))
+    ∙ sym (checksum-laws .joined start a (xorBytes b flips ++ c))

@@ -11,7 +11,7 @@ use lib.ListN.{length, getD, drop, drop-of-length-le}
 use lib.Seq.{drop-cons}
 use Rattle.lists.proofs.Xor.{bit-lt}
 use Rattle.crc.specs.Crc.{polynomial, shift, shifts, crcByte, crcFrom}
-use Rattle.crc.specs.Laws.{Joined, xorBytes, Adds, SumLaws}
+use Rattle.crc.specs.Laws.{Joined, xorBytes, Adds, ChecksumLaws}
 use Rattle.crc.proofs.Linear.{shift-flat, crcByte-xor}
 
 joined : Joined
@@ -28,8 +28,8 @@ adds s t (x ∷ a) (y ∷ b) e =
     ap (λ (c : ℕ). crcFrom c (xorBytes a b)) (crcByte-xor s t x y) ∙ adds (crcByte s x) (crcByte t y) a b (omega arith)
 
 -- what a leaf promises beside its result
-pub sum-laws : SumLaws
-sum-laws = record { joined = joined; adds = adds }
+pub checksum-laws : ChecksumLaws
+checksum-laws = record { joined = joined; adds = adds }
 
 pub shift-lt : (c : ℕ) → shift c < 2 ^ 16
 shift-lt c =
@@ -63,7 +63,7 @@ abbrev pub Passed : ℕ → List ℕ → ℕ → ℕ → Type 0
 Passed sum s i c = (c < 2 ^ 16) × (crcFrom c (drop i s) ≡ sum)
 
 module _ (sum : ℕ) (s : List ℕ) (i c : ℕ) (p : Passed sum s i c) where
-  -- a turn: the next bytes go in
+  -- a round: the next bytes go in
   pub pass-part : (part : List ℕ) (j next : ℕ) → drop i s ≡ part ++ drop j s → next ≡ crcFrom c part → Passed sum s j next
   pass-part part j next d e = (
     subst (λ (x : ℕ). x < 2 ^ 16) (sym e) (crc-lt c part (p .0)),

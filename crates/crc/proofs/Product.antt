@@ -32,7 +32,7 @@ by-product (suc n) k y h w =
     ∙ by-product n (suc k) (y / 2) (omega arith) (omega arith)
     ∙ ap (λ (a : ℕ). product n a (y / 2)) (sym (shift-last k 1)))
 
--- a turn of the loop: the lowest bit of b goes in
+-- a round of the loop: the lowest bit of b goes in
 pub product-turn : (n a b : ℕ) → 0 < n → product n a b ≡ bitXor (b % 2 * a) (product (n - 1) (shift a) (b / 2))
 unfolding product
 product-turn zero a b h = absurd (omega arith)

@@ -23,6 +23,6 @@ Adds =
     (s t : ℕ) (a b : List ℕ) → length a ≡ length b
     → crcFrom (bitXor s t) (xorBytes a b) ≡ bitXor (crcFrom s a) (crcFrom t b)
 
-pub record SumLaws : Type 0 where
+pub record ChecksumLaws : Type 0 where
   pub joined : Joined
   pub adds : Adds

@@ -9,7 +9,7 @@ use Rattle.crc.proofs.Shifts.{shifts-add, zeros-shift}
 use Rattle.crc.specs.Product.{product}
 use Rattle.crc.proofs.Product.{by-product}
 
--- at each turn: `power` stands for k shifts, and `left` times k shifts of `sum` are those that were asked for
+-- at each round: `power` stands for k shifts, and `left` times k shifts of `sum` are those that were asked for
 pub record Turn (crc count sum power left : ℕ) : Type 0 where
   pub k : ℕ
   pub small : sum < 2 ^ 16

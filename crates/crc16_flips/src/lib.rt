@@ -2,7 +2,7 @@
 ghost use mathlib.Core.Path.{_≡_};
 ghost use lib.ListN.{replicate};
 ghost use Rattle.crc.specs.Crc.{shift, crcFrom};
-ghost use Rattle.crc.specs.Flips.{flippedSum};
+ghost use Rattle.crc.specs.Flips.{flippedChecksum};
 ghost use Rattle.crc.specs.Product.{product};
 
 // One shift of the register.
@@ -50,7 +50,7 @@ fn after_zeros(crc: u16, count: usize) -> u16
 // The checksum after bits were flipped, from `crc`, the one before: `flips` has a 1 for each flipped bit, and `after` bytes follow
 // those that it covers. [C9]
 pub fn flipped(crc: u16, flips: &[u8], after: usize) -> u16
-    ensures { λ r. ⌜ r ≡ flippedSum crc (now (flips .entry)) after ⌝ }
+    ensures { λ r. ⌜ r ≡ flippedChecksum crc (now (flips .entry)) after ⌝ }
 {
     crc ^ after_zeros(crc16::update(0, flips), after)
 }

@@ -9,7 +9,7 @@ use Rattle.lists.proofs.Xor.{xor-assoc, xor-swap, xor-twice}
 use Rattle.crc.specs.Crc.{reduceIf, shift, shifts, crcFrom}
 use Rattle.crc.specs.Product.{product}
 use Rattle.crc.proofs.Linear.{shifts-xor}
-use Rattle.crc.proofs.Laws.{sum-laws}
+use Rattle.crc.proofs.Laws.{checksum-laws}
 use Rattle.crc.proofs.Flips.{crc-apart}
 use Rattle.crc.proofs.Product.{by-product, product-lt, product-xor, xor-product, product-shifts, product-parts}
 use Rattle.crc16_fold.specs.Fold.{numberPart, parityPart, registerOf, Makes, more}
@@ -103,4 +103,4 @@ module _ (u p r : ℕ) where
       ap (λ (x : ℕ). bitXor x (parityPart (bitXor (bitXor p v) w))) e
       ∙ taken between (bitXor p v) w b n
       ∙ ap (λ (x : ℕ). crcFrom x b) (taken (numberPart u) p v a m)
-      ∙ sym (sum-laws .joined (bitXor (numberPart u) (parityPart p)) a b)
+      ∙ sym (checksum-laws .joined (bitXor (numberPart u) (parityPart p)) a b)

@@ -12,7 +12,7 @@ use Rattle.crc.specs.Crc.{shifts, crcByte, crcFrom}
 use Rattle.crc.specs.Product.{product}
 use Rattle.crc.proofs.Linear.{shifts-xor}
 use Rattle.crc.proofs.Shifts.{shifts-low, shifts-add, shifts-swap}
-use Rattle.crc.proofs.Laws.{sum-laws}
+use Rattle.crc.proofs.Laws.{checksum-laws}
 use Rattle.crc.proofs.Flips.{crc-apart}
 use Rattle.crc.proofs.Product.{product-xor, product-shl}
 use Rattle.crc16_fold.specs.Fold.{Makes}
@@ -39,7 +39,7 @@ makes-joined j s t x y h l m n =
     ∙ ap (shifts k) m)
     n
     ∙ sym (crc-apart (crcFrom 0 s) t)
-    ∙ sym (sum-laws .joined 0 s t)
+    ∙ sym (checksum-laws .joined 0 s t)
 
 pub before-lt : (j k x y : ℕ) → x < 2 ^ j → y < 2 ^ k → before k x y < 2 ^ (j + k)
 before-lt j k x y hx hy =

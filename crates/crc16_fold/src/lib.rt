@@ -1,11 +1,11 @@
-// The checksum of Protocol 2.0 without a table: the same function as that of `crc16`, with the same promise, eight bytes a turn.
+// The checksum of Protocol 2.0 without a table: the same function as that of `crc16`, with the same promise, eight bytes a round.
 // The register is kept as a number and a parity; what they stand for is in specs/Fold.antt, and x is that of the polynomial.
 ghost use mathlib.Core.Path.{_≡_};
 ghost use mathlib.Core.List.{[], _∷_};
 ghost use Prim.Native.Nat.{_^_, _<_};
 ghost use lib.ListN.{drop};
 ghost use Rattle.crc.specs.Crc.{shifts, crcFrom};
-ghost use Rattle.crc.specs.Laws.{SumLaws};
+ghost use Rattle.crc.specs.Laws.{ChecksumLaws};
 ghost use Rattle.crc16_fold.specs.Fold.{numberPart, parityPart, registerOf, Makes, more};
 
 // A shorter number for the same: x^30 is x^2 + 1.
@@ -103,10 +103,10 @@ fn tail(number: u64, parity: u64, bytes: &[u8], from: usize) -> u16
 }
 
 // The register after the bytes, from start, which may be the sum of earlier bytes: the laws of the sum are promised too. The
-// start stands for itself; then eight bytes go in at a turn, and the last ones one by one. [C11]
+// start stands for itself; then eight bytes go in at a round, and the last ones one by one. [C11]
 pub fn update(start: u16, bytes: &[u8]) -> u16
     ensures { λ crc. ⌜ crc ≡ crcFrom start (now (bytes .entry)) ⌝ }
-    ensures { λ _. ⌜ SumLaws ⌝ }
+    ensures { λ _. ⌜ ChecksumLaws ⌝ }
 {
     let mut u = start as u64;
     let mut p = start as u64;

@@ -19,7 +19,7 @@ use Rattle.stuffing.specs.Answers.{removalRefusal}
 use Rattle.reading.specs.Calls.{first, fed, call}
 use Rattle.reading.proofs.Decided.{well}
 use Rattle.packet_front.specs.Front.{goodId, idOf, lengthOf}
-use Rattle.packet_front.specs.Begun.{frontAgrees, lengthAgrees}
+use Rattle.packet_front.specs.Header.{frontAgrees, lengthAgrees}
 use Rattle.packet_rules.specs.Shape.{verdict as shapeVerdict}
 use Rattle.packet.specs.Packet.{bodyOf, checksumRight, WellFormed}
 use Rattle.packet.specs.Verdict.{protocol2}

@@ -12,7 +12,7 @@ use lib.IntN.{ℤ, pos}
 use borrow.Author.Tests.{eq-eqb, lt-ltb, ltb-true, ltb-false, leb-true}
 use Rattle.lists.proofs.Bools.{and-left, and-right, or-right}
 use Rattle.table_registers.specs.Registers.{Register, registers, tableSize, endOf, deviceId, goalPosition, minPosition, presentPosition, hardwareError, registeredInstruction}
-use Rattle.table_registers.proofs.Rows.{placeIn, placeOf}
+use Rattle.table_registers.proofs.Rows.{placeIn, markOf}
 use Rattle.lists.specs.Numbers.{bytesOf}
 use Rattle.table_items.specs.Items.{put, unsigned, itemBytes, valueOf, valueInRange}
 use Rattle.table_items.proofs.Signed.{value-byte}
@@ -85,7 +85,7 @@ own-in-range : (new : List ℕ) (address n : ℕ) → everyTouched address n (va
     → getD new 7 0 ≤ 252
 unfolding registers placeIn
 own-in-range new address n e h l =
-    let range = if-touched address n (valueInRange new deviceId) h l (each (valueInRange new) address n registers (placeOf deviceId) (omega arith) e) in
+    let range = if-touched address n (valueInRange new deviceId) h l (each (valueInRange new) address n registers (markOf deviceId) (omega arith) e) in
     let top = and-right (leZ (pos 0) (valueOf deviceId new)) (leZ (valueOf deviceId new) (pos 252)) range in
     leb-true (getD new 7 0) 252 (sym (ap (λ (z : ℤ). leZ z (pos 252)) (value-byte new 7 1 refl)) ∙ top)
 

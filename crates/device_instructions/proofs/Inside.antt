@@ -15,7 +15,7 @@ use Rattle.table_rules.proofs.Stored.{stored-length}
 use Rattle.table_rules.proofs.Judged.{good-write}
 use Rattle.table_rules.proofs.Size.{in-table}
 use Rattle.table_rules.proofs.Limits.{untouched, kept-inside}
-use Rattle.table_rules.proofs.Fence.{around}
+use Rattle.table_rules.proofs.LimitTests.{around}
 use Rattle.table_access.specs.Fresh.{freshened, freshTable}
 use Rattle.table_access.proofs.Theorems.{write-inside}
 use Rattle.table_resets.proofs.Values.{rebooted-length, rebooted-inside, reset-length, reset-ordered}

@@ -21,17 +21,17 @@ use Rattle.stuffing.specs.declared.Checked.the-variants.{Good, Bad}
 use Rattle.stuffing.proofs.Answers.{checked-bad, checked-good, Removed}
 use Rattle.reading.specs.Rules.{Verdict, isPacket, isBadChecksum, isWaiting, isNothing}
 use Rattle.packet_front.specs.Front.{header, idOf}
-use Rattle.packet_rules.specs.Answers.{begunBy, answerFor}
-use Rattle.packet_rules.specs.declared.Begun.{Begun}
-use Rattle.packet_rules.specs.declared.Begun.the-variants.{Nothing, Waiting, Whole}
+use Rattle.packet_rules.specs.Answers.{frontBy, answerFor}
+use Rattle.packet_rules.specs.declared.Front.{Front}
+use Rattle.packet_rules.specs.declared.Front.the-variants.{Nothing, Waiting, Whole}
 use Rattle.packet.specs.Packet.{bodyOf, checksumRight, WellFormed}
 use Rattle.packet.specs.Verdict.{shape, verdict, wholeAnswer}
 use Rattle.packet_rules.specs.declared.Judgement.{Judgement}
 use Rattle.packet_rules.specs.declared.Judgement.the-variants.{Packet as Judgement·Packet, Nothing as Judgement·Nothing, Waiting as Judgement·Waiting}
 use Rattle.packet.proofs.Header.{headed}
-use Rattle.packet_rules.proofs.Looks.{look-nothing, look-waiting, look-size, look-long}
+use Rattle.packet_rules.proofs.Peeks.{peek-nothing, peek-waiting, peek-size, peek-long}
 use Rattle.packet.proofs.Laws.{shape-laws, laws}
-use Rattle.packet.proofs.Looks.{look-header, look-whole}
+use Rattle.packet.proofs.Peeks.{peek-header, peek-whole}
 use Rattle.device_instructions.specs.Registered.{keptBy}
 use Rattle.device_instructions.specs.declared.RegisteredWrite.{RegisteredWrite}
 use Rattle.device_status.specs.declared.Reply.{Reply}
@@ -93,24 +93,24 @@ module _ (packet : List ℕ) where
     told-other other = heard-other (verdict packet) refl (λ n i. other n (e ∙ ap (λ (v : Verdict). answerFor v k) i))
 
   -- by what header, ID and length field say
-  pub not-begun : (b : Begun) → begunBy shape packet ≡ b → ((n : ℕ) → b ≡ Whole n → ⊥) → idHeard packet ≡ 255
-  not-begun Nothing e other = told-other Judgement·Nothing _ (look-nothing shape packet e) (λ n i. let z : _≡_ {A = ℕ} 0 1 = cc in absurd (omega arith))
-  not-begun (Waiting m) e other = told-other (Judgement·Waiting m) _ (look-waiting shape packet m e) (λ n i. let z : _≡_ {A = ℕ} 0 1 = cc in absurd (omega arith))
-  not-begun (Whole m) e other = absurd (other m refl)
+  pub not-front : (b : Front) → frontBy shape packet ≡ b → ((n : ℕ) → b ≡ Whole n → ⊥) → idHeard packet ≡ 255
+  not-front Nothing e other = told-other Judgement·Nothing _ (peek-nothing shape packet e) (λ n i. let z : _≡_ {A = ℕ} 0 1 = cc in absurd (omega arith))
+  not-front (Waiting m) e other = told-other (Judgement·Waiting m) _ (peek-waiting shape packet m e) (λ n i. let z : _≡_ {A = ℕ} 0 1 = cc in absurd (omega arith))
+  not-front (Whole m) e other = absurd (other m refl)
 
-  module _ (n : ℕ) (e : begunBy shape packet ≡ Whole n) where
-    pub begun-beyond : (n ≡ length packet → ⊥) → idHeard packet ≡ 255
-    begun-beyond other = heard-nobody (λ f. other (omega (arith, look-size shape packet shape-laws n e, f .counted)))
+  module _ (n : ℕ) (e : frontBy shape packet ≡ Whole n) where
+    pub front-beyond : (n ≡ length packet → ⊥) → idHeard packet ≡ 255
+    front-beyond other = heard-nobody (λ f. other (omega (arith, peek-size shape packet shape-laws n e, f .counted)))
 
     module _ (l : n ≡ length packet) where
       all : take n packet ≡ packet
       all = take-all n packet (omega arith)
 
-      pub begun-long : 10 ≤ length packet
-      begun-long = subst (λ (w : List ℕ). 10 ≤ length w) all (look-long shape packet shape-laws n e)
+      pub front-long : 10 ≤ length packet
+      front-long = subst (λ (w : List ℕ). 10 ≤ length w) all (peek-long shape packet shape-laws n e)
 
-      pub begun-header : take 4 packet ≡ header
-      begun-header = ap (take 4) (sym all) ∙ look-header packet n e
+      pub front-header : take 4 packet ≡ header
+      front-header = ap (take 4) (sym all) ∙ peek-header packet n e
 
       pub wrong-sum : checksumRight packet ≡ false → idHeard packet ≡ 255
       wrong-sum h = heard-nobody (λ f. both-ways _ (f .summed) h)
@@ -118,8 +118,8 @@ module _ (packet : List ℕ) where
       pub right-sum : checksumRight packet ≡ true → wellStuffed (bodyOf packet) ≡ true → idHeard packet ≡ idOf packet
       right-sum h w =
           heard-whole (length packet)
-          (told-packet (wholeAnswer packet) _ (ap wholeAnswer (sym all) ∙ look-whole packet n e) (length packet)
-          (rw (le-ltb (length packet) 10 begun-long, headed packet begun-header, h, w))) refl
+          (told-packet (wholeAnswer packet) _ (ap wholeAnswer (sym all) ∙ peek-whole packet n e) (length packet)
+          (rw (le-ltb (length packet) 10 front-long, headed packet front-header, h, w))) refl
 
 -- ---- the removal of the stuffing
 

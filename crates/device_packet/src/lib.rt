@@ -8,7 +8,7 @@ use device_instructions::RegisteredWrite;
 use device_status::MIN_REPLY;
 use device_status::Reply;
 use packet_protocols::Protocol;
-use packet_rules::Begun;
+use packet_rules::Front;
 use stuffing::Checked;
 ghost use mathlib.Core.Path.{_≡_};
 ghost use mathlib.Core.Bool.{true};
@@ -25,7 +25,7 @@ fn id_heard(packet: &[u8]) -> u8
     requires { ⌜ wellStuffed (bodyOf (now packet)) ≡ true ⌝ }
     ensures { λ r. ⌜ r ≡ idHeard (now (packet .entry)) ⌝ }
 {
-    let Begun::Whole(n) = packet_protocols::look(Protocol::Two, packet) else {
+    let Front::Whole(n) = packet_protocols::peek(Protocol::Two, packet) else {
         return NO_ID;
     };
     if n != packet.len() {

@@ -1,4 +1,4 @@
--- The search in a list, turn by turn. Which IDs have passed stands in a table of marks.
+-- The search in a list, round by round. Which IDs have passed stands in a table of marks.
 use mathlib.Core.Path.{_≡_, refl, sym, ap, _∙_}
 use mathlib.Core.Bool.{Bool, true, false, not, cond, _&&_, _||_}
 use mathlib.Core.List.{List, [], _∷_}

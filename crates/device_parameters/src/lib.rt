@@ -60,7 +60,7 @@ fn entry_size(kind: EntryKind, rest: &[u8]) -> usize
 
 // Finds the own entry of the list that begins at `from`, which may lie past the end. The list is judged to its end: with an entry
 // that is not allowed or cut short, an ID above 252 or a repeated one, nothing is found. The mark of the own ID says whether it was
-// found: so a turn keeps two numbers and no enum. [D22-D24 D44-D47]
+// found: so a round keeps two numbers and no enum. [D22-D24 D44-D47]
 pub fn search(params: &[u8], from: usize, kind: EntryKind, own: u8) -> Found
     ensures { λ r. ⌜ r ≡ Entries·search (entryOf kind) own (now (params .entry)) from ⌝ }
 {

@@ -1,4 +1,4 @@
-pub mod Turns
+pub mod Rounds
 pub mod Promises
 pub mod Applied
 pub mod Overwritten

@@ -8,9 +8,9 @@ use native.Mathlib.Omega.{arith}
 use lib.ListN.{take, drop, set, length-set}
 use lib.Seq.{getD-set-other}
 use Rattle.lists.proofs.Numbers.{same-number}
-use Rattle.log_index.specs.Last.{placeOf}
+use Rattle.log_index.specs.Last.{markOf}
 use Rattle.log_index.proofs.Marks.{place-within}
-use Rattle.log_layout.specs.Log.{Entry, directoryPlace, indexPlace, segmentsPlace}
+use Rattle.log_layout.specs.Log.{Entry, directoryOffset, indexOffset, segmentsOffset}
 use Rattle.log_layout.specs.Layout.{u32At, numbers, entries, countIn, directoryIn, indexIn, headerRight, laidOut}
 use Rattle.log.specs.Applied.{OverwrittenApplied}
 
@@ -59,21 +59,21 @@ module _ (b : ℕ) where
       ap₂ (λ (x : ℕ) (xs : List ℕ). x ∷ xs) (u32-set l 0 j (omega arith))
       (ap (numbers k) (drop-set-at 4 j l (omega arith)) ∙ numbers-set k (drop 4 l) (j - 4) (omega arith))
 
-  module _ (file : List ℕ) (place : ℕ) (h : segmentsPlace (countIn file) ≤ place) where
+  module _ (file : List ℕ) (place : ℕ) (h : segmentsOffset (countIn file) ≤ place) where
     same-count : countIn (set file place b) ≡ countIn file
     same-count = u32-set file 0 place (omega arith)
 
     same-directory : directoryIn (set file place b) ≡ directoryIn file
     same-directory =
-        ap (λ (n : ℕ). entries n (drop directoryPlace (set file place b))) same-count
+        ap (λ (n : ℕ). entries n (drop directoryOffset (set file place b))) same-count
         ∙ ap (entries (countIn file)) (drop-set-at 16 place file (omega arith))
         ∙ entries-set (countIn file) (drop 16 file) (place - 16) (omega arith)
 
     same-index : indexIn (set file place b) ≡ indexIn file
     same-index =
-        ap (λ (n : ℕ). numbers 254 (drop (indexPlace n) (set file place b))) same-count
-        ∙ ap (numbers 254) (drop-set-at (indexPlace (countIn file)) place file (omega arith))
-        ∙ numbers-set 254 (drop (indexPlace (countIn file)) file) (place - indexPlace (countIn file)) (omega arith)
+        ap (λ (n : ℕ). numbers 254 (drop (indexOffset n) (set file place b))) same-count
+        ∙ ap (numbers 254) (drop-set-at (indexOffset (countIn file)) place file (omega arith))
+        ∙ numbers-set 254 (drop (indexOffset (countIn file)) file) (place - indexOffset (countIn file)) (omega arith)
 
     still-laid-out : laidOut file ≡ true → laidOut (set file place b) ≡ true
     unfolding laidOut headerRight
@@ -84,6 +84,6 @@ pub overwritten-applied : OverwrittenApplied
 overwritten-applied t file id place b laid h outside =
     let w = place-within id in
     t .depends-only file (set file place b) id laid (still-laid-out b file place h laid)
-    (sym (take-set b (indexPlace (countIn file)) file place (omega arith)))
-    (sym (ap (λ (n : ℕ). u32At (set file place b) (indexPlace n + 4 * placeOf id)) (same-count b file place h) ∙ u32-set b file (indexPlace (countIn file) + 4 * placeOf id) place (omega arith)))
+    (sym (take-set b (indexOffset (countIn file)) file place (omega arith)))
+    (sym (ap (λ (n : ℕ). u32At (set file place b) (indexOffset n + 4 * markOf id)) (same-count b file place h) ∙ u32-set b file (indexOffset (countIn file) + 4 * markOf id) place (omega arith)))
     (λ k e. sym (part-set b _ _ file place (outside k e)))

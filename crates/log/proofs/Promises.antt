@@ -13,15 +13,15 @@ use Rattle.answers.proofs.Laws.{passed}
 use Rattle.lists.specs.Numbers.{Bytes}
 use Rattle.lists.proofs.Numbers.{same-number}
 use Rattle.packet_front.specs.Front.{goodId}
-use Rattle.log_index.specs.Last.{Last, at, nowhere, orIn, lastIn, lastFrom, lastOf, indexNumber, indexSize, index, idAt, placeOf}
-use Rattle.log_layout.specs.Log.{Entry, indexPlace, Sound, logOf, directoryPlace}
+use Rattle.log_index.specs.Last.{Last, at, nowhere, orIn, lastIn, lastFrom, lastOf, indexNumber, indexSize, index, idAt, markOf}
+use Rattle.log_layout.specs.Log.{Entry, indexOffset, Sound, logOf, directoryOffset}
 use Rattle.log_layout.specs.Layout.{u32At, numbers, entries, countIn, entryOf, indexIn, directoryIn, segmentBy, segmentsBy, segmentsIn, laidOut, noneAbove}
 use Rattle.log_layout.proofs.Sound.{LaidOut, is-laid-out, laid-out-log, index-log, segments-log, log-back}
 use Rattle.log_index.proofs.Marks.{place-within, at-place, index-is}
 use Rattle.log.specs.Soundness.{sameNumbers, checkRefusal, SoundExactly}
 use Rattle.log.specs.Question.{named, lastAnswer, lastRefusal, found, foundUnless, question, indexNumberOf, LogPromises}
 use Rattle.log.specs.declared.Found.the-variants.{Refused}
-use Rattle.log.proofs.Turns.{numbers-at, numbers-length, segments-at, none-above, same-are, same-self}
+use Rattle.log.proofs.Rounds.{numbers-at, numbers-length, segments-at, none-above, same-are, same-self}
 
 -- ---- the test
 
@@ -64,8 +64,8 @@ module _ (file : List ℕ) (id : ℕ) where
   unfolding lastRefusal
   bad-layout h = rw h
 
-  number-is : getD (indexIn file) (placeOf id) 0 ≡ indexNumberOf file id
-  number-is = numbers-at file (indexPlace (countIn file)) indexSize (placeOf id) (place-within id)
+  number-is : getD (indexIn file) (markOf id) 0 ≡ indexNumberOf file id
+  number-is = numbers-at file (indexOffset (countIn file)) indexSize (markOf id) (place-within id)
 
   module _ (l : laidOut file ≡ true) where
     pub bad-id : goodId id ≡ false → question file id ≡ Refused BadLogId
@@ -84,13 +84,13 @@ module _ (file : List ℕ) (id : ℕ) where
     -- segment k is, and there is such a segment
     named-within : (k : ℕ) → indexNumberOf file id ≡ suc k → k < countIn file
     named-within k h =
-        let most = none-above (countIn file) (indexIn file) (placeOf id) (is-laid-out file l .most)
-        (rw (numbers-length indexSize (drop (indexPlace (countIn file)) file)) (place-within id)) in
+        let most = none-above (countIn file) (indexIn file) (markOf id) (is-laid-out file l .most)
+        (rw (numbers-length indexSize (drop (indexOffset (countIn file)) file)) (place-within id)) in
         omega (arith, most, number-is, h)
 
     pub one-named : (k : ℕ) → indexNumberOf file id ≡ suc k → lastAnswer file id ≡ orIn nowhere k (lastIn id (segmentBy file (entryOf file k)))
     unfolding lastAnswer
-    one-named k h = rw (number-is, h, segments-at file file directoryPlace (countIn file) k (named-within k h))
+    one-named k h = rw (number-is, h, segments-at file file directoryOffset (countIn file) k (named-within k h))
 
 -- ---- on a sound log
 
@@ -125,9 +125,9 @@ module _ (ss : List (List ℕ)) (fits : length (logOf ss) ≤ 4294967295) (id : 
   log-answer : lastAnswer (logOf ss) id ≡ lastOf id ss
   unfolding lastAnswer
   log-answer =
-      ap₂ (λ (xs : List ℕ) (l : List (List ℕ)). named (getD xs (placeOf id) 0) id l) (index-log ss fits) (segments-log ss fits)
+      ap₂ (λ (xs : List ℕ) (l : List (List ℕ)). named (getD xs (markOf id) 0) id l) (index-log ss fits) (segments-log ss fits)
       ∙ ap (λ (n : ℕ). named n id ss)
-      (index-is (placeOf id) ss (place-within id) ∙ ap (λ (i : ℕ). indexNumber (lastOf i ss)) (at-place id g))
+      (index-is (markOf id) ss (place-within id) ∙ ap (λ (i : ℕ). indexNumber (lastOf i ss)) (at-place id g))
       ∙ named-last id ss
 
   log-question : question (logOf ss) id ≡ found (lastOf id ss)
@@ -142,15 +142,15 @@ same-u32 f g m a e h =
     sym (getD-take m f (a + k) 0 (omega arith)) ∙ ap (λ (s : List ℕ). getD s (a + k) 0) e ∙ getD-take m g (a + k) 0 (omega arith))
 
 module _ (f g : List ℕ) (id : ℕ) (lf : laidOut f ≡ true) (lg : laidOut g ≡ true)
-    (e : take (indexPlace (countIn f)) f ≡ take (indexPlace (countIn f)) g) (i : indexNumberOf f id ≡ indexNumberOf g id)
+    (e : take (indexOffset (countIn f)) f ≡ take (indexOffset (countIn f)) g) (i : indexNumberOf f id ≡ indexNumberOf g id)
     (s : (k : ℕ) → indexNumberOf f id ≡ suc k → segmentBy f (entryOf f k) ≡ segmentBy g (entryOf f k)) where
   same-answer : lastAnswer f id ≡ lastAnswer g id
   same-answer = by-number (indexNumberOf f id) refl
     where
       same-entry : (k : ℕ) → k < countIn f → entryOf f k ≡ entryOf g k
       same-entry k h =
-          ap₂ {C = Entry} (λ (a l : ℕ). (a, l)) (same-u32 f g (indexPlace (countIn f)) (16 + 8 * k) e (omega arith))
-          (same-u32 f g (indexPlace (countIn f)) (16 + 8 * k + 4) e (omega arith))
+          ap₂ {C = Entry} (λ (a l : ℕ). (a, l)) (same-u32 f g (indexOffset (countIn f)) (16 + 8 * k) e (omega arith))
+          (same-u32 f g (indexOffset (countIn f)) (16 + 8 * k + 4) e (omega arith))
 
       by-number : (n : ℕ) → indexNumberOf f id ≡ n → lastAnswer f id ≡ lastAnswer g id
       by-number zero h = none-named f id lf h ∙ sym (none-named g id lg (sym i ∙ h))

@@ -8,7 +8,7 @@ use Prim.Native.Nat.{ℕ, suc, _+_, _≤_, _<_}
 use lib.ListN.{replicate, set}
 use Rattle.lists.specs.Write.{placed}
 use Rattle.log_index.specs.Last.{at, nowhere}
-use Rattle.log_layout.specs.Log.{segmentsPlace, logOf, Sound}
+use Rattle.log_layout.specs.Log.{segmentsOffset, logOf, Sound}
 use Rattle.log_layout.specs.Layout.{countIn, entryOf, laidOut}
 use Rattle.log_layout.specs.Samples.{twoPings, numbered, file}
 use Rattle.log.specs.Soundness.{checkRefusal, SoundExactly}
@@ -33,6 +33,6 @@ LogPromisesApplied =
 -- a byte behind the index, outside the segment that the index names for the ID
 abbrev pub OverwrittenApplied : Type 0
 OverwrittenApplied =
-    LogPromises → (file : List ℕ) (id place byte : ℕ) → laidOut file ≡ true → segmentsPlace (countIn file) ≤ place
+    LogPromises → (file : List ℕ) (id place byte : ℕ) → laidOut file ≡ true → segmentsOffset (countIn file) ≤ place
     → ((k : ℕ) → indexNumberOf file id ≡ suc k → (place < entryOf file k .0) ⊎ (entryOf file k .0 + entryOf file k .1 ≤ place))
     → question file id ≡ question (set file place byte) id

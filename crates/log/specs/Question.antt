@@ -9,8 +9,8 @@ use Rattle.answers.specs.Refusals.{firstFailing}
 use Rattle.answers.specs.declared.Refusal.{Refusal}
 use Rattle.answers.specs.declared.Refusal.the-variants.{BadLog, BadLogId}
 use Rattle.packet_front.specs.Front.{goodId}
-use Rattle.log_index.specs.Last.{Last, at, nowhere, orIn, lastIn, lastOf, placeOf}
-use Rattle.log_layout.specs.Log.{indexPlace, Sound}
+use Rattle.log_index.specs.Last.{Last, at, nowhere, orIn, lastIn, lastOf, markOf}
+use Rattle.log_layout.specs.Log.{indexOffset, Sound}
 use Rattle.log_layout.specs.Layout.{u32At, countIn, entryOf, indexIn, segmentBy, segmentsIn, laidOut}
 use Rattle.log.specs.declared.Found.{Found}
 use Rattle.log.specs.declared.Found.the-variants.{At, Nowhere, Refused}
@@ -22,7 +22,7 @@ named (suc k) id segments = orIn nowhere k (lastIn id (getD segments k []))
 
 -- [I18 I19]
 unfoldable pub lastAnswer : List ℕ → ℕ → Last
-lastAnswer file id = named (getD (indexIn file) (placeOf id) 0) id (segmentsIn file)
+lastAnswer file id = named (getD (indexIn file) (markOf id) 0) id (segmentsIn file)
 
 -- the layout, and then the ID, which has to be one that packets may have [I18 N15 N16]
 unfoldable pub lastRefusal : List ℕ → ℕ → Option Refusal
@@ -43,7 +43,7 @@ question file id = foundUnless (lastRefusal file id) (lastAnswer file id)
 
 -- the index number of an ID, by its place in the file [I5]
 abbrev pub indexNumberOf : List ℕ → ℕ → ℕ
-indexNumberOf file id = u32At file (indexPlace (countIn file) + 4 * placeOf id)
+indexNumberOf file id = u32At file (indexOffset (countIn file) + 4 * markOf id)
 
 -- What is promised of the question over all files.
 pub record LogPromises : Type 0 where
@@ -52,5 +52,5 @@ pub record LogPromises : Type 0 where
   -- two files that are laid out and have the same header and directory, the same index number for the ID, and in the place of the
   -- segment that it names the same bytes: the answers are the same, whatever else stands in them [I20]
   pub depends-only : (f g : List ℕ) (id : ℕ) → laidOut f ≡ true → laidOut g ≡ true
-      → take (indexPlace (countIn f)) f ≡ take (indexPlace (countIn f)) g → indexNumberOf f id ≡ indexNumberOf g id
+      → take (indexOffset (countIn f)) f ≡ take (indexOffset (countIn f)) g → indexNumberOf f id ≡ indexNumberOf g id
       → ((k : ℕ) → indexNumberOf f id ≡ suc k → segmentBy f (entryOf f k) ≡ segmentBy g (entryOf f k)) → question f id ≡ question g id

@@ -89,7 +89,7 @@ pub fn last(file: &[u8], id: u8) -> Found
         return Found::Refused(Refusal::BadLogId);
     }
     let index = DIRECTORY + LOG_ENTRY * (log_layout::number_at(file, 0) as usize);
-    let number = log_layout::number_at(file, index + 4 * log_index::place_of(id));
+    let number = log_layout::number_at(file, index + 4 * log_index::mark_of(id));
     if number == 0 {
         return Found::Nowhere;
     }

@@ -1,4 +1,4 @@
 pub mod Index
 pub mod Marks
-pub mod Turns
+pub mod Rounds
 mod Starts

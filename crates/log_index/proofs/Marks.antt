@@ -14,33 +14,33 @@ use Rattle.reading.specs.Reading.{Found, packet, badChecksum, reading, readFrom
 use Rattle.packet_front.specs.Front.{idOf, goodId}
 use Rattle.packet.specs.Verdict.{protocol2}
 use Rattle.reader_plain.proofs.Left.{GoodIds, good-ids}
-use Rattle.log_index.specs.Last.{Last, at, nowhere, later, lastPacket, lastIn, orIn, lastFrom, lastOf, indexNumber, indexSize, idAt, placeOf, indexFrom, index}
+use Rattle.log_index.specs.Last.{Last, at, nowhere, later, lastPacket, lastIn, orIn, lastFrom, lastOf, indexNumber, indexSize, idAt, markOf, indexFrom, index}
 use Rattle.log_index.proofs.Index.{index-length}
 use Rattle.log_index.specs.Marks.{marked}
 
 -- ---- IDs and their places in the index
 
-place-low : (id : ℕ) → id < 253 → placeOf id ≡ id
+place-low : (id : ℕ) → id < 253 → markOf id ≡ id
 place-low id h = rw (lt-ltb id 253 h)
 
-pub place-at : (i : ℕ) → i < indexSize → placeOf (idAt i) ≡ i
+pub place-at : (i : ℕ) → i < indexSize → markOf (idAt i) ≡ i
 place-at i h = by-test (ltb i 253) refl
   where
-    by-test : (t : Bool) → ltb i 253 ≡ t → placeOf (cond t i 254) ≡ i
+    by-test : (t : Bool) → ltb i 253 ≡ t → markOf (cond t i 254) ≡ i
     by-test true e = place-low i (ltb-true i 253 e)
     by-test false e = let k = ltb-false i 253 e in omega arith
 
-pub at-place : (id : ℕ) → goodId id ≡ true → idAt (placeOf id) ≡ id
+pub at-place : (id : ℕ) → goodId id ≡ true → idAt (markOf id) ≡ id
 at-place id g = by-test (leb id 252) refl
   where
-    by-test : (t : Bool) → leb id 252 ≡ t → idAt (placeOf id) ≡ id
+    by-test : (t : Bool) → leb id 252 ≡ t → idAt (markOf id) ≡ id
     by-test true e =
         let h : id < 253 = omega (arith, leb-true id 252 e) in
         ap idAt (place-low id h) ∙ rw (lt-ltb id 253 h)
     by-test false e =
         let k = eqb-true id 254 (or-right (leb id 252) (eqb id 254) g e) in rw k
 
-pub place-within : (id : ℕ) → placeOf id < indexSize
+pub place-within : (id : ℕ) → markOf id < indexSize
 place-within id = by-test (ltb id 253) refl
   where
     by-test : (t : Bool) → ltb id 253 ≡ t → cond t id 253 < indexSize
@@ -58,21 +58,21 @@ pub marked-length : (number : ℕ) (xs : List ℕ) (fs : List Found) → length 
 unfolding marked
 marked-length number xs [] = refl
 marked-length number xs ((p, packet w) ∷ fs) =
-    marked-length number (set xs (placeOf (idOf w)) number) fs ∙ length-set xs (placeOf (idOf w)) number
+    marked-length number (set xs (markOf (idOf w)) number) fs ∙ length-set xs (markOf (idOf w)) number
 marked-length number xs ((p, badChecksum id) ∷ fs) = marked-length number xs fs
 
 module _ (number i : ℕ) (h : i < indexSize) where
   -- a store for the ID of a packet, as the place i sees it
   stored : (xs : List ℕ) (p id : ℕ) → length xs ≡ indexSize → goodId id ≡ true
-      → getD (set xs (placeOf id) number) i 0 ≡ pick (cond (eqb id (idAt i)) (some p) none) number (getD xs i 0)
+      → getD (set xs (markOf id) number) i 0 ≡ pick (cond (eqb id (idAt i)) (some p) none) number (getD xs i 0)
   stored xs p id l g = by-test (eqb id (idAt i)) refl
     where
-      by-test : (t : Bool) → eqb id (idAt i) ≡ t → getD (set xs (placeOf id) number) i 0 ≡ pick (cond t (some p) none) number (getD xs i 0)
+      by-test : (t : Bool) → eqb id (idAt i) ≡ t → getD (set xs (markOf id) number) i 0 ≡ pick (cond t (some p) none) number (getD xs i 0)
       by-test true e =
-          let k : placeOf id ≡ i = ap placeOf (eqb-true id (idAt i) e) ∙ place-at i h in
+          let k : markOf id ≡ i = ap markOf (eqb-true id (idAt i) e) ∙ place-at i h in
           rw k (getD-set-same xs i number 0 (omega arith))
       by-test false e =
-          getD-set-other xs (placeOf id) i number 0
+          getD-set-other xs (markOf id) i number 0
           (λ k. eqb-false id (idAt i) e (sym (at-place id g) ∙ ap idAt (sym k)))
 
   later-pick : (l f : Option ℕ) (a b : ℕ) → pick (later l f) a b ≡ pick l a (pick f a b)
@@ -86,7 +86,7 @@ module _ (number i : ℕ) (h : i < indexSize) where
   marked-at xs [] l g = refl
   marked-at xs ((p, packet w) ∷ fs) l g =
       let id = idOf w in
-      marked-at (set xs (placeOf id) number) fs (length-set xs (placeOf id) number ∙ l) (g .1)
+      marked-at (set xs (markOf id) number) fs (length-set xs (markOf id) number ∙ l) (g .1)
       ∙ ap (pick (lastPacket (idAt i) fs) number) (stored xs p id l (g .0))
       ∙ sym (later-pick (lastPacket (idAt i) fs) (cond (eqb id (idAt i)) (some p) none) number (getD xs i 0))
   marked-at xs ((p, badChecksum id) ∷ fs) l g = marked-at xs fs l g

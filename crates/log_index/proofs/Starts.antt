@@ -8,12 +8,12 @@ use lib.Seq.{drop-drop}
 use Rattle.reading.specs.Rules.{isNothing}
 use Rattle.packet_rules.specs.Starts.{beforeStart}
 use Rattle.packet_rules.proofs.Starts.{before-fits}
-use Rattle.packet_front.specs.Begun.{mayBegin}
+use Rattle.packet_front.specs.Header.{mayBegin}
 use Rattle.packet.specs.Verdict.{protocol2}
 use Rattle.packet_protocols.specs.declared.Protocol.the-variants.{Two}
 use Rattle.packet_protocols.proofs.Shapes.{none-before-start}
 use Rattle.reader_plain.specs.Next.{nextEvent}
-use Rattle.reader_plain.proofs.Turns.{by-verdict}
+use Rattle.reader_plain.proofs.Rounds.{by-verdict}
 
 -- k offsets at which no packet begins are passed
 passes : (s : List ℕ) (p k : ℕ) → ((q : ℕ) → q < k → protocol2 .verdict (drop q (drop p s)) ≡ isNothing) → k ≤ length (drop p s)

@@ -57,8 +57,8 @@ indexSize = 254
 abbrev pub idAt : ℕ → ℕ
 idAt i = cond (ltb i 253) i 254
 
-abbrev pub placeOf : ℕ → ℕ
-placeOf id = cond (ltb id 253) id 253
+abbrev pub markOf : ℕ → ℕ
+markOf id = cond (ltb id 253) id 253
 
 -- k index numbers, from place i on [I5]
 unfoldable pub indexFrom : ℕ → ℕ → List (List ℕ) → List ℕ

@@ -5,7 +5,7 @@ ghost use mathlib.Core.Path.{_≡_};
 ghost use Rattle.reading.specs.Reading.{reading};
 ghost use Rattle.packet.specs.Verdict.{protocol2};
 ghost use Rattle.reader_plain.specs.Next.{nextEvent};
-ghost use Rattle.log_index.specs.Last.{placeOf, lastIn};
+ghost use Rattle.log_index.specs.Last.{markOf, lastIn};
 ghost use Rattle.log_index.specs.Marks.{marked, offsetOf};
 
 // Where a packet stands in its segment, if there is one.
@@ -15,8 +15,8 @@ pub enum Offset {
 }
 
 // The place of an ID in the index. [I5]
-pub fn place_of(id: u8) -> usize
-    ensures { λ r. ⌜ r ≡ placeOf id ⌝ }
+pub fn mark_of(id: u8) -> usize
+    ensures { λ r. ⌜ r ≡ markOf id ⌝ }
 {
     if id < 253 { id as usize } else { 253 }
 }
@@ -43,7 +43,7 @@ pub fn mark(index: &mut [usize; 254], segment: &[u8], number: usize)
                 next,
                 id,
             } => {
-                let place = place_of(id);
+                let place = mark_of(id);
                 index[place] = number;
                 from = next;
             }

@@ -5,7 +5,7 @@ use Prim.Native.Nat.{ℕ, suc, _+_, _-_, _/_, min}
 use lib.Dec.{leb}
 use lib.ListN.{length, drop}
 use Rattle.answers.specs.Refusals.{firstFailing}
-use Rattle.log_layout.specs.Log.{Entry, directoryPlace, segmentsPlace}
+use Rattle.log_layout.specs.Log.{Entry, directoryOffset, segmentsOffset}
 use Rattle.log_layout.specs.Layout.{countIn, entries, segmentsBy}
 
 -- the segment count: the smaller of the header's and of what the file has room for [I21]
@@ -46,10 +46,10 @@ dropped size limit i (e ∷ es) =
 
 -- of a file with n entries, whose index ends where segments may start [I21-I23]
 abbrev pub keptOf : List ℕ → ℕ → List Entry
-keptOf file n = kept (length file) (segmentsPlace n) (entries n (drop directoryPlace file))
+keptOf file n = kept (length file) (segmentsOffset n) (entries n (drop directoryOffset file))
 
 abbrev pub droppedOf : List ℕ → ℕ → List Dropped
-droppedOf file n = dropped (length file) (segmentsPlace n) 0 (entries n (drop directoryPlace file))
+droppedOf file n = dropped (length file) (segmentsOffset n) 0 (entries n (drop directoryOffset file))
 
 -- the segments that are kept, with the bytes that they have in the file [I24]
 abbrev pub keptSegments : List ℕ → List (List ℕ)

@@ -1,5 +1,5 @@
 pub mod Laid
 pub mod Sound
-pub mod Turns
+pub mod Rounds
 pub mod Tests
 pub mod Samples

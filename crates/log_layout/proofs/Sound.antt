@@ -15,7 +15,7 @@ use Rattle.lists.proofs.Bools.{and-left, and-right}
 use Rattle.reading.specs.Promise.{joined}
 use Rattle.log_index.proofs.Index.{number-most, index-length}
 use Rattle.log_index.specs.Last.{Last, at, nowhere, orIn, lastIn, lastFrom, lastOf, idAt, indexNumber, indexSize, indexFrom, index}
-use Rattle.log_layout.specs.Log.{laid, Entry, numbersOf, header, directoryPlace, indexPlace, segmentsPlace, directory, logOf, longestFile}
+use Rattle.log_layout.specs.Log.{laid, Entry, numbersOf, header, directoryOffset, indexOffset, segmentsOffset, directory, logOf, longestFile}
 use Rattle.log_layout.specs.Layout.{u32At, numbers, entries, countIn, directoryIn, indexIn, segmentsBy, segmentsIn, chained, noneAbove, headerRight, laidOut}
 use Rattle.log_layout.proofs.Laid.{Fit, u32-laid, numbers-laid, entries-laid, length-laid, length-numbersOf, drop-laid, bytes-tail, numbers-back, entries-back}
 
@@ -78,34 +78,34 @@ module _ (ss : List (List ℕ)) where
   from-index = laid (index ss) (joined ss)
 
   abbrev from-directory : List ℕ
-  from-directory = laid (numbersOf (directory (segmentsPlace n) ss)) from-index
+  from-directory = laid (numbersOf (directory (segmentsOffset n) ss)) from-index
 
-  at-directory : drop directoryPlace (logOf ss) ≡ from-directory
+  at-directory : drop directoryOffset (logOf ss) ≡ from-directory
   unfolding logOf
   at-directory = drop-laid (header n) from-directory 16 refl
 
-  at-index : drop (indexPlace n) (logOf ss) ≡ from-index
+  at-index : drop (indexOffset n) (logOf ss) ≡ from-index
   at-index =
-      let d = length-numbersOf (directory (segmentsPlace n) ss) in
-      let l = directory-length (segmentsPlace n) ss in
+      let d = length-numbersOf (directory (segmentsOffset n) ss) in
+      let l = directory-length (segmentsOffset n) ss in
       sym (drop-drop (8 * n) 16 (logOf ss)) ∙ ap (λ (x : List ℕ). drop (8 * n) x) at-directory
-      ∙ drop-laid (numbersOf (directory (segmentsPlace n) ss)) from-index (8 * n) (omega arith)
+      ∙ drop-laid (numbersOf (directory (segmentsOffset n) ss)) from-index (8 * n) (omega arith)
 
-  at-segments : drop (segmentsPlace n) (logOf ss) ≡ joined ss
+  at-segments : drop (segmentsOffset n) (logOf ss) ≡ joined ss
   at-segments =
-      let e : indexPlace n + 1016 ≡ segmentsPlace n = omega arith in
+      let e : indexOffset n + 1016 ≡ segmentsOffset n = omega arith in
       let l = index-length indexSize 0 ss in
-      ap (λ (k : ℕ). drop k (logOf ss)) (sym e) ∙ sym (drop-drop 1016 (indexPlace n) (logOf ss))
+      ap (λ (k : ℕ). drop k (logOf ss)) (sym e) ∙ sym (drop-drop 1016 (indexOffset n) (logOf ss))
       ∙ ap (λ (x : List ℕ). drop 1016 x) at-index ∙ drop-laid (index ss) (joined ss) 1016 (omega arith)
 
-  pub log-length : length (logOf ss) ≡ segmentsPlace n + length (joined ss)
+  pub log-length : length (logOf ss) ≡ segmentsOffset n + length (joined ss)
   unfolding logOf
   log-length =
       let h = length-laid (header n) from-directory in
-      let d = length-laid (numbersOf (directory (segmentsPlace n) ss)) from-index in
+      let d = length-laid (numbersOf (directory (segmentsOffset n) ss)) from-index in
       let i = length-laid (index ss) (joined ss) in
-      let k = length-numbersOf (directory (segmentsPlace n) ss) in
-      let l = directory-length (segmentsPlace n) ss in
+      let k = length-numbersOf (directory (segmentsOffset n) ss) in
+      let l = directory-length (segmentsOffset n) ss in
       let m = index-length indexSize 0 ss in
       omega arith
 
@@ -118,26 +118,26 @@ module _ (ss : List (List ℕ)) where
     unfolding logOf laid
     count-log = u32-laid n _ (header-fits .0)
 
-    pub directory-log : directoryIn (logOf ss) ≡ directory (segmentsPlace n) ss
+    pub directory-log : directoryIn (logOf ss) ≡ directory (segmentsOffset n) ss
     directory-log =
         let l = log-length in
-        let d = directory-length (segmentsPlace n) ss in
+        let d = directory-length (segmentsOffset n) ss in
         ap₂ entries (count-log ∙ sym d) at-directory
-        ∙ entries-laid (directory (segmentsPlace n) ss) from-index (directory-fits (segmentsPlace n) ss (omega arith))
+        ∙ entries-laid (directory (segmentsOffset n) ss) from-index (directory-fits (segmentsOffset n) ss (omega arith))
 
     pub index-log : indexIn (logOf ss) ≡ index ss
     index-log =
         let l = log-length in
-        ap (λ (k : ℕ). numbers indexSize (drop (indexPlace k) (logOf ss))) count-log
+        ap (λ (k : ℕ). numbers indexSize (drop (indexOffset k) (logOf ss))) count-log
         ∙ ap₂ numbers (sym (index-length indexSize 0 ss)) at-index
         ∙ numbers-laid (index ss) (joined ss) (fit-most n (index ss) (omega arith) (index-most indexSize 0 ss))
 
     pub segments-log : segmentsIn (logOf ss) ≡ ss
     segments-log =
-        ap (segmentsBy (logOf ss)) directory-log ∙ segments-are (logOf ss) (segmentsPlace n) ss at-segments
+        ap (segmentsBy (logOf ss)) directory-log ∙ segments-are (logOf ss) (segmentsOffset n) ss at-segments
 
     -- the header's other three numbers
-    places-log : (u32At (logOf ss) 4 ≡ directoryPlace) × (u32At (logOf ss) 8 ≡ indexSize) × (u32At (logOf ss) 12 ≡ indexPlace n)
+    places-log : (u32At (logOf ss) 4 ≡ directoryOffset) × (u32At (logOf ss) 8 ≡ indexSize) × (u32At (logOf ss) 12 ≡ indexOffset n)
     unfolding logOf laid bytesOf numberAt
     places-log = let l = header-fits in (refl, refl, omega (arith, l .1 .1 .1 .0))
 
@@ -146,24 +146,24 @@ module _ (ss : List (List ℕ)) where
     header-log =
         let l = log-length in
         let p = places-log in
-        rw (count-log, le-leb _ _ fits, le-leb (segmentsPlace n) (length (logOf ss)) (omega arith), p .0, p .1, p .2, eq-eqb (indexPlace n) (indexPlace n) refl)
+        rw (count-log, le-leb _ _ fits, le-leb (segmentsOffset n) (length (logOf ss)) (omega arith), p .0, p .1, p .2, eq-eqb (indexOffset n) (indexOffset n) refl)
 
     pub laid-out-log : laidOut (logOf ss) ≡ true
     unfolding laidOut
     laid-out-log =
         let l = log-length in
-        rw (header-log, directory-log, index-log, count-log, directory-chained (segmentsPlace n) (length (logOf ss)) ss (sym l), index-most indexSize 0 ss)
+        rw (header-log, directory-log, index-log, count-log, directory-chained (segmentsOffset n) (length (logOf ss)) ss (sym l), index-most indexSize 0 ss)
 
 -- ---- a file that is laid out
 
 -- what its tests say
 pub record LaidOut (file : List ℕ) : Type 0 where
   pub fits : length file ≤ longestFile
-  pub long : segmentsPlace (countIn file) ≤ length file
-  pub directory-place : u32At file 4 ≡ directoryPlace
+  pub long : segmentsOffset (countIn file) ≤ length file
+  pub directory-place : u32At file 4 ≡ directoryOffset
   pub index-size : u32At file 8 ≡ indexSize
-  pub index-place : u32At file 12 ≡ indexPlace (countIn file)
-  pub chain : chained (directoryIn file) (segmentsPlace (countIn file)) (length file) ≡ true
+  pub index-place : u32At file 12 ≡ indexOffset (countIn file)
+  pub chain : chained (directoryIn file) (segmentsOffset (countIn file)) (length file) ≡ true
   pub most : noneAbove (countIn file) (indexIn file) ≡ true
 
 pub is-laid-out : (file : List ℕ) → laidOut file ≡ true → LaidOut file
@@ -171,10 +171,10 @@ unfolding laidOut headerRight
 is-laid-out file e =
     let n = countIn file in
     let t₁ = leb (length file) longestFile in
-    let t₂ = leb (segmentsPlace n) (length file) in
-    let t₃ = eqb (u32At file 4) directoryPlace in
+    let t₂ = leb (segmentsOffset n) (length file) in
+    let t₃ = eqb (u32At file 4) directoryOffset in
     let t₄ = eqb (u32At file 8) indexSize in
-    let t₅ = eqb (u32At file 12) (indexPlace n) in
+    let t₅ = eqb (u32At file 12) (indexOffset n) in
     let h = and-left (t₁ && (t₂ && (t₃ && (t₄ && t₅)))) _ e in
     let r = and-right (t₁ && (t₂ && (t₃ && (t₄ && t₅)))) _ e in
     let h₂ = and-right t₁ (t₂ && (t₃ && (t₄ && t₅))) h in
@@ -186,8 +186,8 @@ is-laid-out file e =
       directory-place = eqb-true _ _ (and-left t₃ (t₄ && t₅) h₃);
       index-size = eqb-true _ _ (and-left t₄ t₅ h₄);
       index-place = eqb-true _ _ (and-right t₄ t₅ h₄);
-      chain = and-left (chained (directoryIn file) (segmentsPlace n) (length file)) (noneAbove n (indexIn file)) r;
-      most = and-right (chained (directoryIn file) (segmentsPlace n) (length file)) (noneAbove n (indexIn file)) r;
+      chain = and-left (chained (directoryIn file) (segmentsOffset n) (length file)) (noneAbove n (indexIn file)) r;
+      most = and-right (chained (directoryIn file) (segmentsOffset n) (length file)) (noneAbove n (indexIn file)) r;
     }
 
 -- a chain of segments that ends at `end` does not start behind it
@@ -231,18 +231,18 @@ module _ (file : List ℕ) (b : Bytes file) (h : LaidOut file) (i : indexIn file
   abbrev segments : List (List ℕ)
   segments = segmentsIn file
 
-  chain : (directoryIn file ≡ directory (segmentsPlace count) segments) × (drop (segmentsPlace count) file ≡ joined segments)
-  chain = chain-is file (directoryIn file) (segmentsPlace count) (h .chain)
+  chain : (directoryIn file ≡ directory (segmentsOffset count) segments) × (drop (segmentsOffset count) file ≡ joined segments)
+  chain = chain-is file (directoryIn file) (segmentsOffset count) (h .chain)
 
-  index-back : laid (index segments) (joined segments) ≡ drop (indexPlace count) file
+  index-back : laid (index segments) (joined segments) ≡ drop (indexOffset count) file
   index-back =
       let long = h .long in
-      let e : indexPlace count + 1016 ≡ segmentsPlace count = omega arith in
-      ap₂ laid (sym i) (sym (chain .1) ∙ ap (λ (k : ℕ). drop k file) (sym e) ∙ sym (drop-drop 1016 (indexPlace count) file))
-      ∙ numbers-back indexSize (drop (indexPlace count) file) (bytes-tail (indexPlace count) file b)
-      (omega (arith, length-drop (indexPlace count) file))
+      let e : indexOffset count + 1016 ≡ segmentsOffset count = omega arith in
+      ap₂ laid (sym i) (sym (chain .1) ∙ ap (λ (k : ℕ). drop k file) (sym e) ∙ sym (drop-drop 1016 (indexOffset count) file))
+      ∙ numbers-back indexSize (drop (indexOffset count) file) (bytes-tail (indexOffset count) file b)
+      (omega (arith, length-drop (indexOffset count) file))
 
-  directory-back : laid (numbersOf (directory (segmentsPlace count) segments)) (laid (index segments) (joined segments)) ≡ drop 16 file
+  directory-back : laid (numbersOf (directory (segmentsOffset count) segments)) (laid (index segments) (joined segments)) ≡ drop 16 file
   directory-back =
       let long = h .long in
       ap₂ (λ (d : List Entry) (r : List ℕ). laid (numbersOf d) r) (sym (chain .0))
@@ -258,7 +258,7 @@ module _ (file : List ℕ) (b : Bytes file) (h : LaidOut file) (i : indexIn file
   unfolding logOf
   log-back =
       let long = h .long in
-      let n : length segments ≡ count = segments-count file (directoryIn file) ∙ entries-count count (drop directoryPlace file) in
+      let n : length segments ≡ count = segments-count file (directoryIn file) ∙ entries-count count (drop directoryOffset file) in
       sym
-      (ap (λ (k : ℕ). laid (header k) (laid (numbersOf (directory (segmentsPlace k) segments)) (laid (index segments) (joined segments)))) n
+      (ap (λ (k : ℕ). laid (header k) (laid (numbersOf (directory (segmentsOffset k) segments)) (laid (index segments) (joined segments)))) n
       ∙ ap₂ laid header-back directory-back ∙ numbers-back 4 file b (omega arith))

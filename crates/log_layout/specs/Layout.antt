@@ -6,7 +6,7 @@ use lib.Dec.{leb, eqb}
 use lib.ListN.{length, take, drop}
 use Rattle.lists.specs.Numbers.{numberAt}
 use Rattle.log_index.specs.Last.{indexSize}
-use Rattle.log_layout.specs.Log.{Entry, directoryPlace, indexPlace, segmentsPlace, longestFile}
+use Rattle.log_layout.specs.Log.{Entry, directoryOffset, indexOffset, segmentsOffset, longestFile}
 
 -- the number of 32 bits at a place [I1]
 abbrev pub u32At : List ℕ → ℕ → ℕ
@@ -27,7 +27,7 @@ countIn file = u32At file 0
 
 -- [I3]
 abbrev pub directoryIn : List ℕ → List Entry
-directoryIn file = entries (countIn file) (drop directoryPlace file)
+directoryIn file = entries (countIn file) (drop directoryOffset file)
 
 -- the entry of a segment, by its place in the file [I3]
 abbrev pub entryOf : List ℕ → ℕ → Entry
@@ -35,7 +35,7 @@ entryOf file k = (u32At file (16 + 8 * k), u32At file (16 + 8 * k + 4))
 
 -- [I5]
 abbrev pub indexIn : List ℕ → List ℕ
-indexIn file = numbers indexSize (drop (indexPlace (countIn file)) file)
+indexIn file = numbers indexSize (drop (indexOffset (countIn file)) file)
 
 -- the segments by their directory [I3]
 abbrev pub segmentBy : List ℕ → Entry → List ℕ
@@ -63,11 +63,11 @@ unfoldable pub headerRight : List ℕ → Bool
 headerRight file =
     let n = countIn file in
     leb (length file) longestFile
-    && (leb (segmentsPlace n) (length file)
-    && (eqb (u32At file 4) directoryPlace && (eqb (u32At file 8) indexSize && eqb (u32At file 12) (indexPlace n))))
+    && (leb (segmentsOffset n) (length file)
+    && (eqb (u32At file 4) directoryOffset && (eqb (u32At file 8) indexSize && eqb (u32At file 12) (indexOffset n))))
 
 -- What refusal 31 tests: all but the meaning of the index numbers. [I10]
 unfoldable pub laidOut : List ℕ → Bool
 laidOut file =
     headerRight file
-    && (chained (directoryIn file) (segmentsPlace (countIn file)) (length file) && noneAbove (countIn file) (indexIn file))
+    && (chained (directoryIn file) (segmentsOffset (countIn file)) (length file) && noneAbove (countIn file) (indexIn file))

@@ -13,18 +13,18 @@ laid [] rest = rest
 laid (x ∷ xs) rest = bytesOf 4 x ++ laid xs rest
 
 -- where the directory begins, the index, and the first segment, for n segments [I2 I3 I4]
-abbrev pub directoryPlace : ℕ
-directoryPlace = 16
+abbrev pub directoryOffset : ℕ
+directoryOffset = 16
 
-abbrev pub indexPlace : ℕ → ℕ
-indexPlace n = 16 + 8 * n
+abbrev pub indexOffset : ℕ → ℕ
+indexOffset n = 16 + 8 * n
 
-abbrev pub segmentsPlace : ℕ → ℕ
-segmentsPlace n = 1032 + 8 * n
+abbrev pub segmentsOffset : ℕ → ℕ
+segmentsOffset n = 1032 + 8 * n
 
 -- [I2]
 abbrev pub header : ℕ → List ℕ
-header n = n ∷ directoryPlace ∷ indexSize ∷ indexPlace n ∷ []
+header n = n ∷ directoryOffset ∷ indexSize ∷ indexOffset n ∷ []
 
 -- start and length of a segment
 abbrev pub Entry : Type 0
@@ -43,7 +43,7 @@ numbersOf (e ∷ es) = e .0 ∷ e .1 ∷ numbersOf es
 unfoldable pub logOf : List (List ℕ) → List ℕ
 logOf segments =
     let n = length segments in
-    laid (header n) (laid (numbersOf (directory (segmentsPlace n) segments)) (laid (index segments) (joined segments)))
+    laid (header n) (laid (numbersOf (directory (segmentsOffset n) segments)) (laid (index segments) (joined segments)))
 
 -- the bytes of the longest file [I9]
 abbrev pub longestFile : ℕ

@@ -4,7 +4,7 @@ ghost use mathlib.Core.List.{[], _∷_};
 ghost use lib.ListN.{length, take, drop, getD};
 ghost use Rattle.lists.specs.Numbers.{numberAt};
 ghost use Rattle.log_index.specs.Last.{indexSize};
-ghost use Rattle.log_layout.specs.Log.{directoryPlace, indexPlace, segmentsPlace};
+ghost use Rattle.log_layout.specs.Log.{directoryOffset, indexOffset, segmentsOffset};
 ghost use Rattle.log_layout.specs.Layout.{u32At, numbers, entries, chained, noneAbove, headerRight, laidOut};
 
 // Where the directory begins, its bytes for each segment, how many numbers the index has, the bytes of header and index together, and
@@ -76,7 +76,7 @@ pub fn segment(file: &[u8], start: usize, count: usize) -> &[u8]
 // Whether the segments stand behind each other from the end of the index on, and the last ends the file. A start is compared before
 // its length is added, so that no sum is larger than two numbers of 32 bits.
 fn segments_chained(file: &[u8], count: u32) -> bool
-    ensures { λ r. ⌜ r ≡ chained (entries count (drop directoryPlace (now (file .entry)))) (segmentsPlace count) (length (now (file .entry))) ⌝ }
+    ensures { λ r. ⌜ r ≡ chained (entries count (drop directoryOffset (now (file .entry)))) (segmentsOffset count) (length (now (file .entry))) ⌝ }
 {
     let mut left = count;
     let mut place = DIRECTORY;
@@ -94,7 +94,7 @@ fn segments_chained(file: &[u8], count: u32) -> bool
 
 // Whether no index number is above the count of segments.
 fn index_within(file: &[u8], count: u32) -> bool
-    ensures { λ r. ⌜ r ≡ noneAbove count (numbers indexSize (drop (indexPlace count) (now (file .entry)))) ⌝ }
+    ensures { λ r. ⌜ r ≡ noneAbove count (numbers indexSize (drop (indexOffset count) (now (file .entry)))) ⌝ }
 {
     let mut left = INDEX_COUNT;
     let mut place = DIRECTORY + LOG_ENTRY * (count as usize);

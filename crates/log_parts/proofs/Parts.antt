@@ -10,7 +10,7 @@ use Rattle.lists.proofs.Filling.{Filling, fill-start, fill-part, fill-done}
 use Rattle.reading.specs.Promise.{joined}
 use Rattle.log_index.specs.Last.{index, indexSize}
 use Rattle.log_index.proofs.Index.{index-length}
-use Rattle.log_layout.specs.Log.{laid, numbersOf, header, indexPlace, segmentsPlace, directory, logOf}
+use Rattle.log_layout.specs.Log.{laid, numbersOf, header, indexOffset, segmentsOffset, directory, logOf}
 use Rattle.log_layout.proofs.Laid.{length-laid, length-numbersOf}
 use Rattle.log_layout.proofs.Sound.{directory-length}
 
@@ -32,27 +32,27 @@ fill-laid new old buffer j k xs rest f e h =
     (fill-part new old buffer j (laid xs []) rest
     (subst (λ (x : List ℕ). Filling new old buffer j x) (laid-append xs rest) f) (omega arith))
 
-module _ (out : List ℕ) (ss : List (List ℕ)) (h : segmentsPlace (length ss) + length (joined ss) ≤ length out) where
+module _ (out : List ℕ) (ss : List (List ℕ)) (h : segmentsOffset (length ss) + length (joined ss) ≤ length out) where
   abbrev n : ℕ
   n = length ss
 
   abbrev entries : List ℕ
-  entries = numbersOf (directory (segmentsPlace n) ss)
+  entries = numbersOf (directory (segmentsOffset n) ss)
 
   pub parts-put :
       placed
-      (placed (placed (placed out 0 (laid (header n) [])) 16 (laid entries [])) (indexPlace n) (laid (index ss) []))
-      (segmentsPlace n) (joined ss)
+      (placed (placed (placed out 0 (laid (header n) [])) 16 (laid entries [])) (indexOffset n) (laid (index ss) []))
+      (segmentsOffset n) (joined ss)
       ≡ overwritten out (logOf ss)
   unfolding logOf
   parts-put =
       let log = logOf ss in
       let i = index-length indexSize 0 ss in
-      let d = length-numbersOf (directory (segmentsPlace n) ss) in
-      let l = directory-length (segmentsPlace n) ss in
+      let d = length-numbersOf (directory (segmentsOffset n) ss) in
+      let l = directory-length (segmentsOffset n) ss in
       let f₁ = fill-laid log out out 0 16 (header n) _ (fill-start log out) refl (omega arith) in
-      let f₂ = fill-laid log out _ 16 (indexPlace n) entries _ f₁ (omega arith) (omega arith) in
-      let f₃ = fill-laid log out _ (indexPlace n) (segmentsPlace n) (index ss) _ f₂ (omega arith) (omega arith) in
-      let filled = placed (placed (placed out 0 (laid (header n) [])) 16 (laid entries [])) (indexPlace n) (laid (index ss) []) in
-      let f₄ = subst (λ (x : List ℕ). Filling log out filled (segmentsPlace n) x) (sym (append-nil (joined ss))) f₃ in
-      fill-done log out _ _ (fill-part log out _ (segmentsPlace n) (joined ss) [] f₄ h)
+      let f₂ = fill-laid log out _ 16 (indexOffset n) entries _ f₁ (omega arith) (omega arith) in
+      let f₃ = fill-laid log out _ (indexOffset n) (segmentsOffset n) (index ss) _ f₂ (omega arith) (omega arith) in
+      let filled = placed (placed (placed out 0 (laid (header n) [])) 16 (laid entries [])) (indexOffset n) (laid (index ss) []) in
+      let f₄ = subst (λ (x : List ℕ). Filling log out filled (segmentsOffset n) x) (sym (append-nil (joined ss))) f₃ in
+      fill-done log out _ _ (fill-part log out _ (segmentsOffset n) (joined ss) [] f₄ h)

@@ -10,7 +10,7 @@ ghost use lib.Dec.{leb};
 ghost use lib.ListN.{length};
 ghost use Rattle.lists.specs.Numbers.{bytesOf};
 ghost use Rattle.lists.specs.Write.{placed};
-ghost use Rattle.log_layout.specs.Log.{laid, header, indexPlace, segmentsPlace};
+ghost use Rattle.log_layout.specs.Log.{laid, header, indexOffset, segmentsOffset};
 ghost use Rattle.log_parts.specs.Parts.{put};
 
 // Whether a buffer has room for `front` bytes and a directory of so many entries.
@@ -35,7 +35,7 @@ fn put_number(out: &mut [u8], at: usize, value: usize)
 }
 
 fn header_in(out: &mut [u8], segments: usize)
-    requires { ⌜ indexPlace segments ≤ length (now out) ⌝ }
+    requires { ⌜ indexOffset segments ≤ length (now out) ⌝ }
     ensures { λ _. ⌜ now (out .exit) ≡ placed (now (out .entry)) 0 (laid (header segments) []) ⌝ }
 {
     put_number(out, 0, segments);
@@ -55,7 +55,7 @@ fn entry_in(out: &mut [u8], number: usize, start: usize, count: usize)
 
 // The header, where there is room for header and directory. [I2]
 pub fn put_header(out: &mut [u8], segments: usize)
-    ensures { λ _. ⌜ now (out .exit) ≡ put (indexPlace segments) (now (out .entry)) 0 (header segments) ⌝ }
+    ensures { λ _. ⌜ now (out .exit) ≡ put (indexOffset segments) (now (out .entry)) 0 (header segments) ⌝ }
 {
     if has_room(out.len(), DIRECTORY, segments) {
         header_in(out, segments);
@@ -73,7 +73,7 @@ pub fn put_entry(out: &mut [u8], number: usize, start: usize, count: usize)
 
 // The index, where there is room for it behind header and directory. [I5]
 pub fn put_index(out: &mut [u8], segments: usize, index: [usize; 254])
-    ensures { λ _. ⌜ now (out .exit) ≡ put (segmentsPlace segments) (now (out .entry)) (indexPlace segments) index ⌝ }
+    ensures { λ _. ⌜ now (out .exit) ≡ put (segmentsOffset segments) (now (out .entry)) (indexOffset segments) index ⌝ }
 {
     if !has_room(out.len(), LOG_FRONT, segments) {
         return;

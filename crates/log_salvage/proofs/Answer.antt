@@ -15,7 +15,7 @@ use Rattle.answers.proofs.Laws.{passed}
 use Rattle.lists.specs.Write.{overwritten}
 use Rattle.reading.specs.Promise.{joined}
 use Rattle.log_index.specs.Last.{indexSize, index}
-use Rattle.log_layout.specs.Log.{numbersOf, indexPlace, segmentsPlace, logOf, longestFile}
+use Rattle.log_layout.specs.Log.{numbersOf, indexOffset, segmentsOffset, logOf, longestFile}
 use Rattle.log_layout.specs.Layout.{countIn, numbers, segmentsBy}
 use Rattle.log_layout.proofs.Sound.{log-length, segments-count}
 use Rattle.log.specs.Soundness.{sameNumbers}
@@ -23,7 +23,7 @@ use Rattle.log_kept.specs.Kept.{entryCount, keptOf, droppedIn, keptSegments}
 use Rattle.log_kept.specs.Sorting.{counts}
 use Rattle.log_kept.specs.declared.Counts.{Counts}
 use Rattle.log_kept.proofs.Kept.{bytesBy}
-use Rattle.log_kept.proofs.Turns.{counts-of, bytes-of}
+use Rattle.log_kept.proofs.Rounds.{counts-of, bytes-of}
 use Rattle.log_salvage.specs.Report.{salvaged, differing, Report, reportOf}
 use Rattle.log_salvage.specs.Salvage.{salvageRefusal, figures, salvageAnswer, salvageOut, salvageReport}
 use Rattle.log_salvage.specs.declared.Figures.{Figures}
@@ -32,13 +32,13 @@ use Rattle.log_salvage.specs.declared.Salvaged.the-variants.{Written, Re
 -- ---- sizes
 
 module _ (file : List ℕ) where
-  pub old-end : 1032 ≤ length file → segmentsPlace (entryCount file) ≤ length file
+  pub old-end : 1032 ≤ length file → segmentsOffset (entryCount file) ≤ length file
   old-end h = omega arith
 
-  pub salvaged-size : length (salvaged file) ≡ segmentsPlace (length (keptOf file (entryCount file))) + bytesBy file (keptOf file (entryCount file))
+  pub salvaged-size : length (salvaged file) ≡ segmentsOffset (length (keptOf file (entryCount file))) + bytesBy file (keptOf file (entryCount file))
   salvaged-size =
       log-length (keptSegments file)
-      ∙ ap (λ (n : ℕ). segmentsPlace n + bytesBy file (keptOf file (entryCount file))) (segments-count file (keptOf file (entryCount file)))
+      ∙ ap (λ (n : ℕ). segmentsOffset n + bytesBy file (keptOf file (entryCount file))) (segments-count file (keptOf file (entryCount file)))
 
   pub no-longer : 1032 ≤ length file → length (salvaged file) ≤ length file
   no-longer h =
@@ -101,7 +101,7 @@ module _ (file : List ℕ) (c : Counts) (e : c ≡ counts file (entryCount file)
   counted-left n k = omega (arith, k, ap (λ (x : Counts). x .bytes) e, bytes-of file (entryCount file))
 
   pub counted-kept : (n : ℕ) → n ≡ entryCount file
-      → (c .kept ≡ length (keptOf file n)) × (segmentsPlace (c .kept) + bytesBy file (keptOf file n) ≤ length file)
+      → (c .kept ≡ length (keptOf file n)) × (segmentsOffset (c .kept) + bytesBy file (keptOf file n) ≤ length file)
   counted-kept n k =
       let b = ap (λ (x : Counts). x .bytes) e in
       let s = counted-size in
@@ -109,7 +109,7 @@ module _ (file : List ℕ) (c : Counts) (e : c ≡ counts file (entryCount file)
 
 pub figures-are : (file out after : List ℕ) (c : Counts) (n : ℕ) (marks : List ℕ) (changed : ℕ) (header : Bool)
     → c ≡ counts file (entryCount file) → n ≡ entryCount file → marks ≡ index (segmentsBy file (keptOf file n))
-    → changed ≡ differing (numbers indexSize (drop (indexPlace n) file)) marks
+    → changed ≡ differing (numbers indexSize (drop (indexOffset n) file)) marks
     → after ≡ overwritten out (logOf (segmentsBy file (keptOf file n)))
     → header ≡ not (sameNumbers (take 16 file) (take 16 after))
     → (_≡_ {A = Figures}
@@ -130,8 +130,8 @@ figures-are file out after c n marks changed header ec en em ei eo eh =
     let count : 1032 + 8 * c .kept + c .bytes ≡ length (salvaged file) =
     ap (λ (x : Counts). 1032 + 8 * x .kept + x .bytes) ec ∙ sym size in
     let index-is : changed ≡ reportOf file .index-changed =
-    ei ∙ ap (differing (numbers indexSize (drop (indexPlace n) file))) em
-    ∙ ap (λ (k : ℕ). differing (numbers indexSize (drop (indexPlace k) file)) (index (segmentsBy file (keptOf file k)))) en in
+    ei ∙ ap (differing (numbers indexSize (drop (indexOffset n) file))) em
+    ∙ ap (λ (k : ℕ). differing (numbers indexSize (drop (indexOffset k) file)) (index (segmentsBy file (keptOf file k)))) en in
     let left : length file - (1032 + 8 * n) - c .bytes ≡ reportOf file .leftover =
     ap₂ (λ (k : ℕ) (x : Counts). length file - (1032 + 8 * k) - x .bytes) en ec in
     let header-is : header ≡ reportOf file .header-changed =

@@ -1,5 +1,5 @@
 pub mod Packing
-pub mod Turns
+pub mod Rounds
 pub mod Answer
 pub mod LeftOver
 pub mod Promises

@@ -12,7 +12,7 @@ use Rattle.log_index.specs.Last.{index, indexSize}
 use Rattle.log_index.specs.Marks.{marked}
 use Rattle.log_index.proofs.Marks.{markedAll, all-marked}
 use Rattle.log_index.proofs.Index.{index-length}
-use Rattle.log_layout.specs.Log.{Entry, laid, header, numbersOf, directory, logOf, indexPlace, segmentsPlace}
+use Rattle.log_layout.specs.Log.{Entry, laid, header, numbersOf, directory, logOf, indexOffset, segmentsOffset}
 use Rattle.log_layout.specs.Layout.{segmentBy, segmentsBy}
 use Rattle.log_layout.proofs.Laid.{length-numbersOf}
 use Rattle.log_layout.proofs.Sound.{directory-length, segments-count}
@@ -21,7 +21,7 @@ use Rattle.log_parts.proofs.Placed.{placed-none, placed-length, placed-both, pl
 use Rattle.log_kept.specs.Kept.{keptOf}
 use Rattle.log_kept.specs.declared.Judged.the-variants.{Kept, Dropped}
 use Rattle.log_kept.proofs.Kept.{bytesBy, whole-segment}
-use Rattle.log_kept.proofs.Turns.{keptLeft, judgedAt, kept-start, kept-end, kept-within, kept-first, kept-same, bytes-first}
+use Rattle.log_kept.proofs.Rounds.{keptLeft, judgedAt, kept-start, kept-end, kept-within, kept-first, kept-same, bytes-first}
 
 -- the directory of segments from a start on, as bytes
 abbrev pub directoryBytes : ℕ → List (List ℕ) → List ℕ
@@ -40,14 +40,14 @@ pub record Packing (file : List ℕ) (n kept : ℕ) (old out marks : List ℕ) (
   pub within : i ≤ n
   pub size : length out ≡ length old
   pub count-is : done + length (keptLeft file n i limit) ≡ kept
-  pub behind : segmentsPlace kept ≤ at
+  pub behind : segmentsOffset kept ≤ at
   pub fits : at + bytesBy file (keptLeft file n i limit) ≤ length old
   pub marks-are : markedAll done marks (segmentsBy file (keptLeft file n i limit)) ≡ index (segmentsBy file (keptOf file n))
-  pub packed-is : packed out done at (segmentsBy file (keptLeft file n i limit)) ≡ packed old 0 (segmentsPlace kept) (segmentsBy file (keptOf file n))
+  pub packed-is : packed out done at (segmentsBy file (keptLeft file n i limit)) ≡ packed old 0 (segmentsOffset kept) (segmentsBy file (keptOf file n))
 
 pub packing-start : (file : List ℕ) (n kept : ℕ) (old : List ℕ) → kept ≡ length (keptOf file n)
-    → segmentsPlace kept + bytesBy file (keptOf file n) ≤ length old
-    → Packing file n kept old old (replicate 254 0) (segmentsPlace n) (segmentsPlace kept) 0 0
+    → segmentsOffset kept + bytesBy file (keptOf file n) ≤ length old
+    → Packing file n kept old old (replicate 254 0) (segmentsOffset n) (segmentsOffset kept) 0 0
 packing-start file n kept old e h =
     let k = kept-start file n 0 in
     record {
@@ -57,7 +57,7 @@ packing-start file n kept old e h =
       behind = omega arith;
       fits = omega (arith, h, ap (bytesBy file) k);
       marks-are = ap (λ (es : List Entry). markedAll 0 (replicate 254 0) (segmentsBy file es)) (sym k) ∙ all-marked (segmentsBy file (keptOf file n));
-      packed-is = ap (λ (es : List Entry). packed old 0 (segmentsPlace kept) (segmentsBy file es)) (sym k);
+      packed-is = ap (λ (es : List Entry). packed old 0 (segmentsOffset kept) (segmentsBy file es)) (sym k);
     }
 
 module _ (file : List ℕ) (n kept : ℕ) (old out marks : List ℕ) (limit at done i : ℕ) (p : Packing file n kept old out marks limit at done i) where
@@ -165,7 +165,7 @@ module _ (file : List ℕ) (n kept : ℕ) (old out marks : List ℕ) (limit at d
     unfolding markedAll
     packing-marks = sym (ap (λ (es : List Entry). markedAll done marks (segmentsBy file es)) none-left) ∙ p .marks-are
 
-    pub packing-done : out ≡ packed old 0 (segmentsPlace kept) (segmentsBy file (keptOf file n))
+    pub packing-done : out ≡ packed old 0 (segmentsOffset kept) (segmentsBy file (keptOf file n))
     unfolding directory laid
     packing-done =
         sym
@@ -174,15 +174,15 @@ module _ (file : List ℕ) (n kept : ℕ) (old out marks : List ℕ) (limit at d
         ∙ p .packed-is
 
 -- header, directory, segments and then the index are the log
-pub log-put : (out : List ℕ) (ss : List (List ℕ)) (kept : ℕ) → kept ≡ length ss → segmentsPlace kept + length (joined ss) ≤ length out
-    → placed (packed (placed out 0 (laid (header kept) [])) 0 (segmentsPlace kept) ss) (indexPlace kept) (laid (index ss) []) ≡ overwritten out (logOf ss)
+pub log-put : (out : List ℕ) (ss : List (List ℕ)) (kept : ℕ) → kept ≡ length ss → segmentsOffset kept + length (joined ss) ≤ length out
+    → placed (packed (placed out 0 (laid (header kept) [])) 0 (segmentsOffset kept) ss) (indexOffset kept) (laid (index ss) []) ≡ overwritten out (logOf ss)
 log-put out ss kept e h =
     let n = length ss in
-    let b = placed (placed out 0 (laid (header n) [])) 16 (directoryBytes (segmentsPlace n) ss) in
+    let b = placed (placed out 0 (laid (header n) [])) 16 (directoryBytes (segmentsOffset n) ss) in
     let i = laid-alone (index ss) in
     let l = index-length indexSize 0 ss in
-    let d = directory-size (segmentsPlace n) ss in
+    let d = directory-size (segmentsOffset n) ss in
     let a = laid-alone (header n) in
     let l₁ = placed-length out 0 (laid (header n) []) (omega arith) in
-    let l₂ = placed-length (placed out 0 (laid (header n) [])) 16 (directoryBytes (segmentsPlace n) ss) (omega arith) in
-    rw e (placed-swap b (indexPlace n) (laid (index ss) []) (segmentsPlace n) (joined ss) (omega arith) (omega arith) ∙ parts-put out ss (omega arith))
+    let l₂ = placed-length (placed out 0 (laid (header n) [])) 16 (directoryBytes (segmentsOffset n) ss) (omega arith) in
+    rw e (placed-swap b (indexOffset n) (laid (index ss) []) (segmentsOffset n) (joined ss) (omega arith) (omega arith) ∙ parts-put out ss (omega arith))

@@ -12,14 +12,14 @@ use Rattle.lists.specs.Write.{overwritten}
 use Rattle.lists.proofs.Write.{overwritten-take}
 use Rattle.reading.specs.Promise.{joined}
 use Rattle.log_index.specs.Last.{indexSize, index}
-use Rattle.log_layout.specs.Log.{Entry, directory, directoryPlace, indexPlace, segmentsPlace, logOf, longestFile, Sound}
+use Rattle.log_layout.specs.Log.{Entry, directory, directoryOffset, indexOffset, segmentsOffset, logOf, longestFile, Sound}
 use Rattle.log_layout.specs.Layout.{countIn, entries, numbers, segmentsBy, segmentsIn, directoryIn, indexIn}
 use Rattle.log_layout.proofs.Sound.{log-length, count-log, directory-log, index-log, segments-log, segments-count}
 use Rattle.log.specs.Soundness.{sameNumbers}
-use Rattle.log.proofs.Turns.{same-self}
+use Rattle.log.proofs.Rounds.{same-self}
 use Rattle.log_kept.specs.Kept.{entryCount, fault, kept, dropped, keptOf, droppedOf, droppedIn, keptSegments}
 use Rattle.log_kept.proofs.Kept.{bytesBy, fault-none, kept-here, kept-not, all-kept}
-use Rattle.log_kept.proofs.Turns.{counts-of}
+use Rattle.log_kept.proofs.Rounds.{counts-of}
 use Rattle.log_salvage.specs.Report.{salvaged, differing, Report, reportOf, emptyReport}
 use Rattle.log_salvage.specs.Salvage.{salvageRefusal, salvageOut, Apart, Salvage}
 use Rattle.log_salvage.proofs.Answer.{no-longer, sized, passes}
@@ -37,8 +37,8 @@ kept-apart size limit (e ∷ es) = by-fault (λ l. kept-apart size l es) (fault 
         subst (Apart limit size) (sym (kept-here size limit e es 0 f)) (w .0, w .1, rest (e .0 + e .1))
     by-fault rest (some r) f = subst (Apart limit size) (sym (kept-not size limit e es 0 r f)) (rest limit)
 
-apart-in : (file : List ℕ) → Apart (segmentsPlace (entryCount file)) (length file) (keptOf file (entryCount file))
-apart-in file = kept-apart (length file) (segmentsPlace (entryCount file)) (entries (entryCount file) (drop directoryPlace file))
+apart-in : (file : List ℕ) → Apart (segmentsOffset (entryCount file)) (length file) (keptOf file (entryCount file))
+apart-in file = kept-apart (length file) (segmentsOffset (entryCount file)) (entries (entryCount file) (drop directoryOffset file))
 
 -- numbers that are the same do not differ
 none-differ : (xs : List ℕ) → differing xs xs ≡ 0
@@ -55,26 +55,26 @@ module _ (ss : List (List ℕ)) (fits : length (logOf ss) ≤ longestFile) where
   abbrev n : ℕ
   n = length ss
 
-  long : length log ≡ segmentsPlace n + length (joined ss)
+  long : length log ≡ segmentsOffset n + length (joined ss)
   long = log-length ss
 
   count-is : entryCount log ≡ n
   count-is = omega (arith, long, count-log ss fits)
 
-  entries-are : entries (entryCount log) (drop directoryPlace log) ≡ directory (segmentsPlace n) ss
-  entries-are = ap (λ (k : ℕ). entries k (drop directoryPlace log)) (count-is ∙ sym (count-log ss fits)) ∙ directory-log ss fits
+  entries-are : entries (entryCount log) (drop directoryOffset log) ≡ directory (segmentsOffset n) ss
+  entries-are = ap (λ (k : ℕ). entries k (drop directoryOffset log)) (count-is ∙ sym (count-log ss fits)) ∙ directory-log ss fits
 
-  all : (kept (length log) (segmentsPlace n) (directory (segmentsPlace n) ss) ≡ directory (segmentsPlace n) ss)
-      × (dropped (length log) (segmentsPlace n) 0 (directory (segmentsPlace n) ss) ≡ [])
-  all = all-kept (length log) (segmentsPlace n) 0 ss (omega (arith, long))
+  all : (kept (length log) (segmentsOffset n) (directory (segmentsOffset n) ss) ≡ directory (segmentsOffset n) ss)
+      × (dropped (length log) (segmentsOffset n) 0 (directory (segmentsOffset n) ss) ≡ [])
+  all = all-kept (length log) (segmentsOffset n) 0 ss (omega (arith, long))
 
   kept-are : keptOf log (entryCount log) ≡ directoryIn log
   kept-are =
-      ap₂ (λ (k : ℕ) (es : List Entry). kept (length log) (segmentsPlace k) es) count-is entries-are
+      ap₂ (λ (k : ℕ) (es : List Entry). kept (length log) (segmentsOffset k) es) count-is entries-are
       ∙ all .0 ∙ sym (directory-log ss fits)
 
   none-dropped : droppedIn log ≡ []
-  none-dropped = ap₂ (λ (k : ℕ) (es : List Entry). dropped (length log) (segmentsPlace k) 0 es) count-is entries-are ∙ all .1
+  none-dropped = ap₂ (λ (k : ℕ) (es : List Entry). dropped (length log) (segmentsOffset k) 0 es) count-is entries-are ∙ all .1
 
   segments-are : keptSegments log ≡ ss
   segments-are = ap (segmentsBy log) kept-are ∙ segments-log ss fits
@@ -86,13 +86,13 @@ module _ (ss : List (List ℕ)) (fits : length (logOf ss) ≤ longestFile) where
   nothing-altered =
       let h : not (sameNumbers (take 16 log) (take 16 (salvaged log))) ≡ false =
       ap (λ (s : List ℕ). not (sameNumbers (take 16 log) (take 16 s))) comes-out ∙ ap not (same-self (take 16 log)) in
-      let i : differing (numbers indexSize (drop (indexPlace (entryCount log)) log)) (index (keptSegments log)) ≡ 0 =
+      let i : differing (numbers indexSize (drop (indexOffset (entryCount log)) log)) (index (keptSegments log)) ≡ 0 =
       ap₂ differing
-      (ap (λ (k : ℕ). numbers indexSize (drop (indexPlace k) log)) (count-is ∙ sym (count-log ss fits)) ∙ index-log ss fits)
+      (ap (λ (k : ℕ). numbers indexSize (drop (indexOffset k) log)) (count-is ∙ sym (count-log ss fits)) ∙ index-log ss fits)
       (ap index segments-are)
       ∙ none-differ (index ss) in
-      let l : length log - segmentsPlace (entryCount log) - length (joined (keptSegments log)) ≡ 0 =
-      ap₂ (λ (k : ℕ) (x : List (List ℕ)). length log - segmentsPlace k - length (joined x)) count-is segments-are ∙ omega (arith, long) in
+      let l : length log - segmentsOffset (entryCount log) - length (joined (keptSegments log)) ≡ 0 =
+      ap₂ (λ (k : ℕ) (x : List (List ℕ)). length log - segmentsOffset k - length (joined x)) count-is segments-are ∙ omega (arith, long) in
       rw (none-dropped, h, i, l)
 
 module _ (file : List ℕ) (s : Sound file) where
@@ -135,7 +135,7 @@ salvage-promises =
       each = λ file.
           ap (λ (k : ℕ). k + length (droppedIn file)) (segments-count file (keptOf file (entryCount file))) ∙ counts-of file (entryCount file);
       apart = apart-in;
-      left = λ file. left-over file (segmentsPlace (entryCount file)) (keptOf file (entryCount file)) (apart-in file);
+      left = λ file. left-over file (segmentsOffset (entryCount file)) (keptOf file (entryCount file)) (apart-in file);
       accepted = λ file out report s h k.
           passes file out report (sound-long file s) (s .fits) h (omega arith);
       same = sound-same;

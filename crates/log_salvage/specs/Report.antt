@@ -6,7 +6,7 @@ use lib.Dec.{eqb}
 use lib.ListN.{length, take, drop}
 use Rattle.reading.specs.Promise.{joined}
 use Rattle.log_index.specs.Last.{indexSize, index}
-use Rattle.log_layout.specs.Log.{indexPlace, segmentsPlace, logOf}
+use Rattle.log_layout.specs.Log.{indexOffset, segmentsOffset, logOf}
 use Rattle.log_layout.specs.Layout.{numbers}
 use Rattle.log.specs.Soundness.{sameNumbers}
 use Rattle.log_kept.specs.Kept.{entryCount, Dropped, droppedIn, keptSegments}
@@ -23,7 +23,7 @@ differing (x ∷ xs) (y ∷ ys) = cond (eqb x y) 0 1 + differing xs ys
 
 -- the old index stands behind the directory, whatever the header says of its place [I21 I27]
 abbrev pub oldIndex : List ℕ → List ℕ
-oldIndex file = numbers indexSize (drop (indexPlace (entryCount file)) file)
+oldIndex file = numbers indexSize (drop (indexOffset (entryCount file)) file)
 
 pub record Report : Type 0 where
   -- number and reason of each dropped entry, in the directory's order [I25]
@@ -42,7 +42,7 @@ reportOf file =
       dropped = droppedIn file;
       header-changed = not (sameNumbers (take 16 file) (take 16 (salvaged file)));
       index-changed = differing (oldIndex file) (index (keptSegments file));
-      leftover = length file - segmentsPlace (entryCount file) - length (joined (keptSegments file));
+      leftover = length file - segmentsOffset (entryCount file) - length (joined (keptSegments file));
     }
 
 -- nothing was altered [I29]

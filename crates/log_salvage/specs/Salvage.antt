@@ -10,7 +10,7 @@ use Rattle.answers.specs.Refusals.{firstFailing, unlessRefused}
 use Rattle.answers.specs.declared.Refusal.{Refusal}
 use Rattle.answers.specs.declared.Refusal.the-variants.{NoRoom, BadLogSize}
 use Rattle.lists.specs.Write.{overwritten}
-use Rattle.log_layout.specs.Log.{Entry, numbersOf, segmentsPlace, longestFile, Sound}
+use Rattle.log_layout.specs.Log.{Entry, numbersOf, segmentsOffset, longestFile, Sound}
 use Rattle.log_layout.specs.Layout.{countIn, segmentsIn}
 use Rattle.log_kept.specs.Kept.{entryCount, keptOf, droppedIn, keptSegments}
 use Rattle.log_salvage.specs.Report.{salvaged, Report, reportOf, emptyReport}
@@ -80,11 +80,11 @@ pub record Salvage : Type 0 where
   -- of the entries each is kept or dropped; the kept ones lie in the file behind the old index and do not overlap [I22 I23]
   pub each : (file : List ℕ) → length (keptSegments file) + length (droppedIn file) ≡ entryCount file
   -- [I22]
-  pub apart : (file : List ℕ) → Apart (segmentsPlace (entryCount file)) (length file) (keptOf file (entryCount file))
+  pub apart : (file : List ℕ) → Apart (segmentsOffset (entryCount file)) (length file) (keptOf file (entryCount file))
   -- the bytes behind the old index that lie in no kept segment, counted one by one, are as many as is reported [I28]
   pub left : (file : List ℕ)
       → reportOf file .leftover
-      ≡ bytesInNone (length file - segmentsPlace (entryCount file)) (segmentsPlace (entryCount file)) (keptOf file (entryCount file))
+      ≡ bytesInNone (length file - segmentsOffset (entryCount file)) (segmentsOffset (entryCount file)) (keptOf file (entryCount file))
   -- a sound log is refused only for want of room; the same bytes are written, and there is nothing to report [I29]
   pub accepted : (file out report : List ℕ) → Sound file → length file ≤ length out → 2 * countIn file ≤ length report
       → salvageRefusal file out report ≡ none

@@ -16,7 +16,7 @@ ghost use lib.ListN.{length, take, drop};
 ghost use Rattle.lists.specs.Write.{overwritten, placed};
 ghost use Rattle.reading.specs.Promise.{joined};
 ghost use Rattle.log_index.specs.Last.{indexSize, index};
-ghost use Rattle.log_layout.specs.Log.{laid, numbersOf, directory, logOf, indexPlace, segmentsPlace};
+ghost use Rattle.log_layout.specs.Log.{laid, numbersOf, directory, logOf, indexOffset, segmentsOffset};
 ghost use Rattle.log_layout.specs.Layout.{numbers, segmentsBy};
 ghost use Rattle.log.specs.Soundness.{sameNumbers};
 ghost use Rattle.log_kept.specs.Kept.{entryCount, keptOf, keptSegments};
@@ -41,11 +41,11 @@ pub enum Salvaged {
 
 // Writes the directory of the kept entries and their segments, side by side, and makes their index.
 fn pack(out: &mut [u8], file: &[u8], count: u32, kept: usize) -> [usize; 254]
-    requires { ⌜ (kept ≡ length (keptOf (now file) count)) × (segmentsPlace kept + length (joined (segmentsBy (now file) (keptOf (now file) count))) ≤ length (now out)) ⌝ }
+    requires { ⌜ (kept ≡ length (keptOf (now file) count)) × (segmentsOffset kept + length (joined (segmentsBy (now file) (keptOf (now file) count))) ≤ length (now out)) ⌝ }
     ensures { λ r. ⌜ r ≡ index (segmentsBy (now (file .entry)) (keptOf (now (file .entry)) count)) ⌝ }
     ensures { λ _. ⌜ now (out .exit) ≡ placed
-        (placed (now (out .entry)) 16 (laid (numbersOf (directory (segmentsPlace kept) (segmentsBy (now (file .entry)) (keptOf (now (file .entry)) count)))) []))
-        (segmentsPlace kept) (joined (segmentsBy (now (file .entry)) (keptOf (now (file .entry)) count))) ⌝ }
+        (placed (now (out .entry)) 16 (laid (numbersOf (directory (segmentsOffset kept) (segmentsBy (now (file .entry)) (keptOf (now (file .entry)) count)))) []))
+        (segmentsOffset kept) (joined (segmentsBy (now (file .entry)) (keptOf (now (file .entry)) count))) ⌝ }
 {
     let mut index = [0usize; 254];
     let mut limit = LOG_FRONT + LOG_ENTRY * (count as usize);
@@ -73,7 +73,7 @@ fn pack(out: &mut [u8], file: &[u8], count: u32, kept: usize) -> [usize; 254]
 
 // Writes the log of the kept segments; its index.
 fn put_log(out: &mut [u8], file: &[u8], count: u32, kept: usize) -> [usize; 254]
-    requires { ⌜ (kept ≡ length (keptOf (now file) count)) × (segmentsPlace kept + length (joined (segmentsBy (now file) (keptOf (now file) count))) ≤ length (now out)) ⌝ }
+    requires { ⌜ (kept ≡ length (keptOf (now file) count)) × (segmentsOffset kept + length (joined (segmentsBy (now file) (keptOf (now file) count))) ≤ length (now out)) ⌝ }
     ensures { λ r. ⌜ r ≡ index (segmentsBy (now (file .entry)) (keptOf (now (file .entry)) count)) ⌝ }
     ensures { λ _. ⌜ now (out .exit) ≡ overwritten (now (out .entry)) (logOf (segmentsBy (now (file .entry)) (keptOf (now (file .entry)) count))) ⌝ }
 {
@@ -85,7 +85,7 @@ fn put_log(out: &mut [u8], file: &[u8], count: u32, kept: usize) -> [usize; 254]
 
 // How many numbers of the old index are not those of the new one.
 fn index_changed(file: &[u8], count: u32, index: [usize; 254]) -> usize
-    ensures { λ r. ⌜ r ≡ differing (numbers indexSize (drop (indexPlace count) (now (file .entry)))) index ⌝ }
+    ensures { λ r. ⌜ r ≡ differing (numbers indexSize (drop (indexOffset count) (now (file .entry)))) index ⌝ }
 {
     let place = DIRECTORY + LOG_ENTRY * (count as usize);
     let mut changed = 0;

@@ -1,3 +1,3 @@
-pub mod Turns
+pub mod Rounds
 pub mod Parts
 pub mod Applied

@@ -17,7 +17,7 @@ use Rattle.lists.specs.Write.{overwritten, placed}
 use Rattle.lists.proofs.Write.{overwritten-take}
 use Rattle.reading.specs.Promise.{joined}
 use Rattle.log_index.specs.Last.{index}
-use Rattle.log_layout.specs.Log.{Entry, laid, numbersOf, header, indexPlace, segmentsPlace, directory, logOf, longestFile, Sound}
+use Rattle.log_layout.specs.Log.{Entry, laid, numbersOf, header, indexOffset, segmentsOffset, directory, logOf, longestFile, Sound}
 use Rattle.log_layout.proofs.Sound.{log-length}
 use Rattle.log_parts.proofs.Parts.{parts-put}
 use Rattle.log_writer.specs.Writing.{sum, cut, directoryBy, written, writeRefusal, writeAnswer, writeOut, WritesSound}
@@ -48,14 +48,14 @@ module _ where
       (cut-directory (start + n) ns (drop n bytes) (omega (arith, length-drop n bytes))))
 
 module _ (bytes lengths : List ℕ) (e : sum lengths ≡ length bytes) where
-  pub written-length : length (written bytes lengths) ≡ segmentsPlace (length lengths) + length bytes
+  pub written-length : length (written bytes lengths) ≡ segmentsOffset (length lengths) + length bytes
   written-length =
       log-length (cut lengths bytes)
-      ∙ ap₂ (λ (n : ℕ) (s : List ℕ). segmentsPlace n + length s) (cut-count lengths bytes) (cut-joined lengths bytes e)
+      ∙ ap₂ (λ (n : ℕ) (s : List ℕ). segmentsOffset n + length s) (cut-count lengths bytes) (cut-joined lengths bytes e)
 
 -- ---- the parts
 
-module _ (out bytes lengths : List ℕ) (e : sum lengths ≡ length bytes) (h : segmentsPlace (length lengths) + length bytes ≤ length out) where
+module _ (out bytes lengths : List ℕ) (e : sum lengths ≡ length bytes) (h : segmentsOffset (length lengths) + length bytes ≤ length out) where
   abbrev n : ℕ
   n = length lengths
 
@@ -64,17 +64,17 @@ module _ (out bytes lengths : List ℕ) (e : sum lengths ≡ length bytes) (h : 
 
   pub parts-by-lengths :
       placed
-      (placed (placed (placed out 0 (laid (header n) [])) 16 (laid (numbersOf (directoryBy (segmentsPlace n) lengths)) []))
-      (indexPlace n) (laid (index ss) []))
-      (segmentsPlace n) bytes
+      (placed (placed (placed out 0 (laid (header n) [])) 16 (laid (numbersOf (directoryBy (segmentsOffset n) lengths)) []))
+      (indexOffset n) (laid (index ss) []))
+      (segmentsOffset n) bytes
       ≡ overwritten out (written bytes lengths)
   parts-by-lengths =
       let c = cut-count lengths bytes in
       let j = cut-joined lengths bytes e in
-      let d = cut-directory (segmentsPlace n) lengths bytes e in
+      let d = cut-directory (segmentsOffset n) lengths bytes e in
       sym
-      (ap (λ (b : List ℕ). placed (placed (placed (placed out 0 (laid (header n) [])) 16 (laid (numbersOf (directory (segmentsPlace n) ss)) [])) (indexPlace n) (laid (index ss) [])) (segmentsPlace n) b) j
-      ∙ ap (λ (x : List Entry). placed (placed (placed (placed out 0 (laid (header n) [])) 16 (laid (numbersOf x) [])) (indexPlace n) (laid (index ss) [])) (segmentsPlace n) bytes) d)
+      (ap (λ (b : List ℕ). placed (placed (placed (placed out 0 (laid (header n) [])) 16 (laid (numbersOf (directory (segmentsOffset n) ss)) [])) (indexOffset n) (laid (index ss) [])) (segmentsOffset n) b) j
+      ∙ ap (λ (x : List Entry). placed (placed (placed (placed out 0 (laid (header n) [])) 16 (laid (numbersOf x) [])) (indexOffset n) (laid (index ss) [])) (segmentsOffset n) bytes) d)
       ∙ rw c at (parts-put out ss (omega (arith, c, ap length j, h)))
 
 -- ---- the answer
@@ -85,20 +85,20 @@ module _ (bytes lengths out : List ℕ) where
   refused-sum h = rw h
 
   module _ (e : eqb (sum lengths) (length bytes) ≡ true) where
-    size : length (written bytes lengths) ≡ segmentsPlace (length lengths) + length bytes
+    size : length (written bytes lengths) ≡ segmentsOffset (length lengths) + length bytes
     size = written-length bytes lengths (eqb-true (sum lengths) (length bytes) e)
 
-    pub refused-long : longestFile < segmentsPlace (length lengths) + length bytes → writeRefusal bytes lengths out ≡ some BadLog
+    pub refused-long : longestFile < segmentsOffset (length lengths) + length bytes → writeRefusal bytes lengths out ≡ some BadLog
     unfolding writeRefusal
     refused-long h = rw (e, lt-leb (length (written bytes lengths)) longestFile (omega (arith, size, h)))
 
-    module _ (l : segmentsPlace (length lengths) + length bytes ≤ longestFile) where
-      pub refused-room : length out < segmentsPlace (length lengths) + length bytes → writeRefusal bytes lengths out ≡ some NoRoom
+    module _ (l : segmentsOffset (length lengths) + length bytes ≤ longestFile) where
+      pub refused-room : length out < segmentsOffset (length lengths) + length bytes → writeRefusal bytes lengths out ≡ some NoRoom
       unfolding writeRefusal
       refused-room h =
           rw (e, le-leb (length (written bytes lengths)) longestFile (omega (arith, size, l)), lt-leb (length (written bytes lengths)) (length out) (omega (arith, size, h)))
 
-      pub not-refused : segmentsPlace (length lengths) + length bytes ≤ length out → writeRefusal bytes lengths out ≡ none
+      pub not-refused : segmentsOffset (length lengths) + length bytes ≤ length out → writeRefusal bytes lengths out ≡ none
       unfolding writeRefusal
       not-refused h =
           rw (e, le-leb (length (written bytes lengths)) longestFile (omega (arith, size, l)), le-leb (length (written bytes lengths)) (length out) (omega (arith, size, h)))

@@ -13,7 +13,7 @@ ghost use lib.Dec.{eqb};
 ghost use lib.ListN.{length};
 ghost use Rattle.lists.specs.Write.{overwritten, placed};
 ghost use Rattle.log_index.specs.Last.{index};
-ghost use Rattle.log_layout.specs.Log.{laid, numbersOf, segmentsPlace};
+ghost use Rattle.log_layout.specs.Log.{laid, numbersOf, segmentsOffset};
 ghost use Rattle.log_writer.specs.Writing.{sum, cut, directoryBy, written, writeAnswer, writeOut};
 
 // Whether the lengths add up to `count`. They are taken from it one by one, so that no sum wraps.
@@ -34,9 +34,9 @@ fn adds_up(lengths: &[u32], count: usize) -> bool
 }
 
 fn put_directory(out: &mut [u8], lengths: &[u32])
-    requires { ⌜ segmentsPlace (length (now lengths)) + sum (now lengths) ≤ length (now out) ⌝ }
+    requires { ⌜ segmentsOffset (length (now lengths)) + sum (now lengths) ≤ length (now out) ⌝ }
     ensures { λ _. ⌜ now (out .exit) ≡ placed (now (out .entry)) 16
-        (laid (numbersOf (directoryBy (segmentsPlace (length (now (lengths .entry)))) (now (lengths .entry)))) []) ⌝ }
+        (laid (numbersOf (directoryBy (segmentsOffset (length (now (lengths .entry)))) (now (lengths .entry)))) []) ⌝ }
 {
     let mut start = LOG_FRONT + LOG_ENTRY * lengths.len();
     let mut i = 0;
@@ -66,7 +66,7 @@ fn index_of(bytes: &[u8], lengths: &[u32]) -> [usize; 254]
 }
 
 fn put_log(out: &mut [u8], bytes: &[u8], lengths: &[u32])
-    requires { ⌜ (sum (now lengths) ≡ length (now bytes)) × (segmentsPlace (length (now lengths)) + length (now bytes) ≤ length (now out)) ⌝ }
+    requires { ⌜ (sum (now lengths) ≡ length (now bytes)) × (segmentsOffset (length (now lengths)) + length (now bytes) ≤ length (now out)) ⌝ }
     ensures { λ _. ⌜ now (out .exit) ≡ overwritten (now (out .entry)) (written (now (bytes .entry)) (now (lengths .entry))) ⌝ }
 {
     let place = DIRECTORY + LOG_ENTRY * lengths.len();

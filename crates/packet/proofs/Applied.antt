@@ -10,11 +10,11 @@ use Rattle.stuffing.specs.Stuffing.{wellAfter}
 use Rattle.reading.specs.Rules.{isBadChecksum}
 use Rattle.reading.proofs.Decided.{well}
 use Rattle.packet_front.specs.Front.{lengthOf, idOf}
-use Rattle.packet_front.specs.Begun.{frontAgrees, lengthAgrees}
+use Rattle.packet_front.specs.Header.{frontAgrees, lengthAgrees}
 use Rattle.packet_rules.specs.Shape.{verdict as shapeVerdict}
 use Rattle.packet.specs.Packet.{bodyOf, checksumRight, WellFormed}
 use Rattle.packet.specs.Verdict.{verdict, protocol2}
-use Rattle.packet.specs.Burst.{Spoiled, BurstDetected}
+use Rattle.packet.specs.Burst.{Replaced, BurstDetected}
 use Rattle.packet.specs.Applied.{changedTo, longWith, BurstApplied}
 use Rattle.packet.proofs.Laws.{laws}
 
@@ -28,7 +28,7 @@ status-well : WellFormed (changedTo 0x55 0x00)
 unfolding reduceIf shift shifts crcByte crcFrom wellAfter lengthOf bodyOf checksumRight frontAgrees lengthAgrees shapeVerdict
 status-well = well protocol2 laws (changedTo 0x55 0x00) refl
 
-first-byte : Spoiled front (0x55 ∷ []) (0x54 ∷ []) (0x00 ∷ end)
+first-byte : Replaced front (0x55 ∷ []) (0x54 ∷ []) (0x00 ∷ end)
 first-byte =
     record {
       behind = leb-true _ _ refl;
@@ -39,7 +39,7 @@ first-byte =
       changed = λ e. let z : _≡_ {A = ℕ} 0x54 0x55 = cc in absurd (omega arith);
     }
 
-last-byte : Spoiled (front ++ 0x55 ∷ []) (0x00 ∷ []) (0xFF ∷ []) end
+last-byte : Replaced (front ++ 0x55 ∷ []) (0x00 ∷ []) (0xFF ∷ []) end
 last-byte =
     record {
       behind = leb-true _ _ refl;
@@ -50,7 +50,7 @@ last-byte =
       changed = λ e. let z : _≡_ {A = ℕ} 0xFF 0x00 = cc in absurd (omega arith);
     }
 
-both-bytes : Spoiled front (0x55 ∷ 0x00 ∷ []) (0xAA ∷ 0x01 ∷ []) end
+both-bytes : Replaced front (0x55 ∷ 0x00 ∷ []) (0xAA ∷ 0x01 ∷ []) end
 both-bytes =
     record {
       behind = leb-true _ _ refl;
@@ -76,7 +76,7 @@ long-well : WellFormed (longWith 0x55 0x55)
 unfolding reduceIf shift shifts crcByte crcFrom wellAfter lengthOf bodyOf checksumRight frontAgrees lengthAgrees shapeVerdict
 long-well = well protocol2 laws (longWith 0x55 0x55) refl
 
-first-of-long : Spoiled long-front (0x55 ∷ []) (0xAA ∷ []) (middle ++ 0x55 ∷ long-end)
+first-of-long : Replaced long-front (0x55 ∷ []) (0xAA ∷ []) (middle ++ 0x55 ∷ long-end)
 first-of-long =
     record {
       behind = leb-true _ _ refl;
@@ -87,7 +87,7 @@ first-of-long =
       changed = λ e. let z : _≡_ {A = ℕ} 0xAA 0x55 = cc in absurd (omega arith);
     }
 
-last-of-long : Spoiled (long-front ++ 0x55 ∷ middle) (0x55 ∷ []) (0xAA ∷ []) long-end
+last-of-long : Replaced (long-front ++ 0x55 ∷ middle) (0x55 ∷ []) (0xAA ∷ []) long-end
 last-of-long =
     record {
       behind = leb-true _ _ refl;
@@ -98,7 +98,7 @@ last-of-long =
       changed = λ e. let z : _≡_ {A = ℕ} 0xAA 0x55 = cc in absurd (omega arith);
     }
 
-told : BurstDetected → (a d d′ z : List ℕ) → Spoiled a d d′ z → WellFormed (a ++ (d ++ z))
+told : BurstDetected → (a d d′ z : List ℕ) → Replaced a d d′ z → WellFormed (a ++ (d ++ z))
     → (¬ WellFormed (a ++ (d′ ++ z))) × (verdict ((a ++ (d′ ++ z)) ++ 0xFF ∷ []) ≡ isBadChecksum (idOf (a ++ (d ++ z))))
 told t a d d′ z s w = (t .refused a d d′ z s w, t .reported a d d′ z (0xFF ∷ []) s w)
 

@@ -13,15 +13,15 @@ use Rattle.reading.specs.Rules.{isBadChecksum}
 use Rattle.crc.specs.Crc.{crcFrom}
 use Rattle.crc.proofs.Detects.{few-changed}
 use Rattle.packet_front.specs.Front.{word, idOf}
-use Rattle.packet_front.specs.Begun.{sizeOf}
+use Rattle.packet_front.specs.Header.{sizeOf}
 use Rattle.packet_front.proofs.Agreement.{size-same}
 use Rattle.packet.specs.Packet.{checksumRight, WellFormed}
 use Rattle.packet.specs.Verdict.{verdict}
-use Rattle.packet.specs.Burst.{Spoiled, BurstDetected}
+use Rattle.packet.specs.Burst.{Replaced, BurstDetected}
 use Rattle.packet.proofs.Sums.{sum-test}
 use Rattle.packet.proofs.Laws.{agrees, agrees-same, well-agrees, ruled-alone, laws}
 
-module _ (a d d′ z : List ℕ) (s : Spoiled a d d′ z) (f : WellFormed (a ++ (d ++ z))) where
+module _ (a d d′ z : List ℕ) (s : Replaced a d d′ z) (f : WellFormed (a ++ (d ++ z))) where
   -- what is summed behind the change, and the checksum's two bytes
   abbrev y : List ℕ
   y = take (length z - 2) z

@@ -20,7 +20,7 @@ use Rattle.packet_rules.proofs.Tests.{completes, judges}
 use Rattle.packet_rules.proofs.Laws.{laws as rule-laws}
 use Rattle.packet_rules.proofs.Settled.{settles as rule-settles}
 use Rattle.packet_front.specs.Front.{goodId, idOf}
-use Rattle.packet_front.specs.Begun.{frontAgrees, lengthAgrees, sizeOf}
+use Rattle.packet_front.specs.Header.{frontAgrees, lengthAgrees, sizeOf}
 use Rattle.packet_front.proofs.Lists.{four-taken}
 use Rattle.packet_front.proofs.Tests.{both, length-good}
 use Rattle.packet_front.proofs.Agreement.{front-header, front-tests, front-agrees, front-before, front-same, size-same, length-same, length-before, length-bounds}

@@ -1,7 +1,7 @@
 pub mod Header
 pub mod Sums
 pub mod Laws
-pub mod Looks
+pub mod Peeks
 pub mod Begins
 pub mod Burst
 pub mod Applied

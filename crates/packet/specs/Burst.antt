@@ -10,7 +10,7 @@ use Rattle.packet.specs.Packet.{WellFormed}
 use Rattle.packet.specs.Verdict.{verdict}
 
 -- d′ stands where d stood. They differ, so that they are one byte or two; of two, one may have stayed.
-pub record Spoiled (a d d′ z : List ℕ) : Type 0 where
+pub record Replaced (a d d′ z : List ℕ) : Type 0 where
   pub behind : 7 ≤ length a
   pub before : 2 ≤ length z
   pub few : length d ≤ 2
@@ -21,7 +21,7 @@ pub record Spoiled (a d d′ z : List ℕ) : Type 0 where
 -- [P11]
 pub record BurstDetected : Type 0 where
   -- the changed bytes are not well-formed
-  pub refused : (a d d′ z : List ℕ) → Spoiled a d d′ z → WellFormed (a ++ (d ++ z)) → ¬ WellFormed (a ++ (d′ ++ z))
+  pub refused : (a d d′ z : List ℕ) → Replaced a d d′ z → WellFormed (a ++ (d ++ z)) → ¬ WellFormed (a ++ (d′ ++ z))
   -- and it does not pass as nothing: it is a bad checksum with the packet's ID, whatever follows it
-  pub reported : (a d d′ z x : List ℕ) → Spoiled a d d′ z → WellFormed (a ++ (d ++ z))
+  pub reported : (a d d′ z x : List ℕ) → Replaced a d d′ z → WellFormed (a ++ (d ++ z))
       → verdict ((a ++ (d′ ++ z)) ++ x) ≡ isBadChecksum (idOf (a ++ (d ++ z)))

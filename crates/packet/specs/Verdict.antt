@@ -11,7 +11,7 @@ use Rattle.packet_rules.specs.Answers.{answerFor}
 use Rattle.packet_rules.specs.declared.Judgement.{Judgement}
 use Rattle.packet_rules.specs.declared.Judgement.the-variants.{Nothing}
 use Rattle.packet_front.specs.Front.{header, idOf}
-use Rattle.packet_front.specs.Begun.{frontAgrees, lengthAgrees, sizeOf}
+use Rattle.packet_front.specs.Header.{frontAgrees, lengthAgrees, sizeOf}
 use Rattle.packet.specs.Packet.{bodyOf, checksumRight, WellFormed}
 
 -- the tests of a packet's own bytes in their order: checksum, stuffing [V4 V5]

@@ -30,13 +30,13 @@ pub fn unstuff(packet: &[u8], out: &mut [u8]) -> Answer
 }
 
 // The checksum of FF FF FD 00.
-const HEADER_SUM: u16 = 0x0e28;
+const HEADER_CHECKSUM: u16 = 0x0e28;
 
 // The checksum of the header and the bytes after it. It goes on from the header's, which is always the same.
 pub fn checksum(rest: &[u8]) -> u16
     ensures { λ r. ⌜ r ≡ crcFrom 0 (header ++ now (rest .entry)) ⌝ }
 {
-    crc16::update(HEADER_SUM, rest)
+    crc16::update(HEADER_CHECKSUM, rest)
 }
 
 // The verdict on all bytes of a packet whose header, ID and length are right: the checksum first, then the stuffing. Fewer than

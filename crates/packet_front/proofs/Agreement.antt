@@ -12,7 +12,7 @@ use Rattle.packet_rules.specs.Shape.{soFar}
 use Rattle.packet_rules.proofs.Bytes.{passes, same-test, passes-before}
 use Rattle.packet_front.specs.Front.{header, goodId, lengthOf}
 use Rattle.packet_front.proofs.Lists.{take-four}
-use Rattle.packet_front.specs.Begun.{frontAgrees, lengthAgrees, sizeOf}
+use Rattle.packet_front.specs.Header.{frontAgrees, lengthAgrees, sizeOf}
 
 -- the five tests of header and ID
 pub record Front (s : List ℕ) : Type 0 where

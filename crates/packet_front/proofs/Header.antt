@@ -8,7 +8,7 @@ use lib.Dec.{leb, ltb, eqb}
 use lib.ListN.{length, getD}
 use borrow.Author.Tests.{eqb-true, eqb-false, eq-eqb, ne-eqb, le-leb, lt-leb, lt-ltb, le-ltb}
 use Rattle.packet_rules.specs.Shape.{soFar}
-use Rattle.packet_front.specs.Begun.{headerAgrees, headed, mayBegin}
+use Rattle.packet_front.specs.Header.{headerAgrees, headed, mayBegin}
 
 module _ (a b c d : ℕ) where
   abbrev number : ℕ

@@ -8,7 +8,7 @@ use lib.Dec.{ltb, eqb}
 use lib.ListN.{length}
 use borrow.Author.Tests.{le-leb, lt-ltb, ltb-false}
 use Rattle.packet_rules.proofs.Bytes.{passes}
-use Rattle.packet_front.specs.Begun.{frontAgrees, headed, mayBegin}
+use Rattle.packet_front.specs.Header.{frontAgrees, headed, mayBegin}
 use Rattle.packet_front.proofs.Agreement.{Front, front-tests}
 
 pub front-begins : (b : ℕ) (s : List ℕ) → frontAgrees (b ∷ s) ≡ true → mayBegin (b ∷ s) ≡ true

@@ -6,7 +6,7 @@ use Prim.Native.Nat.{ℕ, _≤_, _<_}
 use lib.ListN.{length}
 use borrow.Author.Tests.{le-ltb, le-leb, lt-leb}
 use Rattle.packet_front.specs.Front.{lengthOf}
-use Rattle.packet_front.specs.Begun.{frontAgrees, lengthAgrees}
+use Rattle.packet_front.specs.Header.{frontAgrees, lengthAgrees}
 
 module _ (s : List ℕ) where
   -- the tests on the length field, by the bytes that are there

@@ -4,7 +4,7 @@ ghost use lib.Dec.{eqb};
 ghost use Rattle.packet_rules.specs.Shape.{soFar};
 ghost use Rattle.packet_front.specs.Front.{goodId};
 ghost use Rattle.packet_front.specs.Front.{word as Front·word};
-ghost use Rattle.packet_front.specs.Begun.{headerAgrees, frontAgrees, headed, mayBegin};
+ghost use Rattle.packet_front.specs.Header.{headerAgrees, frontAgrees, headed, mayBegin};
 
 // The largest ID of a device, and the one that addresses all.
 pub const MAX_ID: u8 = 252;

@@ -12,19 +12,19 @@ use Rattle.reading.specs.Rules.{Laws}
 use Rattle.reading.specs.Progress.{Settles}
 use Rattle.reading.proofs.Ahead.{NoneBegins}
 use Rattle.packet_rules.specs.Shape.{lacks}
-use Rattle.packet_rules.specs.Answers.{begunBy, settledBy, answerFor, answerBy}
+use Rattle.packet_rules.specs.Answers.{frontBy, settledBy, answerFor, answerBy}
 use Rattle.packet_rules.specs.Starts.{beforeStart}
-use Rattle.packet_rules.specs.declared.Begun.the-variants.{Whole}
+use Rattle.packet_rules.specs.declared.Front.the-variants.{Whole}
 use Rattle.packet_rules.specs.declared.Judgement.{Judgement}
 use Rattle.packet_rules.proofs.Asked.{ShapeLaws}
 use Rattle.packet_rules.proofs.Laws.{laws as rule-laws}
 use Rattle.packet_rules.proofs.Settled.{settles as rule-settles, none-lacks}
-use Rattle.packet_rules.proofs.Looks.{look-whole as whole-judged}
+use Rattle.packet_rules.proofs.Peeks.{peek-whole as whole-judged}
 use Rattle.packet_rules.proofs.Starts.{none-before}
-use Rattle.packet_front.specs.Begun.{lengthAgrees, frontAgrees}
+use Rattle.packet_front.specs.Header.{lengthAgrees, frontAgrees}
 use Rattle.packet_front.proofs.Starts.{front-begins as begins2}
 use Rattle.packet.proofs.Laws.{shape-laws as laws2}
-use Rattle.packet.proofs.Looks.{look-whole as whole2}
+use Rattle.packet.proofs.Peeks.{peek-whole as whole2}
 use Rattle.packet_v1.specs.Packet.{upTo, lastOfP1, lastOfMercury}
 use Rattle.packet_v1.specs.Packet.{lengthOf as lengthOf1}
 use Rattle.packet_v1.specs.Verdict.{judged, shapeUpTo}
@@ -32,7 +32,7 @@ use Rattle.packet_v1.specs.Verdict.{lengthAgrees as lengthAgrees1, frontAgrees 
 use Rattle.packet_v1.proofs.Laws.{shape-laws as laws1, front-begins as begins1}
 use Rattle.packet_protocols.specs.declared.Protocol.{Protocol}
 use Rattle.packet_protocols.specs.declared.Protocol.the-variants.{Two, One, Mercury}
-use Rattle.packet_protocols.specs.Protocols.{shapeOf, rulesOf, idIn, idPlace, lastOf, frontAgreesOf, lengthIn, leastLength, greatestLength, mayBeginOf, wholeOf}
+use Rattle.packet_protocols.specs.Protocols.{shapeOf, rulesOf, idIn, idOffset, lastOf, frontAgreesOf, lengthIn, leastLength, greatestLength, mayBeginOf, wholeOf}
 
 -- ---- the laws
 
@@ -149,7 +149,7 @@ module _ (p : Protocol) (old : p ≡ Two → ⊥) (s : List ℕ) where
 
 -- ---- all bytes of a packet
 
-pub whole-is : (p : Protocol) (s : List ℕ) (m : ℕ) → begunBy (shapeOf p) s ≡ Whole m → wholeOf p (take m s) ≡ answerBy (rulesOf p) s
+pub whole-is : (p : Protocol) (s : List ℕ) (m : ℕ) → frontBy (shapeOf p) s ≡ Whole m → wholeOf p (take m s) ≡ answerBy (rulesOf p) s
 whole-is Two s m e = whole2 s m e
 whole-is One s m e = whole-judged (shapeUpTo lastOfP1) s (laws1 (upTo lastOfP1)) m e
 whole-is Mercury s m e = whole-judged (shapeUpTo lastOfMercury) s (laws1 (upTo lastOfMercury)) m e
@@ -174,7 +174,7 @@ none-before-start p s q h = none-before (mayBeginOf p) (shapeOf p) (begins p) s 
 
 -- ---- where the ID stands
 
-pub id-at : (p : Protocol) (w : List ℕ) → getD w (idPlace p) 0 ≡ idIn p w
+pub id-at : (p : Protocol) (w : List ℕ) → getD w (idOffset p) 0 ≡ idIn p w
 id-at Two w = refl
 id-at One w = refl
 id-at Mercury w = refl

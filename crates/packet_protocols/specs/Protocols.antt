@@ -6,8 +6,8 @@ use Rattle.reading.specs.Rules.{Rules}
 use Rattle.packet_rules.specs.Shape.{Shape, rules}
 use Rattle.packet_rules.specs.Answers.{answerFor}
 use Rattle.packet_rules.specs.declared.Judgement.{Judgement}
-use Rattle.packet_front.specs.Begun.{frontAgrees}
-use Rattle.packet_front.specs.Begun.{mayBegin as mayBegin2}
+use Rattle.packet_front.specs.Header.{frontAgrees}
+use Rattle.packet_front.specs.Header.{mayBegin as mayBegin2}
 use Rattle.packet_front.specs.Front.{idOf as idOf2, lengthOf as lengthOf2}
 use Rattle.packet.specs.Verdict.{shape, wholeAnswer}
 use Rattle.packet_v1.specs.Packet.{upTo, lastOfP1, lastOfMercury}
@@ -34,10 +34,10 @@ idIn One w = idOf1 w
 idIn Mercury w = idOf1 w
 
 -- at this place
-abbrev pub idPlace : Protocol → ℕ
-idPlace Two = 4
-idPlace One = 2
-idPlace Mercury = 2
+abbrev pub idOffset : Protocol → ℕ
+idOffset Two = 4
+idOffset One = 2
+idOffset Mercury = 2
 
 -- the largest ID of a device [O2 P2]
 abbrev pub lastOf : Protocol → ℕ

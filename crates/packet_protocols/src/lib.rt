@@ -1,13 +1,13 @@
 // The protocols: what the bytes from an offset on are, by the packet rules of each. The shape of a packet is chosen by the
 // protocol, and the tests on it stand once.
-use packet_rules::Begun;
+use packet_rules::Front;
 use packet_rules::Judgement;
 ghost use mathlib.Core.Path.{_≡_};
 ghost use Prim.Native.Nat.{_+_, _≤_};
 ghost use lib.ListN.{length, drop};
-ghost use Rattle.packet_rules.specs.Answers.{begunBy, answerBy};
+ghost use Rattle.packet_rules.specs.Answers.{frontBy, answerBy};
 ghost use Rattle.packet_rules.specs.Starts.{beforeStart};
-ghost use Rattle.packet_protocols.specs.Protocols.{shapeOf, rulesOf, idPlace, lastOf, frontAgreesOf, lengthIn, leastLength, greatestLength, mayBeginOf, wholeOf};
+ghost use Rattle.packet_protocols.specs.Protocols.{shapeOf, rulesOf, idOffset, lastOf, frontAgreesOf, lengthIn, leastLength, greatestLength, mayBeginOf, wholeOf};
 
 // Protocol 2.0, and those of the old boards: Protocol 1.0 and Mercury.
 pub enum Protocol {
@@ -28,8 +28,8 @@ pub fn shortest(protocol: Protocol) -> usize
 }
 
 // Where the ID stands in a packet.
-pub fn id_place(protocol: Protocol) -> usize
-    ensures { λ r. ⌜ r ≡ idPlace protocol ⌝ }
+pub fn id_offset(protocol: Protocol) -> usize
+    ensures { λ r. ⌜ r ≡ idOffset protocol ⌝ }
 {
     match protocol {
         Protocol::Two => 4,
@@ -103,28 +103,28 @@ fn greatest_length(protocol: Protocol) -> usize
 }
 
 // What header, ID and length field say of the bytes from the slice's start on. [O1-O3 O6 O7 V8 V9 V11 V12]
-pub fn look(protocol: Protocol, s: &[u8]) -> Begun
-    ensures { λ r. ⌜ r ≡ begunBy (shapeOf protocol) (now (s .entry)) ⌝ }
+pub fn peek(protocol: Protocol, s: &[u8]) -> Front
+    ensures { λ r. ⌜ r ≡ frontBy (shapeOf protocol) (now (s .entry)) ⌝ }
 {
     if !front_agrees(protocol, s) {
-        return Begun::Nothing;
+        return Front::Nothing;
     }
     let n = s.len();
     if n < front(protocol) {
-        return Begun::Waiting(shortest(protocol) - n);
+        return Front::Waiting(shortest(protocol) - n);
     }
     let length = length_in(protocol, s);
     if length < least_length(protocol) {
-        return Begun::Nothing;
+        return Front::Nothing;
     }
     if greatest_length(protocol) < length {
-        return Begun::Nothing;
+        return Front::Nothing;
     }
     let size = front(protocol) + length;
     if n < size {
-        return Begun::Waiting(size - n);
+        return Front::Waiting(size - n);
     }
-    Begun::Whole(size)
+    Front::Whole(size)
 }
 
 // Whether a packet may begin with these bytes.
@@ -166,10 +166,10 @@ pub fn judge_whole(protocol: Protocol, packet: &[u8]) -> Judgement
 fn judge_start(protocol: Protocol, s: &[u8]) -> Judgement
     ensures { λ r. ⌜ r ≡ answerBy (rulesOf protocol) (now (s .entry)) ⌝ }
 {
-    match look(protocol, s) {
-        Begun::Nothing => Judgement::Nothing,
-        Begun::Waiting(lacks) => Judgement::Waiting(lacks),
-        Begun::Whole(size) => judge_whole(protocol, &s[..size]),
+    match peek(protocol, s) {
+        Front::Nothing => Judgement::Nothing,
+        Front::Waiting(lacks) => Judgement::Waiting(lacks),
+        Front::Whole(size) => judge_whole(protocol, &s[..size]),
     }
 }
 

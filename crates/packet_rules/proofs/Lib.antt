@@ -3,6 +3,6 @@ pub mod Asked
 pub mod Tests
 pub mod Laws
 pub mod Settled
-pub mod Looks
+pub mod Peeks
 pub mod Starts
 pub mod Answers

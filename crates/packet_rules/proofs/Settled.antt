@@ -12,7 +12,7 @@ use Rattle.lists.proofs.Bools.{both-ways}
 use Rattle.reading.specs.Rules.{isPacket, isBadChecksum, isWaiting}
 use Rattle.reading.specs.Progress.{Settles}
 use Rattle.packet_rules.specs.Shape.{Shape, complete, lacks, verdict, rules}
-use Rattle.packet_rules.specs.Answers.{begunAs, settledAs, settledBy}
+use Rattle.packet_rules.specs.Answers.{frontAs, settledAs, settledBy}
 use Rattle.packet_rules.proofs.Asked.{ShapeLaws}
 use Rattle.packet_rules.proofs.Tests.{early-or-late, incomplete-early, incomplete, completes, lacks-early, has-front, has-all, disagrees, waits, by-tests}
 use Rattle.packet_rules.proofs.Laws.{waits-by, stays, sized}
@@ -23,8 +23,8 @@ module _ (S : Shape) (l : ShapeLaws S) where
   none-lacks = omega (arith, lacks-early S [] (l .some))
 
   module _ (s : List ℕ) where
-    settled-as : {a c : Bool} → S .agrees s ≡ a → complete S s ≡ c → settledBy S s ≡ settledAs (begunAs a c (lacks S s) (S .size s))
-    settled-as i j = ap₂ (λ (a c : Bool). settledAs (begunAs a c (lacks S s) (S .size s))) i j
+    settled-as : {a c : Bool} → S .agrees s ≡ a → complete S s ≡ c → settledBy S s ≡ settledAs (frontAs a c (lacks S s) (S .size s))
+    settled-as i j = ap₂ (λ (a c : Bool). settledAs (frontAs a c (lacks S s) (S .size s))) i j
 
     -- no packet begins here, or its bytes are not all there, and nothing settles it; or they are, and all of them do
     by-size : {A : Type 0} → (S .agrees s ≡ false → settledBy S s ≡ 0 → A) → (verdict S s ≡ isWaiting → settledBy S s ≡ 0 → A)

@@ -1,4 +1,4 @@
--- The bytes before the first offset at which a packet may begin: turn by turn, and that none begins there.
+-- The bytes before the first offset at which a packet may begin: round by round, and that none begins there.
 use mathlib.Core.Path.{_≡_, refl, sym, ap, _∙_}
 use mathlib.Core.Bool.{Bool, true, false, cond}
 use mathlib.Core.List.{List, [], _∷_}
@@ -11,7 +11,7 @@ use Rattle.reading.proofs.Ahead.{NoneBegins}
 use Rattle.packet_rules.specs.Shape.{Shape, rules}
 use Rattle.packet_rules.specs.Answers.{settledBy}
 use Rattle.packet_rules.specs.Starts.{beforeStart}
-use Rattle.packet_rules.proofs.Looks.{none-begins}
+use Rattle.packet_rules.proofs.Peeks.{none-begins}
 
 module _ (may : List ℕ → Bool) where
   module _ (s : List ℕ) (i : ℕ) where

@@ -3,7 +3,7 @@
 
 // By header, ID and length field, the bytes begin no packet; they begin one and surely lack so many bytes; or all its bytes are
 // there, so many.
-pub enum Begun {
+pub enum Front {
     Nothing,
     Waiting(usize),
     Whole(usize),

@@ -75,7 +75,7 @@ module _ (e : Entry) (params : List ℕ) where
       by-test true t r = record { left = steps; is = refl; tested = t; rest = r }
       by-test false t r = both-ways false r refl
 
-  -- one turn of the search
+  -- one round of the search
   turn : (own steps left at : ℕ) (passed : List ℕ) (found : Found) → at < length params → steps ≡ suc left → entryGood e params at passed ≡ true
       → searchFrom e own params steps at passed found
       ≡ searchFrom e own params left (at + e .size (drop at params)) (getD params at 0 ∷ passed) (cond (eqb (getD params at 0) own) (At (length passed) at) found)

@@ -14,7 +14,7 @@ use Rattle.crc.specs.Crc.{reduceIf, shift, shifts, crcByte, crcFrom}
 use Rattle.stuffing.specs.Stuffing.{wellAfter, unstuffAfter}
 use Rattle.reading.proofs.Decided.{well}
 use Rattle.packet_front.specs.Front.{lengthOf}
-use Rattle.packet_front.specs.Begun.{frontAgrees, lengthAgrees}
+use Rattle.packet_front.specs.Header.{frontAgrees, lengthAgrees}
 use Rattle.packet_rules.specs.Shape.{verdict as shapeVerdict}
 use Rattle.packet.specs.Packet.{bodyOf, checksumRight, WellFormed}
 use Rattle.packet.specs.Verdict.{protocol2}

@@ -12,7 +12,7 @@ use Rattle.reading.specs.Calls.{Call, feed, first, fed, call}
 use Rattle.reading.specs.Lists.{model, after, took}
 use Rattle.reading.specs.Promise.{since, AtStart}
 use Rattle.packet_front.specs.Front.{lengthOf}
-use Rattle.packet_front.specs.Begun.{frontAgrees, lengthAgrees}
+use Rattle.packet_front.specs.Header.{frontAgrees, lengthAgrees}
 use Rattle.packet_rules.specs.Shape.{verdict as shapeVerdict}
 use Rattle.packet.specs.Packet.{bodyOf, checksumRight}
 use Rattle.packet.specs.Verdict.{protocol2}

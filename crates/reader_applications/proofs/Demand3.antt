@@ -18,7 +18,7 @@ use Rattle.reading.proofs.Decided.{EachPacket, well, all-well}
 use Rattle.crc.specs.Crc.{reduceIf, shift, shifts, crcByte, crcFrom}
 use Rattle.stuffing.specs.Stuffing.{wellAfter}
 use Rattle.packet_front.specs.Front.{lengthOf}
-use Rattle.packet_front.specs.Begun.{frontAgrees, lengthAgrees}
+use Rattle.packet_front.specs.Header.{frontAgrees, lengthAgrees}
 use Rattle.packet.specs.Packet.{bodyOf, checksumRight}
 use Rattle.packet_rules.specs.Shape.{verdict as shapeVerdict}
 use Rattle.packet_v1.specs.Packet.{sum, checksumRight as sumRight}

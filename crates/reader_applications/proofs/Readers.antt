@@ -18,7 +18,7 @@ use Rattle.reading.specs.Across.{reachesAcross}
 use Rattle.crc.specs.Crc.{reduceIf, shift, shifts, crcByte, crcFrom}
 use Rattle.stuffing.specs.Stuffing.{wellAfter}
 use Rattle.packet_front.specs.Front.{lengthOf}
-use Rattle.packet_front.specs.Begun.{frontAgrees, lengthAgrees}
+use Rattle.packet_front.specs.Header.{frontAgrees, lengthAgrees}
 use Rattle.packet.specs.Packet.{bodyOf, checksumRight}
 use Rattle.packet.specs.Verdict.{protocol2}
 use Rattle.packet_rules.specs.Shape.{verdict as shapeVerdict}

@@ -13,7 +13,7 @@ use Rattle.reading.specs.Calls.{CallResult, Call, call}
 use Rattle.reading.proofs.Held.{packet-good}
 use Rattle.packet_protocols.specs.declared.Protocol.{Protocol}
 use Rattle.packet_protocols.specs.declared.Protocol.the-variants.{Two, One, Mercury}
-use Rattle.packet_protocols.specs.Protocols.{rulesOf, idPlace, idIn}
+use Rattle.packet_protocols.specs.Protocols.{rulesOf, idOffset, idIn}
 use Rattle.packet_protocols.proofs.Shapes.{laws, id-at}
 use Rattle.reader_core.specs.declared.Step.{Step}
 use Rattle.reader_core.specs.Results.{mostHeld, eventFor, packetBytes, stepFor, heldFor, packetFor}
@@ -32,12 +32,12 @@ cleared-is buffer new front n most l i j e =
 -- ---- the event
 
 -- a packet has its ID, and so has a buffer for the longest
-id-inside : (p : Protocol) (w : List ℕ) → rulesOf p .WellFormed w → idPlace p < length w
+id-inside : (p : Protocol) (w : List ℕ) → rulesOf p .WellFormed w → idOffset p < length w
 id-inside Two w f = omega (arith, f .counted)
 id-inside One w f = omega (arith, f .counted)
 id-inside Mercury w f = omega (arith, f .counted)
 
-pub id-short : (p : Protocol) → idPlace p < rulesOf p .longest
+pub id-short : (p : Protocol) → idOffset p < rulesOf p .longest
 id-short Two = omega arith
 id-short One = omega arith
 id-short Mercury = omega arith
@@ -56,7 +56,7 @@ event-is p (some (badChecksum id)) bytes g b = refl
 event-is p (some (packet w)) bytes g b =
     let h = id-inside p w (g w refl) in
     let e : idIn p bytes ≡ idIn p w =
-    sym (id-at p bytes) ∙ sym (getD-take (length w) bytes (idPlace p) 0 h) ∙ ap (λ (s : List ℕ). getD s (idPlace p) 0) b ∙ id-at p w in
+    sym (id-at p bytes) ∙ sym (getD-take (length w) bytes (idOffset p) 0 h) ∙ ap (λ (s : List ℕ). getD s (idOffset p) 0) b ∙ id-at p w in
     rw e
 
 -- ---- the call

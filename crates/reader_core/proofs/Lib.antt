@@ -1,5 +1,5 @@
 pub mod Deliveries
-pub mod Turns
+pub mod Rounds
 pub mod Answers
 pub mod Longest
 pub mod Spared

@@ -15,7 +15,7 @@ use Rattle.packet_protocols.specs.declared.Protocol.{Protocol}
 use Rattle.buffers.proofs.Parts.{stays-more}
 use Rattle.reader_core.specs.declared.Step.{Step}
 use Rattle.reader_core.specs.Delivered.{sizeIn, Delivered, Stayed, Spared}
-use Rattle.reader_core.proofs.Turns.{rest, rest-is}
+use Rattle.reader_core.proofs.Rounds.{rest, rest-is}
 
 -- ---- no more is held than was held and taken
 

@@ -60,7 +60,7 @@ fn id_in(protocol: Protocol, packet: &[u8]) -> u8
     requires { ⌜ length (now packet) ≡ rulesOf protocol .longest ⌝ }
     ensures { λ r. ⌜ r ≡ idIn protocol (now (packet .entry)) ⌝ }
 {
-    packet[packet_protocols::id_place(protocol)]
+    packet[packet_protocols::id_offset(protocol)]
 }
 
 // The event for what was found in src. A packet's bytes are copied to the packet buffer, and its ID is read there.
@@ -165,7 +165,7 @@ fn read_chunk(
     )
 }
 
-// Reads the held bytes first, then the chunk. Each turn takes one byte past a full buffer.
+// Reads the held bytes first, then the chunk. Each round takes one byte past a full buffer.
 fn feed_slices(
     protocol: Protocol,
     held: &mut [u8],

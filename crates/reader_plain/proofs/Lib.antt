@@ -1,3 +1,3 @@
-pub mod Turns
+pub mod Rounds
 pub mod Plain
 pub mod Left

@@ -1,5 +1,5 @@
 // The streaming reader of Protocol 2.0 as a record: bytes go in as they come, in chunks of any size, and events come out. The
-// calls here take the record by value and return it; `framer` does the work in place.
+// calls here take the record by value and return it; `reader_core` does the work in place.
 use reader_core::Step;
 ghost use mathlib.Core.Path.{_≡_};
 ghost use lib.ListN.{replicate};

@@ -1,5 +1,5 @@
 pub mod Scans
 pub mod Windows
 mod Seeking
-mod Looking
+mod Peeking
 pub mod Behind

@@ -1,4 +1,4 @@
--- One turn of the scan: the offset is passed, or the first event or the waiting offset has been found.
+-- One round of the scan: the offset is passed, or the first event or the waiting offset has been found.
 use mathlib.Core.Path.{_≡_, sym, ap, _∙_}
 use mathlib.Core.List.{List, []}
 use Prim.Native.Nat.{ℕ, _+_, _≤_, _<_}

@@ -1,4 +1,4 @@
--- How far a feeding call has come, by what was seen of its window: one turn of the loops that take bytes, and their end.
+-- How far a feeding call has come, by what was seen of its window: one round of the loops that take bytes, and their end.
 use mathlib.Core.Path.{_≡_, refl, sym, ap, _∙_}
 use mathlib.Core.Bool.{true, false, _&&_}
 use mathlib.Core.List.{List, [], _++_, append-nil, append-assoc}

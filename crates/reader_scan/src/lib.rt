@@ -1,6 +1,6 @@
 // Looking for the first event in held bytes and in a chunk, in place.
 use packet_protocols::Protocol;
-use packet_rules::Begun;
+use packet_rules::Front;
 use packet_rules::Judgement;
 ghost use mathlib.Core.Path.{_≡_};
 ghost use mathlib.Core.Bool.{_&&_};
@@ -84,12 +84,12 @@ fn scan(protocol: Protocol, s: &[u8], from: usize) -> Live
         if s.len() <= at {
             return wanting(Scanned::Waiting { at }, 0);
         }
-        match packet_protocols::look(protocol, &s[at..]) {
-            Begun::Nothing => {}
-            Begun::Waiting(lacks) => {
+        match packet_protocols::peek(protocol, &s[at..]) {
+            Front::Nothing => {}
+            Front::Waiting(lacks) => {
                 return wanting(Scanned::Waiting { at }, lacks);
             }
-            Begun::Whole(size) => match packet_protocols::judge_whole(protocol, &s[at..at + size]) {
+            Front::Whole(size) => match packet_protocols::judge_whole(protocol, &s[at..at + size]) {
                 Judgement::Packet(count) => {
                     return wanting(Scanned::Packet { at, count }, 0);
                 }
@@ -117,7 +117,7 @@ pub fn scan_closed(protocol: Protocol, segment: &[u8]) -> Scanned
         if segment.len() - at < packet_protocols::shortest(protocol) {
             return Scanned::Waiting { at: segment.len() };
         }
-        if let Begun::Whole(size) = packet_protocols::look(protocol, &segment[at..]) {
+        if let Front::Whole(size) = packet_protocols::peek(protocol, &segment[at..]) {
             match packet_protocols::judge_whole(protocol, &segment[at..at + size]) {
                 Judgement::Packet(count) => return Scanned::Packet { at, count },
                 Judgement::BadChecksum(id) => return Scanned::BadChecksum { at, id },
@@ -141,12 +141,12 @@ pub fn advance(protocol: Protocol, chunk: &[u8]) -> Window
         if chunk.len() <= at {
             return ending(Scanned::Waiting { at }, chunk.len());
         }
-        match packet_protocols::look(protocol, &chunk[at..]) {
-            Begun::Nothing => {}
-            Begun::Waiting(_) => {
+        match packet_protocols::peek(protocol, &chunk[at..]) {
+            Front::Nothing => {}
+            Front::Waiting(_) => {
                 return ending(Scanned::Waiting { at }, chunk.len());
             }
-            Begun::Whole(size) => {
+            Front::Whole(size) => {
                 end = greatest(end, at + size);
                 match packet_protocols::judge_whole(protocol, &chunk[at..at + size]) {
                     Judgement::Packet(count) => {

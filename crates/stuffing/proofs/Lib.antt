@@ -1,4 +1,4 @@
 pub mod Mark
 pub mod Laws
 pub mod Answers
-mod Turns
+mod Rounds

@@ -32,8 +32,8 @@ abbrev pub place : ℕ → ℕ
 place a = placeIn registers a
 
 -- by its name, so that a proof stays as it is when the list grows
-abbrev pub placeOf : Register → ℕ
-placeOf r = place (r .address)
+abbrev pub markOf : Register → ℕ
+markOf r = place (r .address)
 
 -- ---- the list, whatever registers it has
 

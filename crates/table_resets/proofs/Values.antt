@@ -14,7 +14,7 @@ use Rattle.lists.specs.Numbers.{numberAt, bytesOf}
 use Rattle.lists.proofs.Numbers.{part-number}
 use Rattle.lists.proofs.Bools.{and-left, and-right}
 use Rattle.table_registers.specs.Registers.{Register, registers, tableSize, endOf, maxPosition, minPosition, goalPosition}
-use Rattle.table_registers.proofs.Rows.{placeIn, placeOf}
+use Rattle.table_registers.proofs.Rows.{placeIn, markOf}
 use Rattle.table_items.specs.Items.{signed, valueAt, valueOf, itemBytes, put}
 use Rattle.table_items.proofs.Signed.{le-refl}
 use Rattle.table_rules.specs.Rules.{touches, goalInside}
@@ -105,11 +105,11 @@ module _ (test : Register → Bool) (r : Register) where
 module _ (table : List ℕ) (sized : length table ≡ tableSize) (test : Register → Bool) where
   min-picked : Holds minPosition (cond (test minPosition) (pos 0) (valueOf minPosition table)) (freshened (only test registers) table)
   unfolding registers placeIn bytesOf numberAt valueAt
-  min-picked = picked test minPosition (take (placeOf minPosition) registers) (drop (suc (placeOf minPosition)) registers) refl refl (omega arith) table sized
+  min-picked = picked test minPosition (take (markOf minPosition) registers) (drop (suc (markOf minPosition)) registers) refl refl (omega arith) table sized
 
   max-picked : Holds maxPosition (cond (test maxPosition) (pos 4095) (valueOf maxPosition table)) (freshened (only test registers) table)
   unfolding registers placeIn bytesOf numberAt valueAt
-  max-picked = picked test maxPosition (take (placeOf maxPosition) registers) (drop (suc (placeOf maxPosition)) registers) refl refl (omega arith) table sized
+  max-picked = picked test maxPosition (take (markOf maxPosition) registers) (drop (suc (markOf maxPosition)) registers) refl refl (omega arith) table sized
 
 -- ---- Reboot
 

@@ -3,5 +3,5 @@ pub mod Walks
 pub mod Judged
 pub mod Size
 pub mod Limits
-pub mod Fence
+pub mod LimitTests
 pub mod Applied

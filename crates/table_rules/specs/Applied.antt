@@ -7,7 +7,7 @@ use lib.ListN.{replicate}
 use Rattle.table_registers.specs.Registers.{minPosition, maxPosition, goalPosition}
 use Rattle.table_items.specs.Items.{put}
 use Rattle.table_rules.specs.Rules.{limitsKept}
-use Rattle.table_rules.specs.Fence.{Fence}
+use Rattle.table_rules.specs.LimitTests.{LimitTests}
 
 -- a table with these numbers, and 0 elsewhere
 abbrev pub having : ℕ → ℕ → ℕ → List ℕ
@@ -15,7 +15,7 @@ having min max goal = put (put (put (replicate 136 0) minPosition min) maxPositi
 
 abbrev pub FenceApplied : Type 0
 FenceApplied =
-    Fence
+    LimitTests
     -- min position above max position, both written
     → (limitsKept 48 8 (having 200 100 150) ≡ false)
     -- a goal position outside them, written

@@ -1,5 +1,5 @@
 pub mod Rules
-pub mod Fence
+pub mod LimitTests
 pub mod Outcomes
 pub mod Limits
 pub mod Stages

@@ -2,7 +2,7 @@ use mathlib.Core.Path.{sym, ap, ap₂, _∙_}
 use Rattle.numbers.specs.declared.CarriedNumbers.{CarriedNumbers}
 use Rattle.device_calls.specs.Calls.{stateOf}
 use Rattle.device.proofs.Promises.{device-promises}
-use Rattle.table_rules.proofs.Fence.{fence}
+use Rattle.table_rules.proofs.LimitTests.{fence}
 use Rattle.device_calls.proofs.Stays.{stays-accepted}
 use Rattle.device_calls.proofs.GoalWithinLimits.{goal-within-limits}
 use Rattle.device.proofs.Split.{split}

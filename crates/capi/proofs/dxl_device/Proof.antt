@@ -1,7 +1,7 @@
 use mathlib.Core.Path.{sym, ap₂, _∙_}
 use Rattle.device_calls.specs.Calls.{stateOf}
 use Rattle.device.proofs.Promises.{device-promises}
-use Rattle.table_rules.proofs.Fence.{fence}
+use Rattle.table_rules.proofs.LimitTests.{fence}
 use Rattle.device_calls.proofs.Stays.{stays-accepted}
 use Rattle.device_calls.proofs.GoalWithinLimits.{goal-within-limits}
 use Rattle.numbers.specs.Exported.{deviceNumbers}

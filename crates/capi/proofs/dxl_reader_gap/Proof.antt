@@ -52,7 +52,7 @@ use Rattle.reader_core.proofs.Step as R
 use Rattle.reader_core.proofs.Step.Laws as R′
 use Rattle.reader_core.proofs.gap_in as gap-in
 use Rattle.reader_core.proofs.gap_in.Symbol as gap-in-def
-use Rattle.reader_core.proofs.gap_in.Symbol.{name as #framer·gap-in}
+use Rattle.reader_core.proofs.gap_in.Symbol.{name as #core·gap-in}
 use Rattle.reader_core.proofs.gap_in.Met as gap-in-thm
 use Rattle.reader_records.specs.Records.{stepIn, packetIn}
 use Rattle.reader_records.specs.declared.Reader.{Reader}
@@ -140,7 +140,7 @@ module _ {M : Type 1} (𝓤 : URA M) (H : Heap 𝓤) (A : Atoms 𝓤) (W : Given
       nothing ! $ move ! (2 ∷ 0 ∷ []) $ fjoin ! $ move ! (1 ∷ 0 ∷ []) $ fjoin ! $
       owned ! N.the-row (Is N.the-row) (LL.makes N.the-type N′.the-plain 𝓤 H A) m _ is $ move ! (1 ∷ 0 ∷ []) $ done !
 
-  module _ (C : Calls 𝓤 H) (Λ : Loops 𝓤 H) (fm : FmC 𝓤 H (W .laws) C) (known : Triple 𝓤 (C #framer·gap-in) (GapIn 𝓤 H A at-mem run)) (turns-known : Triple 𝓤 (C #numbers·step) (Turned 𝓤 H A at-mem run)) where
+  module _ (C : Calls 𝓤 H) (Λ : Loops 𝓤 H) (fm : FmC 𝓤 H (W .laws) C) (known : Triple 𝓤 (C #core·gap-in) (GapIn 𝓤 H A at-mem run)) (turns-known : Triple 𝓤 (C #numbers·step) (Turned 𝓤 H A at-mem run)) where
     walk : ent 𝓤 (onEntry 𝓤 H A f.signature (κ, (κ′, tt)) (q, (q′, tt)) a vals) (WpFn 𝓤 H C Λ code.function (vptr b o ∷ w ∷ []) Post)
     walk =
         qed W ((‵ (flft κ q) ⊛ ‵ (flft κ′ q′) ⊛ ‵ ftrue) ∷ ‵ (owns (MutRef (named 0) κ T.the-row ∷ MutRef (named 1) κ′ Out ∷ []) a vals) ∷ []) ∵ enter ! C Λ code.function (vptr b o ∷ w ∷ []) _ $
@@ -204,11 +204,11 @@ module _ {M : Type 1} (𝓤 : URA M) (H : Heap 𝓤) (A : Atoms 𝓤) (W : Given
         keep ! (0 ∷ 1 ∷ 2 ∷ 3 ∷ 5 ∷ []) $ by ! (exits r (zs .0) (zs .1 .1 .0) m (numbers-are m _ is′) e n))))))))))))))))))))))))
 
 module _ {M : Type 1} (𝓤 : URA M) (H : Heap 𝓤) (A : Atoms 𝓤) (W : Given 𝓤 H A) (mem : Memory → SProp 𝓤) (run : Routine → Fun 𝓤) where
-  gap-walks : (C : Calls 𝓤 H) (Λ : Loops 𝓤 H) → FmC 𝓤 H (W .laws) C → Triple 𝓤 (C #framer·gap-in) (GapIn 𝓤 H A mem run) → Triple 𝓤 (C #numbers·step) (Turned 𝓤 H A mem run) → Walks 𝓤 H A f.ended stayed (WpFn 𝓤 H C Λ code.function) (f.clauses 𝓤 H A mem run)
+  gap-walks : (C : Calls 𝓤 H) (Λ : Loops 𝓤 H) → FmC 𝓤 H (W .laws) C → Triple 𝓤 (C #core·gap-in) (GapIn 𝓤 H A mem run) → Triple 𝓤 (C #numbers·step) (Turned 𝓤 H A mem run) → Walks 𝓤 H A f.ended stayed (WpFn 𝓤 H C Λ code.function) (f.clauses 𝓤 H A mem run)
   gap-walks C Λ fm known turns-known = walked 𝓤 H A f.ended stayed (f.clauses 𝓤 H A mem run) (WpFn 𝓤 H C Λ code.function) (λ κs. (ptr-vals, (ptr-vals, tt))) (λ κs. (mut-tells (named 0) (κs .0) T.the-row, (mut-tells (named 1) (κs .1 .0) Out, tt)))
       (λ κs qs bounds a g are. via 𝓤 _ (fst∗ 𝓤 _ (emp 𝓤)) (walk 𝓤 H A W mem run (κs .0) (κs .1 .0) (qs .0) (qs .1 .0) (a .0 .ptr .0) (a .0 .ptr .1) (a .0 .name) (a .0 .now) (a .1 .0) C Λ fm known turns-known))
 
-gap-meets : {M : Type 1} (𝓤 : URA M) (H : Heap 𝓤) (A : Atoms 𝓤) → Given 𝓤 H A → (mem : Memory → SProp 𝓤) (run : Routine → Fun 𝓤) (𝓣 : Tables 𝓤 H) → Triple 𝓤 (𝓣 .C #framer·gap-in) (GapIn 𝓤 H A mem run) → Triple 𝓤 (𝓣 .C #numbers·step) (Turned 𝓤 H A mem run)
+gap-meets : {M : Type 1} (𝓤 : URA M) (H : Heap 𝓤) (A : Atoms 𝓤) → Given 𝓤 H A → (mem : Memory → SProp 𝓤) (run : Routine → Fun 𝓤) (𝓣 : Tables 𝓤 H) → Triple 𝓤 (𝓣 .C #core·gap-in) (GapIn 𝓤 H A mem run) → Triple 𝓤 (𝓣 .C #numbers·step) (Turned 𝓤 H A mem run)
     → Meets 𝓤 H A f.signature (WpFn 𝓤 H (𝓣 .C) (𝓣 .Λ) code.function) (f.spec 𝓤 H A mem run)
 gap-meets 𝓤 H A W mem run 𝓣 known turns-known =
     walk-meets 𝓤 H A f.ended stayed W (goes-ref 𝓤 H A W 2 0 tt (plain (λ _. T.the-row)), (goes-gave-ref 𝓤 H A W 2 1 tt (plain (λ _. Out)), tt)) (f.clauses 𝓤 H A mem run)
@@ -220,5 +220,5 @@ dxl-reader-gap-spec 𝓤 H 𝓜 𝓖 𝓡 =
     entered 𝓤 H (tripleOf 𝓤 H (𝓖 .A) f.signature (f.spec 𝓤 H (𝓖 .A) (𝓜 .mem) (𝓡 .run)))
     (tables 𝓤 H 𝓜 𝓡 code.env .C) (tables 𝓤 H 𝓜 𝓡 code.env .Λ) #capi·dxl-reader-gap code.function (code.unfolded 𝓤 H 𝓜 𝓡)
     (gap-meets 𝓤 H (𝓖 .A) (givenOf 𝓤 H 𝓜 𝓖) (𝓜 .mem) (𝓡 .run) (tablesOf 𝓤 H 𝓜 (tables 𝓤 H 𝓜 𝓡 code.env))
-    (cited 𝓤 H (GapIn 𝓤 H (𝓖 .A) (𝓜 .mem) (𝓡 .run)) 𝓜 𝓡 code.env #framer·gap-in gap-in-def.routine code.calls-reader-core·gap-in (gap-in-thm.met 𝓤 H 𝓜 𝓖 𝓡))
+    (cited 𝓤 H (GapIn 𝓤 H (𝓖 .A) (𝓜 .mem) (𝓡 .run)) 𝓜 𝓡 code.env #core·gap-in gap-in-def.routine code.calls-reader-core·gap-in (gap-in-thm.met 𝓤 H 𝓜 𝓖 𝓡))
     (cited 𝓤 H (Turned 𝓤 H (𝓖 .A) (𝓜 .mem) (𝓡 .run)) 𝓜 𝓡 code.env #numbers·step step-def.routine code.calls-numbers·step (step-thm.met 𝓤 H 𝓜 𝓖 𝓡)))

@@ -7,7 +7,7 @@ use lib.Bits.{xor-zero-r}
 use lib.ListN.{length, getD}
 use Rattle.crc.specs.Crc.{reduceIf, shift, shifts, crcFrom}
 use Rattle.crc.proofs.Lookup.{Rule, rule, entry-lt, kept, met, met-lt, by-byte}
-use Rattle.crc.proofs.Laws.{sum-laws, Passed, pass-byte, pass-end}
+use Rattle.crc.proofs.Laws.{checksum-laws, Passed, pass-byte, pass-end}
 use Rattle.crc16.proofs.update.Statement.{statement}
 use Rattle.crc16.proofs.update.Tie as tie
 
@@ -77,7 +77,7 @@ loop-again c =
 
 returns : tie.Need-returns Inv-loop μ-loop
 returns c =
-    let h = c .before .loop in (pass-end _ _ (h .i) (kept (h .last) (h .before)) (h .inv .2) (c .loop-test .left), sum-laws)
+    let h = c .before .loop in (pass-end _ _ (h .i) (kept (h .last) (h .before)) (h .inv .2) (c .loop-test .left), checksum-laws)
 
 pub update-spec : {M : Type 1} → statement M
 update-spec =

@@ -6,7 +6,7 @@ use native.Mathlib.Omega.{arith}
 use lib.ListN.{length}
 use borrow.Author.Needs.{needs}
 use Rattle.crc.specs.Crc.{crcFrom}
-use Rattle.crc.proofs.Laws.{sum-laws, Passed, pass-part}
+use Rattle.crc.proofs.Laws.{checksum-laws, Passed, pass-part}
 use Rattle.crc16_fold.specs.Fold.{registerOf}
 use Rattle.crc16_fold.proofs.Parts.{stands-for-itself, register-lt, taken-twice}
 use Rattle.crc16_fold.proofs.Words.{first-four, last-four, eight-from}
@@ -105,7 +105,7 @@ tail-requires : tie.Need-tail-requires Inv-loop μ-loop
 tail-requires c κs = search needs
 
 returns : tie.Need-returns Inv-loop μ-loop
-returns c = (c .tail .ensures ∙ c .before .before .loop .inv .2 .1, sum-laws)
+returns c = (c .tail .ensures ∙ c .before .before .loop .inv .2 .1, checksum-laws)
 
 pub update-spec : {M : Type 1} → statement M
 update-spec =

@@ -10,7 +10,7 @@ use lib.ListN.{length, getD}
 use borrow.Author.Needs.{needs}
 use Rattle.crc.specs.Crc.{reduceIf, shift, shifts, crcByte, crcFrom}
 use Rattle.crc.proofs.Lookup.{Rule, rule, index-lt, looked, looked-lt, by-halves}
-use Rattle.crc.proofs.Laws.{sum-laws, Passed, pass-byte, pass-end}
+use Rattle.crc.proofs.Laws.{checksum-laws, Passed, pass-byte, pass-end}
 use Rattle.crc16_small.proofs.update.Statement.{statement}
 use Rattle.crc16_small.proofs.update.Tie as tie
 
@@ -96,7 +96,7 @@ loop-again c =
 
 returns : tie.Need-returns Inv-loop μ-loop
 returns c =
-    let h = c .before .loop in (pass-end _ _ (h .i) (h .crc) (h .inv .1) (c .loop-test .left), sum-laws)
+    let h = c .before .loop in (pass-end _ _ (h .i) (h .crc) (h .inv .1) (c .loop-test .left), checksum-laws)
 
 pub update-spec : {M : Type 1} → statement M
 update-spec =

@@ -8,18 +8,18 @@ use lib.ListN.{length, take, getD}
 use borrow.Author.Tests.{eq-eqb, ne-eqb}
 use Rattle.crc.specs.Crc.{crcFrom}
 use Rattle.packet_front.specs.Front.{word}
-use Rattle.packet_rules.specs.Answers.{begunBy}
-use Rattle.packet_rules.specs.declared.Begun.the-variants.{Whole}
+use Rattle.packet_rules.specs.Answers.{frontBy}
+use Rattle.packet_rules.specs.declared.Front.the-variants.{Whole}
 use Rattle.packet.specs.Packet.{checksumRight}
 use Rattle.packet.specs.Verdict.{shape}
 use Rattle.packet.proofs.Header.{after-header}
-use Rattle.device_packet.proofs.Hearing.{not-begun, begun-beyond, begun-long, begun-header, wrong-sum, right-sum}
+use Rattle.device_packet.proofs.Hearing.{not-front, front-beyond, front-long, front-header, wrong-sum, right-sum}
 use borrow.Author.Needs.{needs}
 use Rattle.device_packet.proofs.id_heard.Statement.{statement}
 use Rattle.device_packet.proofs.id_heard.Tie as tie
 
-look-requires : tie.Need-look-requires
-look-requires c κs = search needs
+peek-requires : tie.Need-peek-requires
+peek-requires c κs = search needs
 
 enum-known-n : tie.Need-enum-known-n
 enum-known-n c = search needs
@@ -27,23 +27,23 @@ enum-known-n c = search needs
 returns : tie.Need-returns
 returns c =
     let l = c .before in
-    sym (not-begun (l .before .before .args .packet .now) (l .look .result) (sym (l .look .ensures))
+    sym (not-front (l .before .before .args .packet .now) (l .peek .result) (sym (l .peek .ensures))
     (λ n e. miss (0 ∷ 1 ∷ []) 2 tt (rw e at (c .match .keys2))))
 
 -- all bytes of a packet are there
-begun : (t : tie.After-known-told) → begunBy shape (t .before .before .before .before .before .args .packet .now) ≡ Whole (t .before .n .given .0 .0)
-begun t = sym (t .before .before .before .look .ensures) ∙ t .before .n .given .1
+begun : (t : tie.After-known-told) → frontBy shape (t .before .before .before .before .before .args .packet .now) ≡ Whole (t .before .n .given .0 .0)
+begun t = sym (t .before .before .before .peek .ensures) ∙ t .before .n .given .1
 
 returns-2 : tie.Need-returns-2
 returns-2 c =
-    let t = c .before in sym (begun-beyond (t .before .before .before .before .before .args .packet .now) _ (begun t) (λ e. absurd (omega (arith, e, c .if1 .taken))))
+    let t = c .before in sym (front-beyond (t .before .before .before .before .before .args .packet .now) _ (begun t) (λ e. absurd (omega (arith, e, c .if1 .taken))))
 
 -- and they are all that is lent
 lent : (k : tie.Else1) → k .before .before .n .given .0 .0 ≡ length (k .before .before .before .before .before .before .args .packet .now)
 lent k = omega (arith, k .if1 .left)
 
 long : (k : tie.Else1) → 10 ≤ length (k .before .before .before .before .before .before .args .packet .now)
-long k = begun-long _ _ (begun (k .before)) (lent k)
+long k = front-long _ _ (begun (k .before)) (lent k)
 
 sub-end : tie.Need-sub-end
 sub-end c = omega (arith, long c, lent c)
@@ -87,7 +87,7 @@ sum-test c =
     let last : length p - 1 ≡ n - 2 + 1 = omega (arith, l, long k) in
     ap₂ eqb
     (ap (λ (m : ℕ). crcFrom 0 (take (m - 2) p)) l
-    ∙ ap (crcFrom 0) (sym (after-header p (n - 2) (begun-header p n (begun (k .before)) (lent k)) (omega (arith, l, long k))))
+    ∙ ap (crcFrom 0) (sym (after-header p (n - 2) (front-header p n (begun (k .before)) (lent k)) (omega (arith, l, long k))))
     ∙ sym (c .before .before .before .checksum .ensures))
     (ap₂ (λ (i j : ℕ). word (getD p (i - 2) 0) (getD p j 0)) l last ∙ sym (c .word .ensures))
 
@@ -111,7 +111,7 @@ pub id-heard-spec : {M : Type 1} → statement M
 id-heard-spec =
     tie.close
     (tie.spec
-    look-requires
+    peek-requires
     enum-known-n
     returns
     returns-2

@@ -9,7 +9,7 @@ use Rattle.log_index.specs.Last.{index}
 use Rattle.log_layout.specs.Layout.{u32At, entries, segmentsBy, segmentsIn}
 use Rattle.log_index.specs.Marks.{marked}
 use Rattle.log_index.proofs.Marks.{markedAll, all-marked}
-use Rattle.log.proofs.Turns.{marked-turn, marked-end}
+use Rattle.log.proofs.Rounds.{marked-turn, marked-end}
 use borrow.Author.Needs.{needs}
 use Rattle.log.proofs.index_of.Statement.{statement}
 use Rattle.log.proofs.index_of.Tie as tie

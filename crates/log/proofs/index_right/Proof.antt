@@ -1,4 +1,4 @@
-use Rattle.log_layout.specs.Log.{indexPlace}
+use Rattle.log_layout.specs.Log.{indexOffset}
 use mathlib.Core.Path.{_≡_, refl, sym, ap, ap₂, _∙_}
 use mathlib.Core.List.{List}
 use Prim.Native.Nat.{ℕ, suc, _+_, _*_, _-_, _≤_}
@@ -6,7 +6,7 @@ use native.Mathlib.Omega.{arith}
 use lib.ListN.{length, take, drop, getD}
 use Rattle.log_layout.specs.Layout.{u32At, numbers, indexIn}
 use Rattle.log.specs.Soundness.{sameNumbers}
-use Rattle.log.proofs.Turns.{same-apart, same-next, same-end}
+use Rattle.log.proofs.Rounds.{same-apart, same-next, same-end}
 use borrow.Author.Needs.{needs}
 use Rattle.log.proofs.index_right.Statement.{statement}
 use Rattle.log.proofs.index_right.Tie as tie
@@ -56,7 +56,7 @@ returns c = let l = c .before .before .before .loop in
     let a = c .before .before .before .before .before .before .args in
     let s : length (a .t2) ≡ 254 = search needs in
     sym
-    (ap (λ (k : ℕ). sameNumbers (numbers 254 (drop (indexPlace k) (a .file .now))) (a .t2)) (sym (n .ensures))
+    (ap (λ (k : ℕ). sameNumbers (numbers 254 (drop (indexOffset k) (a .file .now))) (a .t2)) (sym (n .ensures))
     ∙ l .inv .1
     ∙ same-apart (a .file .now) (a .t2) (16 + 8 * n .result + 4 * l .i) (l .i) (254 - l .i) (254 - (l .i + 1)) (search needs) (search needs)
     (λ e. c .if1 .taken (c .before .number-at2 .ensures ∙ e)))
@@ -86,7 +86,7 @@ returns-2 c = let l = c .before .loop in
     let a = c .before .before .before .before .args in
     let s : length (a .t2) ≡ 254 = search needs in
     sym
-    (ap (λ (k : ℕ). sameNumbers (numbers 254 (drop (indexPlace k) (a .file .now))) (a .t2)) (sym (n .ensures))
+    (ap (λ (k : ℕ). sameNumbers (numbers 254 (drop (indexOffset k) (a .file .now))) (a .t2)) (sym (n .ensures))
     ∙ l .inv .1
     ∙ same-end (drop (16 + 8 * n .result + 4 * l .i) (a .file .now)) (a .t2) (l .i) (254 - l .i) (search needs) (search needs))
 

@@ -42,14 +42,14 @@ mul-index c = search needs
 add-index : tie.Need-add-index
 add-index c = search needs
 
-place-of-requires : tie.Need-place-of-requires
-place-of-requires c κs = search needs
+mark-of-requires : tie.Need-mark-of-requires
+mark-of-requires c κs = search needs
 
 mul-number-at : tie.Need-mul-number-at
-mul-number-at c = omega (arith, c .place-of .ensures, place-within (c .before .before .before .before .before .before .before .args .id))
+mul-number-at c = omega (arith, c .mark-of .ensures, place-within (c .before .before .before .before .before .before .before .args .id))
 
 add-number-at : tie.Need-add-number-at
-add-number-at c = omega (arith, c .place-of .ensures, place-within (c .before .before .before .before .before .before .before .args .id))
+add-number-at c = omega (arith, c .mark-of .ensures, place-within (c .before .before .before .before .before .before .before .args .id))
 
 number-at-requires-2 : tie.Need-number-at-requires-2
 number-at-requires-2 c κs = search needs
@@ -75,7 +75,7 @@ module _ (q : tie.After-number-at2) where
   number : q .number-at2 .result ≡ indexNumberOf file id
   number =
       q .number-at2 .ensures
-      ∙ ap₂ (λ (n p : ℕ). u32At file (16 + 8 * n + 4 * p)) (q .before .before .number-at .ensures) (q .before .place-of .ensures)
+      ∙ ap₂ (λ (n p : ℕ). u32At file (16 + 8 * n + 4 * p)) (q .before .before .number-at .ensures) (q .before .mark-of .ensures)
 
 returns-3 : tie.Need-returns-3
 returns-3 c = let q = c .before in
@@ -108,7 +108,7 @@ last-spec =
     cast-index
     mul-index
     add-index
-    place-of-requires
+    mark-of-requires
     mul-number-at
     add-number-at
     number-at-requires-2

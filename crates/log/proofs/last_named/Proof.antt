@@ -6,7 +6,7 @@ use lib.ListN.{take, drop}
 use Rattle.log_index.specs.Last.{lastIn}
 use Rattle.log_layout.specs.Layout.{segmentBy, entryOf}
 use Rattle.log_index.specs.Marks.{offsetOf}
-use Rattle.log.proofs.Turns.{foundIn, found-in}
+use Rattle.log.proofs.Rounds.{foundIn, found-in}
 use borrow.Author.Needs.{needs}
 use Rattle.log.proofs.last_named.Statement.{statement}
 use Rattle.log.proofs.last_named.Tie as tie

@@ -5,7 +5,7 @@ use lib.ListN.{length}
 use Rattle.reader_plain.proofs.Left.{left}
 use Rattle.log_index.specs.Last.{lastPacket}
 use Rattle.log_index.specs.Marks.{offsetOf}
-use Rattle.log_index.proofs.Turns.{orElse, last-start, packet-less, last-here, last-other, bad-less, last-bad, last-end}
+use Rattle.log_index.proofs.Rounds.{orElse, last-start, packet-less, last-here, last-other, bad-less, last-bad, last-end}
 use borrow.Author.Needs.{needs}
 use Rattle.log_index.proofs.last_in.Statement.{statement}
 use Rattle.log_index.proofs.last_in.Tie as tie

@@ -4,7 +4,7 @@ use native.Mathlib.Omega.{arith}
 use lib.ListN.{length}
 use Rattle.reader_plain.proofs.Left.{left}
 use Rattle.log_index.specs.Marks.{marked}
-use Rattle.log_index.proofs.Turns.{packet-less, mark-packet, bad-less, mark-bad, mark-end, all-left}
+use Rattle.log_index.proofs.Rounds.{packet-less, mark-packet, bad-less, mark-bad, mark-end, all-left}
 use Rattle.log_index.proofs.Marks.{place-within}
 use borrow.Author.Needs.{needs}
 use Rattle.log_index.proofs.mark.Statement.{statement}
@@ -25,11 +25,11 @@ next-event-requires c κs = search needs
 enum-known-next : tie.Need-enum-known-next Inv-loop μ-loop
 enum-known-next c = search needs
 
-place-of-requires : tie.Need-place-of-requires Inv-loop μ-loop
-place-of-requires c κs = search needs
+mark-of-requires : tie.Need-mark-of-requires Inv-loop μ-loop
+mark-of-requires c κs = search needs
 
 element-write-index : tie.Need-element-write-index Inv-loop μ-loop
-element-write-index c = rw (c .place-of .ensures) (place-within (c .before .before .next .given .0 .1 .1 .1 .0))
+element-write-index c = rw (c .mark-of .ensures) (place-within (c .before .before .next .given .0 .1 .1 .1 .0))
 
 mul-index : tie.Need-mul-index Inv-loop μ-loop
 mul-index c = let h = element-write-index c in omega (arith, h)
@@ -41,7 +41,7 @@ loop-less c = let k = c .before in
 loop-again : tie.Need-loop-again Inv-loop μ-loop
 loop-again c = let k = c .before in
     let j = k .before .before .before in
-    rw (c .place-of .ensures)
+    rw (c .mark-of .ensures)
     (j .before .loop .inv ∙ mark-packet _ _ _ _ _ _ (sym (j .next-event .ensures) ∙ k .before .next .given .1) _ _)
 
 enum-known-next-2 : tie.Need-enum-known-next-2 Inv-loop μ-loop
@@ -72,7 +72,7 @@ mark-spec =
     loop-holds
     next-event-requires
     enum-known-next
-    place-of-requires
+    mark-of-requires
     mul-index
     element-write-index
     loop-less

@@ -3,7 +3,7 @@ use Prim.Native.Nat.{ℕ, _+_, _*_, _-_, _≤_}
 use native.Mathlib.Omega.{arith}
 use lib.ListN.{length, length-set}
 use Rattle.lists.proofs.Filling.{fill-length}
-use Rattle.log_kept.proofs.Turns.{kept-within, counts-of, Listing, listing-start, listing-bytes, listing-kept, listing-room, listing-dropped, listing-count, listing-counts, listing-done}
+use Rattle.log_kept.proofs.Rounds.{kept-within, counts-of, Listing, listing-start, listing-bytes, listing-kept, listing-room, listing-dropped, listing-count, listing-counts, listing-done}
 use borrow.Author.Needs.{needs}
 use Rattle.log_kept.proofs.list_dropped.Statement.{statement}
 use Rattle.log_kept.proofs.list_dropped.Tie as tie

@@ -1,4 +1,4 @@
-use Rattle.log_kept.proofs.Turns.{sort-refused, sort-listed}
+use Rattle.log_kept.proofs.Rounds.{sort-refused, sort-listed}
 use borrow.Author.Needs.{needs}
 use Rattle.log_kept.proofs.sort.Statement.{statement}
 use Rattle.log_kept.proofs.sort.Tie as tie

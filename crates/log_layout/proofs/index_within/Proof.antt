@@ -4,15 +4,15 @@ use Prim.Native.Nat.{_+_, _*_, _-_}
 use native.Mathlib.Omega.{arith}
 use lib.ListN.{length, drop}
 use Rattle.log_index.specs.Last.{indexSize}
-use Rattle.log_layout.specs.Log.{indexPlace}
+use Rattle.log_layout.specs.Log.{indexOffset}
 use Rattle.log_layout.specs.Layout.{u32At, numbers, noneAbove}
-use Rattle.log_layout.proofs.Turns.{above-here, within-here}
+use Rattle.log_layout.proofs.Rounds.{above-here, within-here}
 use Rattle.log_layout.proofs.index_within.Statement.{statement}
 use Rattle.log_layout.proofs.index_within.Tie as tie
 
 abbrev Inv-loop : tie.InvT-loop
 Inv-loop file count left₀ place₀ left place = (place + 4 * left ≡ 1032 + 8 * count)
-    × (noneAbove count (numbers indexSize (drop (indexPlace count) file)) ≡ noneAbove count (numbers left (drop place file)))
+    × (noneAbove count (numbers indexSize (drop (indexOffset count) file)) ≡ noneAbove count (numbers left (drop place file)))
 
 abbrev μ-loop : tie.MeasureT-loop
 μ-loop file count left₀ place₀ left place = left

@@ -1,7 +1,7 @@
 use mathlib.Core.Path.{sym, ap, _∙_}
 use native.Mathlib.Omega.{arith}
 use Rattle.lists.proofs.Numbers.{four-bytes}
-use Rattle.log_layout.proofs.Turns.{u32-behind, u32-tail}
+use Rattle.log_layout.proofs.Rounds.{u32-behind, u32-tail}
 use borrow.Author.Needs.{needs}
 use Rattle.log_layout.proofs.number_at.Statement.{statement}
 use Rattle.log_layout.proofs.number_at.Tie as tie

@@ -3,15 +3,15 @@ use mathlib.Core.Path.{_≡_, refl, sym, _∙_}
 use Prim.Native.Nat.{_+_, _*_, _-_}
 use native.Mathlib.Omega.{arith}
 use lib.ListN.{length, drop}
-use Rattle.log_layout.specs.Log.{segmentsPlace}
+use Rattle.log_layout.specs.Log.{segmentsOffset}
 use Rattle.log_layout.specs.Layout.{u32At, entries, chained}
-use Rattle.log_layout.proofs.Turns.{chained-apart, chained-next}
+use Rattle.log_layout.proofs.Rounds.{chained-apart, chained-next}
 use Rattle.log_layout.proofs.segments_chained.Statement.{statement}
 use Rattle.log_layout.proofs.segments_chained.Tie as tie
 
 abbrev Inv-loop : tie.InvT-loop
 Inv-loop file count left₀ place₀ start₀ left place start = (place + 8 * left ≡ 16 + 8 * count)
-    × (chained (entries count (drop 16 file)) (segmentsPlace count) (length file) ≡ chained (entries left (drop place file)) start (length file))
+    × (chained (entries count (drop 16 file)) (segmentsOffset count) (length file) ≡ chained (entries left (drop place file)) start (length file))
 
 abbrev μ-loop : tie.MeasureT-loop
 μ-loop file count left₀ place₀ start₀ left place start = left

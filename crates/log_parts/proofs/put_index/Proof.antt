@@ -5,14 +5,14 @@ use native.Mathlib.Omega.{arith}
 use lib.ListN.{length, take, drop, getD}
 use borrow.Author.Tests.{leb-true, not-true, not-false}
 use Rattle.lists.proofs.Filling.{Filling, fill-from, fill-length}
-use Rattle.log_layout.specs.Log.{laid, segmentsPlace}
+use Rattle.log_layout.specs.Log.{laid, segmentsOffset}
 use Rattle.log_parts.proofs.Numbers.{numbers-end, fill-index, filled-end, put-fits, put-not}
 use borrow.Author.Needs.{needs}
 use Rattle.log_parts.proofs.put_index.Statement.{statement}
 use Rattle.log_parts.proofs.put_index.Tie as tie
 
 abbrev Inv-loop : tie.InvT-loop
-Inv-loop out₀ segments index at i₀ out i = (i ≤ 254) × (length out ≡ length out₀) × (segmentsPlace segments ≤ length out₀) × Filling (take at out₀ ++ laid index []) out₀ out (at + 4 * i) (laid (drop i index) [])
+Inv-loop out₀ segments index at i₀ out i = (i ≤ 254) × (length out ≡ length out₀) × (segmentsOffset segments ≤ length out₀) × Filling (take at out₀ ++ laid index []) out₀ out (at + 4 * i) (laid (drop i index) [])
 
 abbrev μ-loop : tie.MeasureT-loop
 μ-loop out₀ segments index at i₀ out i = 254 - i
@@ -25,19 +25,19 @@ returns c = sym (put-not _ _ _ _ (sym (c .before .has-room .ensures) ∙ not-tru
 
 mul-place : tie.Need-mul-place Inv-loop μ-loop
 mul-place c = let a = c .before .before .before .args in
-    let h : segmentsPlace (a .segments) ≤ length (a .out .now) =
+    let h : segmentsOffset (a .segments) ≤ length (a .out .now) =
     leb-true _ _ (sym (c .before .has-room .ensures) ∙ not-false (c .before .has-room .result) (c .if1 .left)) in
     search needs
 
 add-place : tie.Need-add-place Inv-loop μ-loop
 add-place c = let a = c .before .before .before .args in
-    let h : segmentsPlace (a .segments) ≤ length (a .out .now) =
+    let h : segmentsOffset (a .segments) ≤ length (a .out .now) =
     leb-true _ _ (sym (c .before .has-room .ensures) ∙ not-false (c .before .has-room .result) (c .if1 .left)) in
     search needs
 
 loop-holds : tie.Need-loop-holds Inv-loop μ-loop
 loop-holds c = let a = c .before .before .before .args in
-    let h : segmentsPlace (a .segments) ≤ length (a .out .now) =
+    let h : segmentsOffset (a .segments) ≤ length (a .out .now) =
     leb-true _ _ (sym (c .before .has-room .ensures) ∙ not-false (c .before .has-room .result) (c .if1 .left)) in
     let p = 16 + 8 * a .segments in
     let e : p + 0 ≡ p = omega arith in

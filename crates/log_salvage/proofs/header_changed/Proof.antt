@@ -4,7 +4,7 @@ use Prim.Native.Nat.{ℕ, _+_, _-_, _≤_}
 use native.Mathlib.Omega.{arith}
 use lib.ListN.{length, take}
 use Rattle.log.specs.Soundness.{sameNumbers}
-use Rattle.log_salvage.proofs.Turns.{leftSame, same-next, same-not, same-end}
+use Rattle.log_salvage.proofs.Rounds.{leftSame, same-next, same-not, same-end}
 use borrow.Author.Needs.{needs}
 use Rattle.log_salvage.proofs.header_changed.Statement.{statement}
 use Rattle.log_salvage.proofs.header_changed.Tie as tie

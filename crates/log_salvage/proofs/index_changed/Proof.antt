@@ -5,7 +5,7 @@ use native.Mathlib.Omega.{arith}
 use lib.ListN.{length, drop, getD}
 use Rattle.log_layout.specs.Layout.{u32At, numbers}
 use Rattle.log_salvage.specs.Report.{differing}
-use Rattle.log_salvage.proofs.Turns.{differing-same, differing-one, differing-end}
+use Rattle.log_salvage.proofs.Rounds.{differing-same, differing-one, differing-end}
 use borrow.Author.Needs.{needs}
 use Rattle.log_salvage.proofs.index_changed.Statement.{statement}
 use Rattle.log_salvage.proofs.index_changed.Tie as tie

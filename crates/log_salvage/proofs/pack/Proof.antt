@@ -9,7 +9,7 @@ use Rattle.packet.specs.Verdict.{protocol2}
 use Rattle.buffers.proofs.Parts.{placed-whole}
 use Rattle.log_index.specs.Marks.{marked}
 use Rattle.log_parts.proofs.Numbers.{put-fits}
-use Rattle.log_kept.proofs.Turns.{kept-within}
+use Rattle.log_kept.proofs.Rounds.{kept-within}
 use Rattle.log_salvage.proofs.Packing.{Packing, packing-start, packing-room, whole, packing-kept, packing-dropped, packing-marks, packing-done}
 use borrow.Author.Needs.{needs}
 use Rattle.log_salvage.proofs.pack.Statement.{statement}

@@ -4,7 +4,7 @@ use Prim.Native.Nat.{ℕ, _+_, _≤_}
 use native.Mathlib.Omega.{arith}
 use lib.ListN.{length}
 use Rattle.lists.specs.Write.{placed}
-use Rattle.log_layout.specs.Log.{laid, indexPlace, segmentsPlace}
+use Rattle.log_layout.specs.Log.{laid, indexOffset, segmentsOffset}
 use Rattle.log_layout.specs.Layout.{segmentsBy}
 use Rattle.log_layout.proofs.Sound.{segments-count}
 use Rattle.log_parts.proofs.Numbers.{put-fits}
@@ -35,9 +35,9 @@ returns c = let i = c .before .before in
     let ss = segmentsBy (a .file .now) es in (
       p .pack .ensures .0,
       i .put-index .ensures ∙ put-fits _ _ _ _ (search needs)
-          ∙ ap₂ (λ (b x : List ℕ). placed b (indexPlace (a .kept)) (laid x []))
+          ∙ ap₂ (λ (b x : List ℕ). placed b (indexOffset (a .kept)) (laid x []))
           (p .pack .ensures .1
-          ∙ ap (λ (b : List ℕ). packed b 0 (segmentsPlace (a .kept)) ss) (h .put-header .ensures ∙ put-fits _ _ _ _ (search needs)))
+          ∙ ap (λ (b : List ℕ). packed b 0 (segmentsOffset (a .kept)) ss) (h .put-header .ensures ∙ put-fits _ _ _ _ (search needs)))
           (p .pack .ensures .0)
           ∙ log-put (a .out .now) ss (a .kept) (search needs ∙ sym (segments-count (a .file .now) es)) (search needs),
     )

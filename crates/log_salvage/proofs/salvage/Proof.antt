@@ -1,7 +1,7 @@
 use mathlib.Core.Path.{_≡_, refl, sym, ap, _∙_}
 use native.Mathlib.Omega.{arith}
 use Rattle.answers.specs.declared.Refusal.the-variants.{NoRoom, BadLogSize}
-use Rattle.log_kept.proofs.Turns.{told-listed, told-refused}
+use Rattle.log_kept.proofs.Rounds.{told-listed, told-refused}
 use Rattle.log_salvage.proofs.Answer.{too-small, too-large, no-room, no-places, passes, refusing, writing}
 use borrow.Author.Needs.{needs}
 use Rattle.log_salvage.proofs.salvage.Statement.{statement}

@@ -5,7 +5,7 @@ use lib.Dec.{eqb}
 use lib.ListN.{length, drop, getD}
 use borrow.Author.Tests.{ne-eqb}
 use Rattle.log_writer.specs.Writing.{sum}
-use Rattle.log_writer.proofs.Turns.{sum-turn, sum-end, less-both, zero-left}
+use Rattle.log_writer.proofs.Rounds.{sum-turn, sum-end, less-both, zero-left}
 use borrow.Author.Needs.{needs}
 use Rattle.log_writer.proofs.adds_up.Statement.{statement}
 use Rattle.log_writer.proofs.adds_up.Tie as tie

@@ -9,7 +9,7 @@ use Rattle.log_index.specs.Marks.{marked}
 use Rattle.log_index.specs.Last.{index}
 use Rattle.log_index.proofs.Marks.{markedAll, all-marked}
 use Rattle.log_writer.specs.Writing.{sum, cut}
-use Rattle.log_writer.proofs.Turns.{sum-turn, marked-turn, marked-end}
+use Rattle.log_writer.proofs.Rounds.{sum-turn, marked-turn, marked-end}
 use borrow.Author.Needs.{needs}
 use Rattle.log_writer.proofs.index_of.Statement.{statement}
 use Rattle.log_writer.proofs.index_of.Tie as tie

@@ -4,17 +4,17 @@ use Prim.Native.Nat.{ℕ, _+_, _*_, _-_, _≤_}
 use native.Mathlib.Omega.{arith}
 use lib.ListN.{length, take, drop, getD}
 use Rattle.lists.proofs.Filling.{Filling, fill-from, fill-length}
-use Rattle.log_layout.specs.Log.{Entry, laid, numbersOf, segmentsPlace}
+use Rattle.log_layout.specs.Log.{Entry, laid, numbersOf, segmentsOffset}
 use Rattle.log_writer.specs.Writing.{sum, directoryBy}
-use Rattle.log_writer.proofs.Turns.{sum-turn, directory-end, fill-entry}
+use Rattle.log_writer.proofs.Rounds.{sum-turn, directory-end, fill-entry}
 use Rattle.log_parts.proofs.Numbers.{put-fits, filled-end}
 use borrow.Author.Needs.{needs}
 use Rattle.log_writer.proofs.put_directory.Statement.{statement}
 use Rattle.log_writer.proofs.put_directory.Tie as tie
 
 abbrev Inv-loop : tie.InvT-loop
-Inv-loop out₀ lengths start₀ i₀ out start i = (i ≤ length lengths) × (length out ≡ length out₀) × (start + sum (drop i lengths) ≡ segmentsPlace (length lengths) + sum lengths)
-    × Filling (take 16 out₀ ++ laid (numbersOf (directoryBy (segmentsPlace (length lengths)) lengths)) []) out₀ out (16 + 8 * i)
+Inv-loop out₀ lengths start₀ i₀ out start i = (i ≤ length lengths) × (length out ≡ length out₀) × (start + sum (drop i lengths) ≡ segmentsOffset (length lengths) + sum lengths)
+    × Filling (take 16 out₀ ++ laid (numbersOf (directoryBy (segmentsOffset (length lengths)) lengths)) []) out₀ out (16 + 8 * i)
     (laid (numbersOf (directoryBy start (drop i lengths))) [])
 
 abbrev μ-loop : tie.MeasureT-loop

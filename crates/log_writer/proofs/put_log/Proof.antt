@@ -6,7 +6,7 @@ use lib.ListN.{length}
 use Rattle.lists.specs.Write.{placed}
 use Rattle.log_parts.proofs.Numbers.{put-fits}
 use Rattle.buffers.proofs.Parts.{placed-whole}
-use Rattle.log_layout.specs.Log.{laid, numbersOf, indexPlace, segmentsPlace}
+use Rattle.log_layout.specs.Log.{laid, numbersOf, indexOffset, segmentsOffset}
 use Rattle.log_writer.specs.Writing.{directoryBy}
 use Rattle.log_writer.proofs.Parts.{parts-by-lengths}
 use mathlib.Core.Path.{_≡_, ap, _∙_}
@@ -51,14 +51,14 @@ returns c = let p = c .before .before in
     let h = d .before .before .before .before in
     let a = h .before .before .before .before .before .args in
     let n = length (a .lengths .now) in
-    let e : indexPlace n + 1016 ≡ segmentsPlace n = omega arith in
+    let e : indexOffset n + 1016 ≡ segmentsOffset n = omega arith in
     p .place .ensures
-    ∙ placed-whole (i .put-index .last .0) (a .bytes .now) (indexPlace n + 1016) (search needs)
+    ∙ placed-whole (i .put-index .last .0) (a .bytes .now) (indexOffset n + 1016) (search needs)
     ∙ ap₂ (λ (b : List ℕ) (k : ℕ). placed b k (a .bytes .now))
     (i .put-index .ensures ∙ put-fits _ _ _ _ (search needs)
-    ∙ ap₂ (λ (b x : List ℕ). placed b (indexPlace n) (laid x []))
+    ∙ ap₂ (λ (b x : List ℕ). placed b (indexOffset n) (laid x []))
     (d .put-directory .ensures
-    ∙ ap (λ (b : List ℕ). placed b 16 (laid (numbersOf (directoryBy (segmentsPlace n) (a .lengths .now))) [])) (h .put-header .ensures ∙ put-fits _ _ _ _ (search needs)))
+    ∙ ap (λ (b : List ℕ). placed b 16 (laid (numbersOf (directoryBy (segmentsOffset n) (a .lengths .now))) [])) (h .put-header .ensures ∙ put-fits _ _ _ _ (search needs)))
     (i .before .index-of .ensures))
     e
     ∙ parts-by-lengths (a .out .now) (a .bytes .now) (a .lengths .now) (search needs) (search needs)

@@ -1,6 +1,6 @@
 use mathlib.Core.Path.{_≡_, sym, _∙_}
 use borrow.Author.Tests.{not-true, not-false}
-use Rattle.packet_front.specs.Begun.{headerAgrees, frontAgrees}
+use Rattle.packet_front.specs.Header.{headerAgrees, frontAgrees}
 use borrow.Author.Needs.{needs}
 use Rattle.packet_front.proofs.front_agrees.Statement.{statement}
 use Rattle.packet_front.proofs.front_agrees.Tie as tie

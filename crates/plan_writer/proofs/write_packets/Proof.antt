@@ -21,7 +21,7 @@ loop-holds c = let s = c .before in sending-start (s .args .goals .now) (s .args
 most-of-requires : tie.Need-most-of-requires Inv-loop μ-loop
 most-of-requires c κs = search needs
 
--- the turn: as many entries as fit
+-- the round: as many entries as fit
 module _ (m : tie.After-most-of Inv-loop μ-loop) where
   there : let l = m .before .before in let s = l .before .before in
       (l .loop .at + (14 + 5 * m .most-of .result) ≤ length (l .loop .out)) × (length (l .loop .out) ≡ length (s .args .out .now))

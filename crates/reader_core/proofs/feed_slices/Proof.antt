@@ -16,8 +16,8 @@ use Rattle.reader_core.proofs.Spared.{call-shorter, reached-taken, fill
 use Rattle.reader_scan.specs.declared.Stop.the-variants.{Full}
 use Rattle.reader_scan.specs.Scan.{Filled}
 use Rattle.packet_rules.proofs.Answers.{was-packet, was-bad}
-use Rattle.reader_core.proofs.Turns.{rest-here, filled-rest, room-for, ends-on, ends-fed, passed-fed, filled-done, filled-passed, filled-full}
-use Rattle.reader_core.proofs.Turns.{full-packet, full-bad, full-other}
+use Rattle.reader_core.proofs.Rounds.{rest-here, filled-rest, room-for, ends-on, ends-fed, passed-fed, filled-done, filled-passed, filled-full}
+use Rattle.reader_core.proofs.Rounds.{full-packet, full-bad, full-other}
 use mathlib.Core.Path.{_≡_, refl, sym, ap, _∙_}
 use Prim.Native.Nat.{ℕ, _+_, _-_, _≤_, _<_}
 use native.Mathlib.Omega.{arith}

@@ -1,4 +1,4 @@
-use Rattle.reader_core.proofs.Turns.{room-for, gap-nothing, gap-decided}
+use Rattle.reader_core.proofs.Rounds.{room-for, gap-nothing, gap-decided}
 use lib.Seq.{length-take-le}
 use types.Run.{miss}
 use mathlib.Core.List.{List, [], _∷_}

@@ -1,4 +1,4 @@
-use Rattle.reader_core.proofs.Turns.{rest-within, room-for, ends-on, ends-left, ends-rest}
+use Rattle.reader_core.proofs.Rounds.{rest-within, room-for, ends-on, ends-left, ends-rest}
 use native.Mathlib.Omega.{arith}
 use borrow.Author.Needs.{needs}
 use Rattle.reader_core.proofs.read_chunk.Statement.{statement}

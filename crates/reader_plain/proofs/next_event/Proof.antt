@@ -7,7 +7,7 @@ use lib.ListN.{length}
 use Rattle.packet_rules.specs.declared.Judgement.{Judgement}
 use Rattle.packet_rules.specs.declared.Judgement.the-variants.{Packet}
 use Rattle.reader_plain.specs.Next.{nextEvent}
-use Rattle.reader_plain.proofs.Turns.{Turn, turn, passed, next-end}
+use Rattle.reader_plain.proofs.Rounds.{Turn, turn, passed, next-end}
 use borrow.Author.Needs.{needs}
 use Rattle.reader_plain.proofs.next_event.Statement.{statement}
 use Rattle.reader_plain.proofs.next_event.Tie as tie
@@ -27,7 +27,7 @@ judge-requires c κs = search needs
 enum-known-count : tie.Need-enum-known-count Inv-loop μ-loop
 enum-known-count c = search needs
 
--- what the turn comes to by the verdict
+-- what the round comes to by the verdict
 module _ (j : tie.After-judge Inv-loop μ-loop) where
   abbrev s : List ℕ
   s = j .before .before .before .before .args .segment .now

@@ -5,16 +5,16 @@ use Prim.Native.Nat.{ℕ, _+_, _-_, _≤_, _<_}
 use native.Mathlib.Omega.{arith}
 use types.Run.{miss}
 use lib.ListN.{length, drop}
-use Rattle.packet_rules.specs.declared.Begun.{Begun}
-use Rattle.packet_rules.specs.declared.Begun.the-variants.{Nothing, Whole}
+use Rattle.packet_rules.specs.declared.Front.{Front}
+use Rattle.packet_rules.specs.declared.Front.the-variants.{Nothing, Whole}
 use Rattle.packet_rules.specs.Answers.{settledBy}
 use Rattle.packet_rules.specs.declared.Judgement.{Judgement}
-use Rattle.packet_rules.proofs.Looks.{Looked, Judged}
+use Rattle.packet_rules.proofs.Peeks.{Peeked, Judged}
 use Rattle.packet_protocols.specs.declared.Protocol.{Protocol}
 use Rattle.packet_protocols.specs.Protocols.{shapeOf, rulesOf}
 use Rattle.packet_protocols.proofs.Shapes.{laws, settles, some-lacking, some-longest}
 use Rattle.reader_scan.proofs.Seeking.{Sought, sought-start, sought-none, sought-next, sought-packet, sought-bad, sought-end}
-use Rattle.reader_scan.proofs.Looking.{look-at, fits-at, judge-at, judged-nothing, start-sought}
+use Rattle.reader_scan.proofs.Peeking.{peek-at, fits-at, judge-at, judged-nothing, start-sought}
 use borrow.Author.Needs.{needs}
 use Rattle.reader_scan.proofs.advance.Statement.{statement}
 use Rattle.reader_scan.proofs.advance.Tie as tie
@@ -60,17 +60,17 @@ returns c =
     rw (c .ending .ensures)
     (sought-end (rulesOf (pr f)) (laws (pr f)) (settledBy (shapeOf (pr f))) (settles (pr f)) (s f) (here f) (so-far f) (sought f) (inr (d .if1 .taken)))
 
-sub-look : tie.Need-sub-look Inv-loop μ-loop
-sub-look c = search needs
+sub-peek : tie.Need-sub-peek Inv-loop μ-loop
+sub-peek c = search needs
 
-part-look-start : tie.Need-part-look-start Inv-loop μ-loop
-part-look-start c = search needs
+part-peek-start : tie.Need-part-peek-start Inv-loop μ-loop
+part-peek-start c = search needs
 
-part-look-end : tie.Need-part-look-end Inv-loop μ-loop
-part-look-end c = search needs
+part-peek-end : tie.Need-part-peek-end Inv-loop μ-loop
+part-peek-end c = search needs
 
-look-requires : tie.Need-look-requires Inv-loop μ-loop
-look-requires c κs = search needs
+peek-requires : tie.Need-peek-requires Inv-loop μ-loop
+peek-requires c κs = search needs
 
 enum-told : tie.Need-enum-told Inv-loop μ-loop
 enum-told c = search needs
@@ -79,15 +79,15 @@ enum-told-2 : tie.Need-enum-told-2 Inv-loop μ-loop
 enum-told-2 c = search needs
 
 -- what the look at the offset tells
-module _ (l : tie.After-look Inv-loop μ-loop) where
+module _ (l : tie.After-peek Inv-loop μ-loop) where
   abbrev f : tie.After-next-start Inv-loop μ-loop
   f = l .before .before .before
 
   some : here f < length (s f)
   some = l .before .before .if1 .left
 
-  told : (b : Begun) → l .look .result ≡ b → Looked (rulesOf (pr f)) (settledBy (shapeOf (pr f))) (drop (here f) (s f)) b
-  told b e = look-at (pr f) (s f) (here f) (l .look .result) (l .look .ensures) b e
+  told : (b : Front) → l .peek .result ≡ b → Peeked (rulesOf (pr f)) (settledBy (shapeOf (pr f))) (drop (here f) (s f)) b
+  told b e = peek-at (pr f) (s f) (here f) (l .peek .result) (l .peek .ensures) b e
 
 ending-requires-2 : tie.Need-ending-requires-2 Inv-loop μ-loop
 ending-requires-2 c κs = search needs
@@ -105,7 +105,7 @@ enum-known-size c = search needs
 
 -- all bytes of a packet are there
 module _ (z : tie.After-size Inv-loop μ-loop) where
-  abbrev l : tie.After-look Inv-loop μ-loop
+  abbrev l : tie.After-peek Inv-loop μ-loop
   l = z .before .before
 
   abbrev size : ℕ
@@ -115,7 +115,7 @@ module _ (z : tie.After-size Inv-loop μ-loop) where
   settled-here = told l (Whole size) (z .size .given .1)
 
   whole : here (f l) + size ≤ length (s (f l))
-  whole = fits-at (pr (f l)) (s (f l)) (here (f l)) (l .look .result) (l .look .ensures) size (z .size .given .1)
+  whole = fits-at (pr (f l)) (s (f l)) (here (f l)) (l .peek .result) (l .peek .ensures) size (z .size .given .1)
 
 add-greatest : tie.Need-add-greatest Inv-loop μ-loop
 add-greatest c = omega (arith, whole (c .before))
@@ -163,7 +163,7 @@ module _ (j : tie.After-judge-whole Inv-loop μ-loop) where
 
   judgement : (v : Judgement) → j .judge-whole .result ≡ v → Judged (rulesOf (pr o)) (drop (here o) (s o)) v
   judgement v e =
-      judge-at (pr o) (s o) (here o) (l y .look .result) (l y .look .ensures) (size y) (y .size .given .1) (j .judge-whole .result) v
+      judge-at (pr o) (s o) (here o) (l y .peek .result) (l y .peek .ensures) (size y) (y .size .given .1) (j .judge-whole .result) v
       (j .judge-whole .ensures) e
 
 ending-requires-3 : tie.Need-ending-requires-3 Inv-loop μ-loop
@@ -243,10 +243,10 @@ advance-spec =
     next-start-requires
     ending-requires
     returns
-    sub-look
-    part-look-start
-    part-look-end
-    look-requires
+    sub-peek
+    part-peek-start
+    part-peek-end
+    peek-requires
     enum-told
     enum-told-2
     ending-requires-2

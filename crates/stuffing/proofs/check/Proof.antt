@@ -5,8 +5,8 @@ use Prim.Native.Nat.{_+_, _-_, _≤_}
 use native.Mathlib.Omega.{arith}
 use lib.ListN.{length}
 use Rattle.stuffing.specs.Stuffing.{wellStuffed, unstuff}
-use Rattle.stuffing.proofs.Turns.{wellAt, unstuffedAt, marked, marked-next, well-end, unstuff-end, well-kept, unstuff-kept}
-use Rattle.stuffing.proofs.Turns.{free-after, mark-at-end, mark-unstuffed, well-skipped, unstuff-skipped}
+use Rattle.stuffing.proofs.Rounds.{wellAt, unstuffedAt, marked, marked-next, well-end, unstuff-end, well-kept, unstuff-kept}
+use Rattle.stuffing.proofs.Rounds.{free-after, mark-at-end, mark-unstuffed, well-skipped, unstuff-skipped}
 use borrow.Author.Needs.{needs}
 use Rattle.stuffing.proofs.check.Statement.{statement}
 use Rattle.stuffing.proofs.check.Tie as tie

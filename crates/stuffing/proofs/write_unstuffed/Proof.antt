@@ -6,8 +6,8 @@ use native.Mathlib.Omega.{arith}
 use lib.ListN.{length, getD}
 use Rattle.lists.proofs.Filling.{Filling, fill-start, fill-next, fill-done, fill-length, drop-lt}
 use Rattle.stuffing.specs.Stuffing.{unstuff}
-use Rattle.stuffing.proofs.Turns.{wellAt, unstuffedAt, marked, marked-next, unstuff-end, well-kept, unstuff-kept}
-use Rattle.stuffing.proofs.Turns.{free-after, well-next, well-skipped, unstuff-skipped}
+use Rattle.stuffing.proofs.Rounds.{wellAt, unstuffedAt, marked, marked-next, unstuff-end, well-kept, unstuff-kept}
+use Rattle.stuffing.proofs.Rounds.{free-after, well-next, well-skipped, unstuff-skipped}
 use borrow.Author.Needs.{needs}
 use Rattle.stuffing.proofs.write_unstuffed.Statement.{statement}
 use Rattle.stuffing.proofs.write_unstuffed.Tie as tie

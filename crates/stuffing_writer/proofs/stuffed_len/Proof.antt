@@ -8,7 +8,7 @@ use lib.ListN.{length}
 use borrow.Author.Tests.{le-leb, lt-leb}
 use Rattle.stuffing.specs.Stuffing.{stuffAfter, stuff}
 use Rattle.stuffing.proofs.Laws.{length-stuff}
-use Rattle.stuffing_writer.proofs.Turns.{stuffedAt, stuff-plain, stuff-marked, stuff-end}
+use Rattle.stuffing_writer.proofs.Rounds.{stuffedAt, stuff-plain, stuff-marked, stuff-end}
 use borrow.Author.Needs.{needs}
 use Rattle.stuffing_writer.proofs.stuffed_len.Statement.{statement}
 use Rattle.stuffing_writer.proofs.stuffed_len.Tie as tie

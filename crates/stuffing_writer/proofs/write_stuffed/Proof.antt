@@ -8,7 +8,7 @@ use lib.ListN.{length, take, getD, set, length-set}
 use Rattle.lists.specs.Write.{overwritten}
 use Rattle.lists.proofs.Filling.{Filling, fill-first, fill-next, fill-length, filled-all, filled-room}
 use Rattle.stuffing.specs.Stuffing.{stuffAfter, stuff}
-use Rattle.stuffing_writer.proofs.Turns.{stuffedAt, stuff-end, put-plain, put-marked}
+use Rattle.stuffing_writer.proofs.Rounds.{stuffedAt, stuff-end, put-plain, put-marked}
 use borrow.Author.Needs.{needs}
 use Rattle.stuffing_writer.proofs.write_stuffed.Statement.{statement}
 use Rattle.stuffing_writer.proofs.write_stuffed.Tie as tie

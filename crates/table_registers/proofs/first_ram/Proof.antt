@@ -2,7 +2,7 @@ use mathlib.Core.Path.{_∙_}
 use native.Mathlib.Omega.{arith}
 use borrow.Author.Needs.{needs}
 use Rattle.table_registers.specs.Registers.{registers, torqueEnable, lamp, statusReturnLevel, registeredInstruction, hardwareError}
-use Rattle.table_registers.proofs.Rows.{placeIn, placeOf, own-row, none-from}
+use Rattle.table_registers.proofs.Rows.{placeIn, markOf, own-row, none-from}
 use Rattle.table_registers.proofs.first_ram.Statement.{statement}
 use Rattle.table_registers.proofs.first_ram.Tie as tie
 
@@ -14,7 +14,7 @@ in-ram-requires c κs = search needs
 
 returns : tie.Need-returns
 unfolding registers placeIn
-returns c = c .in-ram .ensures ∙ own-row (placeOf torqueEnable) (omega arith) _ (omega arith) (omega arith)
+returns c = c .in-ram .ensures ∙ own-row (markOf torqueEnable) (omega arith) _ (omega arith) (omega arith)
 
 add-if2 : tie.Need-add-if2
 add-if2 c = search needs
@@ -24,7 +24,7 @@ in-ram-requires-2 c κs = search needs
 
 returns-2 : tie.Need-returns-2
 unfolding registers placeIn
-returns-2 c = c .in-ram2 .ensures ∙ own-row (placeOf lamp) (omega arith) _ (omega arith) (omega arith)
+returns-2 c = c .in-ram2 .ensures ∙ own-row (markOf lamp) (omega arith) _ (omega arith) (omega arith)
 
 undefined-requires : tie.Need-undefined-requires
 undefined-requires c κs = search needs
@@ -41,7 +41,7 @@ in-ram-requires-3 c κs = search needs
 
 returns-4 : tie.Need-returns-4
 unfolding registers placeIn
-returns-4 c = c .in-ram3 .ensures ∙ own-row (placeOf statusReturnLevel) (omega arith) _ (omega arith) (omega arith)
+returns-4 c = c .in-ram3 .ensures ∙ own-row (markOf statusReturnLevel) (omega arith) _ (omega arith) (omega arith)
 
 add-if5 : tie.Need-add-if5
 add-if5 c = search needs
@@ -51,7 +51,7 @@ read-only-requires c κs = search needs
 
 returns-5 : tie.Need-returns-5
 unfolding registers placeIn
-returns-5 c = c .read-only .ensures ∙ own-row (placeOf registeredInstruction) (omega arith) _ (omega arith) (omega arith)
+returns-5 c = c .read-only .ensures ∙ own-row (markOf registeredInstruction) (omega arith) _ (omega arith) (omega arith)
 
 add-if6 : tie.Need-add-if6
 add-if6 c = search needs
@@ -61,7 +61,7 @@ read-only-requires-2 c κs = search needs
 
 returns-6 : tie.Need-returns-6
 unfolding registers placeIn
-returns-6 c = c .read-only2 .ensures ∙ own-row (placeOf hardwareError) (omega arith) _ (omega arith) (omega arith)
+returns-6 c = c .read-only2 .ensures ∙ own-row (markOf hardwareError) (omega arith) _ (omega arith) (omega arith)
 
 undefined-requires-2 : tie.Need-undefined-requires-2
 undefined-requires-2 c κs = search needs

@@ -2,7 +2,7 @@ use mathlib.Core.Path.{_∙_}
 use native.Mathlib.Omega.{arith}
 use borrow.Author.Needs.{needs}
 use Rattle.table_registers.specs.Registers.{registers, modelNumber, firmwareVersion, deviceId, baudCode}
-use Rattle.table_registers.proofs.Rows.{placeIn, placeOf, own-row, none-from}
+use Rattle.table_registers.proofs.Rows.{placeIn, markOf, own-row, none-from}
 use Rattle.table_registers.proofs.first_rom.Statement.{statement}
 use Rattle.table_registers.proofs.first_rom.Tie as tie
 
@@ -14,7 +14,7 @@ read-only-requires c κs = search needs
 
 returns : tie.Need-returns
 unfolding registers placeIn
-returns c = c .read-only .ensures ∙ own-row (placeOf modelNumber) (omega arith) _ (omega arith) (omega arith)
+returns c = c .read-only .ensures ∙ own-row (markOf modelNumber) (omega arith) _ (omega arith) (omega arith)
 
 undefined-requires : tie.Need-undefined-requires
 undefined-requires c κs = search needs
@@ -31,7 +31,7 @@ read-only-requires-2 c κs = search needs
 
 returns-3 : tie.Need-returns-3
 unfolding registers placeIn
-returns-3 c = c .read-only2 .ensures ∙ own-row (placeOf firmwareVersion) (omega arith) _ (omega arith) (omega arith)
+returns-3 c = c .read-only2 .ensures ∙ own-row (markOf firmwareVersion) (omega arith) _ (omega arith) (omega arith)
 
 add-if4 : tie.Need-add-if4
 add-if4 c = search needs
@@ -41,7 +41,7 @@ in-rom-requires c κs = search needs
 
 returns-4 : tie.Need-returns-4
 unfolding registers placeIn
-returns-4 c = c .in-rom .ensures ∙ own-row (placeOf deviceId) (omega arith) _ (omega arith) (omega arith)
+returns-4 c = c .in-rom .ensures ∙ own-row (markOf deviceId) (omega arith) _ (omega arith) (omega arith)
 
 add-if5 : tie.Need-add-if5
 add-if5 c = search needs
@@ -51,7 +51,7 @@ in-rom-requires-2 c κs = search needs
 
 returns-5 : tie.Need-returns-5
 unfolding registers placeIn
-returns-5 c = c .in-rom2 .ensures ∙ own-row (placeOf baudCode) (omega arith) _ (omega arith) (omega arith)
+returns-5 c = c .in-rom2 .ensures ∙ own-row (markOf baudCode) (omega arith) _ (omega arith) (omega arith)
 
 undefined-requires-2 : tie.Need-undefined-requires-2
 undefined-requires-2 c κs = search needs

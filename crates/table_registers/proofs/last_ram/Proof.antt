@@ -2,7 +2,7 @@ use mathlib.Core.Path.{_∙_}
 use native.Mathlib.Omega.{arith}
 use borrow.Author.Needs.{needs}
 use Rattle.table_registers.specs.Registers.{registers, goalVelocity, goalPosition, presentPosition}
-use Rattle.table_registers.proofs.Rows.{placeIn, placeOf, own-row, none-from, none-past}
+use Rattle.table_registers.proofs.Rows.{placeIn, markOf, own-row, none-from, none-past}
 use Rattle.table_registers.proofs.last_ram.Statement.{statement}
 use Rattle.table_registers.proofs.last_ram.Tie as tie
 
@@ -14,7 +14,7 @@ in-ram-requires c κs = search needs
 
 returns : tie.Need-returns
 unfolding registers placeIn
-returns c = c .in-ram .ensures ∙ own-row (placeOf goalVelocity) (omega arith) _ (omega arith) (omega arith)
+returns c = c .in-ram .ensures ∙ own-row (markOf goalVelocity) (omega arith) _ (omega arith) (omega arith)
 
 undefined-requires : tie.Need-undefined-requires
 undefined-requires c κs = search needs
@@ -31,7 +31,7 @@ in-ram-requires-2 c κs = search needs
 
 returns-3 : tie.Need-returns-3
 unfolding registers placeIn
-returns-3 c = c .in-ram2 .ensures ∙ own-row (placeOf goalPosition) (omega arith) _ (omega arith) (omega arith)
+returns-3 c = c .in-ram2 .ensures ∙ own-row (markOf goalPosition) (omega arith) _ (omega arith) (omega arith)
 
 undefined-requires-2 : tie.Need-undefined-requires-2
 undefined-requires-2 c κs = search needs
@@ -48,7 +48,7 @@ read-only-requires c κs = search needs
 
 returns-5 : tie.Need-returns-5
 unfolding registers placeIn
-returns-5 c = c .read-only .ensures ∙ own-row (placeOf presentPosition) (omega arith) _ (omega arith) (omega arith)
+returns-5 c = c .read-only .ensures ∙ own-row (markOf presentPosition) (omega arith) _ (omega arith) (omega arith)
 
 undefined-requires-3 : tie.Need-undefined-requires-3
 undefined-requires-3 c κs = search needs

@@ -2,7 +2,7 @@ use mathlib.Core.Path.{_∙_}
 use native.Mathlib.Omega.{arith}
 use borrow.Author.Needs.{needs}
 use Rattle.table_registers.specs.Registers.{registers, homingOffset, maxPosition, minPosition}
-use Rattle.table_registers.proofs.Rows.{placeIn, placeOf, own-row, none-from}
+use Rattle.table_registers.proofs.Rows.{placeIn, markOf, own-row, none-from}
 use Rattle.table_registers.proofs.last_rom.Statement.{statement}
 use Rattle.table_registers.proofs.last_rom.Tie as tie
 
@@ -14,7 +14,7 @@ in-rom-requires c κs = search needs
 
 returns : tie.Need-returns
 unfolding registers placeIn
-returns c = c .in-rom .ensures ∙ own-row (placeOf homingOffset) (omega arith) _ (omega arith) (omega arith)
+returns c = c .in-rom .ensures ∙ own-row (markOf homingOffset) (omega arith) _ (omega arith) (omega arith)
 
 undefined-requires : tie.Need-undefined-requires
 undefined-requires c κs = search needs
@@ -31,7 +31,7 @@ in-rom-requires-2 c κs = search needs
 
 returns-3 : tie.Need-returns-3
 unfolding registers placeIn
-returns-3 c = c .in-rom2 .ensures ∙ own-row (placeOf maxPosition) (omega arith) _ (omega arith) (omega arith)
+returns-3 c = c .in-rom2 .ensures ∙ own-row (markOf maxPosition) (omega arith) _ (omega arith) (omega arith)
 
 add-if4 : tie.Need-add-if4
 add-if4 c = search needs
@@ -41,7 +41,7 @@ in-rom-requires-3 c κs = search needs
 
 returns-4 : tie.Need-returns-4
 unfolding registers placeIn
-returns-4 c = c .in-rom3 .ensures ∙ own-row (placeOf minPosition) (omega arith) _ (omega arith) (omega arith)
+returns-4 c = c .in-rom3 .ensures ∙ own-row (markOf minPosition) (omega arith) _ (omega arith) (omega arith)
 
 undefined-requires-2 : tie.Need-undefined-requires-2
 undefined-requires-2 c κs = search needs

@@ -60,7 +60,7 @@ row-range : (access : Access) (area : Area) (value : ℤ) → 2 ≤ grant access
 row-range readOnly area value h = absurd (omega arith)
 row-range (readWrite low high) area value h = refl
 
--- what the calls answer of the register of this turn
+-- what the calls answer of the register of this round
 covered-is : (c : tie.After-covered Inv-loop μ-loop)
     → let a = c .before .before .before .before .before .before .args in
     c .covered .result ≡ covers (a .address) (length (a .bytes .now)) (nth (place (c .before .before .before .loop .a)))
@@ -146,7 +146,7 @@ in-range-is c =
     ∙ ap (λ (z : ℤ). leZ (lowest (own .access)) z && leZ z (highest (own .access))) (sym v)
     ∙ row-range (own .access) (own .area) _ (omega arith)
 
--- the next turn begins at the register's end
+-- the next round begins at the register's end
 next : (c : tie.Else1 Inv-loop μ-loop)
     → let row = c .before .before .register-at .result in
     row .start + row .bytes ≡ endOf (nth (place (c .before .before .before .before .loop .a)))

@@ -4,7 +4,7 @@ use mir.Facts.{toZ-ofZ}
 use borrow.Author.Tests.{not-true, not-false}
 use native.Mathlib.Omega.{arith}
 use Rattle.table_registers.specs.Registers.{registers, maxPosition, minPosition, goalPosition}
-use Rattle.table_registers.proofs.Rows.{placeIn, placeOf}
+use Rattle.table_registers.proofs.Rows.{placeIn, markOf}
 use Rattle.table_items.specs.Items.{valueAt}
 use Rattle.table_rules.specs.Rules.{covers, goalInside, limitsKept}
 use Rattle.table_rules.proofs.Walks.{each}
@@ -21,15 +21,15 @@ returns c = rw (sym (c .before .touches-limits .ensures) ∙ not-true _ (c .if1 
 
 word-after-requires : tie.Need-word-after-requires
 unfolding registers placeIn
-word-after-requires c κs = (search needs, search needs, each (covers _ _) _ _ registers (placeOf goalPosition) (omega arith) (c .before .before .before .before .pre .2))
+word-after-requires c κs = (search needs, search needs, each (covers _ _) _ _ registers (markOf goalPosition) (omega arith) (c .before .before .before .before .pre .2))
 
 word-after-requires-2 : tie.Need-word-after-requires-2
 unfolding registers placeIn
-word-after-requires-2 c κs = (search needs, search needs, each (covers _ _) _ _ registers (placeOf minPosition) (omega arith) (c .before .before .before .before .before .pre .2))
+word-after-requires-2 c κs = (search needs, search needs, each (covers _ _) _ _ registers (markOf minPosition) (omega arith) (c .before .before .before .before .before .pre .2))
 
 word-after-requires-3 : tie.Need-word-after-requires-3
 unfolding registers placeIn
-word-after-requires-3 c κs = (search needs, search needs, each (covers _ _) _ _ registers (placeOf maxPosition) (omega arith) (c .before .before .before .before .before .before .pre .2))
+word-after-requires-3 c κs = (search needs, search needs, each (covers _ _) _ _ registers (markOf maxPosition) (omega arith) (c .before .before .before .before .before .before .pre .2))
 
 within-requires : tie.Need-within-requires
 within-requires c κs = search needs

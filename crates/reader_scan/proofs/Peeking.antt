@@ -8,14 +8,14 @@ use lib.ListN.{length, take, drop, length-drop}
 use Rattle.reading.specs.Rules.{Rules, Laws, isNothing}
 use Rattle.reading.specs.Reading.{Mode, closed}
 use Rattle.reading.specs.Calls.{first}
-use Rattle.packet_rules.specs.Answers.{begunBy, settledBy}
+use Rattle.packet_rules.specs.Answers.{frontBy, settledBy}
 use Rattle.packet_rules.specs.Starts.{beforeStart}
-use Rattle.packet_rules.specs.declared.Begun.{Begun}
-use Rattle.packet_rules.specs.declared.Begun.the-variants.{Whole}
-use Rattle.packet_rules.specs.declared.Begun.the-variants.{Nothing as Nothing·begun, Waiting as Waiting·begun}
+use Rattle.packet_rules.specs.declared.Front.{Front}
+use Rattle.packet_rules.specs.declared.Front.the-variants.{Whole}
+use Rattle.packet_rules.specs.declared.Front.the-variants.{Nothing as Nothing·begun, Waiting as Waiting·begun}
 use Rattle.packet_rules.specs.declared.Judgement.{Judgement}
 use Rattle.packet_rules.specs.declared.Judgement.the-variants.{Packet, BadChecksum, Waiting, Nothing}
-use Rattle.packet_rules.proofs.Looks.{Looked, Judged, looked, judged, begun-at, whole-fits}
+use Rattle.packet_rules.proofs.Peeks.{Peeked, Judged, peeked, judged, front-at, whole-fits}
 use Rattle.packet_rules.proofs.Starts.{before-fits}
 use Rattle.packet_protocols.specs.declared.Protocol.{Protocol}
 use Rattle.packet_protocols.specs.Protocols.{shapeOf, rulesOf, mayBeginOf, wholeOf}
@@ -32,25 +32,25 @@ judged-nothing R s (Waiting k) v p b = absurd v
 judged-nothing R s Nothing v p b = v
 
 -- a closed segment passes an offset where not all bytes of a packet are there
-pub look-past : (R : Rules) (L : Laws R) (settled : List ℕ → ℕ) (s : List ℕ) (at : ℕ) → at < length s → (b : Begun)
-    → Looked R settled (drop at s) b → ((n : ℕ) → b ≡ Whole n → ⊥) → first R closed (drop at s) ≡ first R closed (drop (at + 1) s)
-look-past R L settled s at h Nothing·begun v w = scan-nothing R L closed s at at (omega arith) refl h (v .0)
-look-past R L settled s at h (Waiting·begun k) v w = scan-past R L s at at (omega arith) h (v .0) refl
-look-past R L settled s at h (Whole n) v w = absurd (w n refl)
+pub peek-past : (R : Rules) (L : Laws R) (settled : List ℕ → ℕ) (s : List ℕ) (at : ℕ) → at < length s → (b : Front)
+    → Peeked R settled (drop at s) b → ((n : ℕ) → b ≡ Whole n → ⊥) → first R closed (drop at s) ≡ first R closed (drop (at + 1) s)
+peek-past R L settled s at h Nothing·begun v w = scan-nothing R L closed s at at (omega arith) refl h (v .0)
+peek-past R L settled s at h (Waiting·begun k) v w = scan-past R L s at at (omega arith) h (v .0) refl
+peek-past R L settled s at h (Whole n) v w = absurd (w n refl)
 
 module _ (p : Protocol) (s : List ℕ) (at : ℕ) where
   -- b is what the look says
-  module _ (b : Begun) (e : b ≡ begunBy (shapeOf p) (take (length s - at) (drop at s))) where
-    pub look-at : (b′ : Begun) → b ≡ b′ → Looked (rulesOf p) (settledBy (shapeOf p)) (drop at s) b′
-    look-at b′ i = looked (shapeOf p) (drop at s) b′ (begun-at (shapeOf p) s at b b′ e i)
+  module _ (b : Front) (e : b ≡ frontBy (shapeOf p) (take (length s - at) (drop at s))) where
+    pub peek-at : (b′ : Front) → b ≡ b′ → Peeked (rulesOf p) (settledBy (shapeOf p)) (drop at s) b′
+    peek-at b′ i = peeked (shapeOf p) (drop at s) b′ (front-at (shapeOf p) s at b b′ e i)
 
     pub fits-at : (n : ℕ) → b ≡ Whole n → at + n ≤ length s
-    fits-at n i = whole-fits (shapeOf p) s at (shapes-kept p) n (begun-at (shapeOf p) s at b (Whole n) e i)
+    fits-at n i = whole-fits (shapeOf p) s at (shapes-kept p) n (front-at (shapeOf p) s at b (Whole n) e i)
 
     pub judge-at : (n : ℕ) → b ≡ Whole n → (j j′ : Judgement) → j ≡ wholeOf p (take (at + n - at) (drop at s)) → j ≡ j′
         → Judged (rulesOf p) (drop at s) j′
     judge-at n i j j′ k l =
-        let w = begun-at (shapeOf p) s at b (Whole n) e i in
+        let w = front-at (shapeOf p) s at b (Whole n) e i in
         subst (λ (x : Judgement). Judged (rulesOf p) (drop at s) x) (sym (whole-is p (drop at s) n w) ∙ whole-at p s at n j j′ k l)
         (judged (shapeOf p) (drop at s) (shapes-kept p) n w)
 

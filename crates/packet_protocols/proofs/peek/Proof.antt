@@ -6,13 +6,13 @@ use native.Mathlib.Omega.{arith}
 use lib.ListN.{length}
 use borrow.Author.Tests.{not-true, not-false}
 use borrow.Author.Needs.{needs}
-use Rattle.packet_rules.specs.declared.Begun.the-variants.{Waiting, Whole}
-use Rattle.packet_rules.proofs.Looks.{begun-nothing, begun-early, begun-late, begun-whole}
+use Rattle.packet_rules.specs.declared.Front.the-variants.{Waiting, Whole}
+use Rattle.packet_rules.proofs.Peeks.{front-nothing, front-early, front-late, front-whole}
 use Rattle.packet_protocols.specs.declared.Protocol.{Protocol}
 use Rattle.packet_protocols.specs.Protocols.{shapeOf, frontAgreesOf, lengthIn, leastLength, greatestLength}
 use Rattle.packet_protocols.proofs.Shapes.{front-fails, front-cut, length-short, length-long, length-good, size-is, small}
-use Rattle.packet_protocols.proofs.look.Statement.{statement}
-use Rattle.packet_protocols.proofs.look.Tie as tie
+use Rattle.packet_protocols.proofs.peek.Statement.{statement}
+use Rattle.packet_protocols.proofs.peek.Tie as tie
 
 -- what is known once header and ID agree
 module _ (f : tie.After-front) where
@@ -59,7 +59,7 @@ front-agrees-requires c κs = search needs
 returns : tie.Need-returns
 returns c =
     let a = c .before .before .before .args in
-    begun-nothing (shapeOf (a .protocol)) (a .s .now)
+    front-nothing (shapeOf (a .protocol)) (a .s .now)
     (front-fails (a .s .now) (a .protocol) (sym (c .before .front-agrees .ensures) ∙ not-true _ (c .if1 .taken)))
 
 front-requires : tie.Need-front-requires
@@ -78,7 +78,7 @@ returns-2 c =
     let g = c .before .before in
     let h : length (s g) < shapeOf (p g) .front = omega (arith, front-is g, c .before .if2 .taken) in
     ap (λ (n : ℕ). Waiting (n - length (s g))) (c .shortest .ensures)
-    ∙ begun-early (shapeOf (p g)) (s g) (front-cut (s g) (p g) (agreed g) h) h
+    ∙ front-early (shapeOf (p g)) (s g) (front-cut (s g) (p g) (agreed g) h) h
 
 length-in-requires : tie.Need-length-in-requires
 length-in-requires c κs = omega (arith, front-is (c .before), c .if2 .left)
@@ -90,7 +90,7 @@ returns-3 : tie.Need-returns-3
 returns-3 c =
     let m = c .before .before in
     let g = f m in
-    begun-nothing (shapeOf (p g)) (s g)
+    front-nothing (shapeOf (p g)) (s g)
     (length-short (s g) (p g) (agreed g) (there m) (omega (arith, field m, c .if3 .taken, c .before .least-length .ensures)))
 
 greatest-length-requires : tie.Need-greatest-length-requires
@@ -100,7 +100,7 @@ returns-4 : tie.Need-returns-4
 returns-4 c =
     let m = c .before .before .before .before in
     let g = f m in
-    begun-nothing (shapeOf (p g)) (s g)
+    front-nothing (shapeOf (p g)) (s g)
     (length-long (s g) (p g) (agreed g) (there m) (omega (arith, field m, c .if4 .taken, c .before .greatest-length .ensures)))
 
 front-requires-2 : tie.Need-front-requires-2
@@ -119,17 +119,17 @@ returns-5 c =
     let k = c .before in
     let g = f (l k) in
     ap (λ (n : ℕ). Waiting (n - length (s g))) (sym (size k))
-    ∙ begun-late (shapeOf (p g)) (s g) (good k) (there (l k)) (omega (arith, size k, c .if5 .taken))
+    ∙ front-late (shapeOf (p g)) (s g) (good k) (there (l k)) (omega (arith, size k, c .if5 .taken))
 
 returns-6 : tie.Need-returns-6
 returns-6 c =
     let k = c .before in
     let g = f (l k) in
     ap Whole (sym (size k))
-    ∙ begun-whole (shapeOf (p g)) (s g) (good k) (there (l k)) (omega (arith, size k, c .if5 .left))
+    ∙ front-whole (shapeOf (p g)) (s g) (good k) (there (l k)) (omega (arith, size k, c .if5 .left))
 
-pub look-spec : {M : Type 1} → statement M
-look-spec =
+pub peek-spec : {M : Type 1} → statement M
+peek-spec =
     tie.close
     (tie.spec
     front-agrees-requires

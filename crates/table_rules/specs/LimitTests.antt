@@ -25,7 +25,7 @@ abbrev pub storedGoalInside : ℕ → ℕ → List ℕ → Bool
 storedGoalInside a n new = not (limitTouched a n) || goalInside new
 
 -- [T19]
-abbrev pub Fence : Type 0
-Fence =
+abbrev pub LimitTests : Type 0
+LimitTests =
     (a n : ℕ) (new : List ℕ)
     → limitsKept a n new ≡ (limitsOrdered a n new && (writtenGoalInside a n new && storedGoalInside a n new))

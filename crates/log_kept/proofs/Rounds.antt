@@ -1,4 +1,4 @@
--- One turn of a loop over the entries of a file, by how the next one is judged.
+-- One round of a loop over the entries of a file, by how the next one is judged.
 use mathlib.Core.Path.{_≡_, refl, sym, ap, ap₂, subst, _∙_}
 use mathlib.Core.Bool.{Bool, true, false}
 use mathlib.Core.List.{List, [], _∷_}
@@ -13,9 +13,9 @@ use Rattle.answers.specs.Refusals.{firstFailing}
 use Rattle.answers.specs.declared.Refusal.the-variants.{NoRoom as Refusal·NoRoom}
 use Rattle.lists.specs.Write.{overwritten}
 use Rattle.lists.proofs.Filling.{Filling, fill-start, fill-next, fill-done, drop-lt}
-use Rattle.log_layout.specs.Log.{Entry, numbersOf, segmentsPlace}
+use Rattle.log_layout.specs.Log.{Entry, numbersOf, segmentsOffset}
 use Rattle.log_layout.specs.Layout.{entries, entryOf}
-use Rattle.log_layout.proofs.Turns.{entries-turn}
+use Rattle.log_layout.proofs.Rounds.{entries-turn}
 use Rattle.log_layout.proofs.Laid.{length-numbersOf}
 use Rattle.log_layout.proofs.Sound.{entries-count}
 use Rattle.log_kept.specs.Kept.{entryCount, fault, kept, Dropped, dropped, keptOf, droppedOf, droppedIn}
@@ -50,10 +50,10 @@ told-dropped none e r q = let k : _≡_ {A = ℕ} 0 1 = cc in absurd (omega arit
 told-dropped (some t) e r q = let a : t ≡ r = cc in rw a
 
 module _ (file : List ℕ) (n limit : ℕ) where
-  pub kept-start : keptOf file n ≡ kept (length file) (segmentsPlace n) (left file n 0)
+  pub kept-start : keptOf file n ≡ kept (length file) (segmentsOffset n) (left file n 0)
   kept-start = let z : n - 0 ≡ n = omega arith in rw z refl
 
-  pub dropped-start : droppedOf file n ≡ dropped (length file) (segmentsPlace n) 0 (left file n 0)
+  pub dropped-start : droppedOf file n ≡ dropped (length file) (segmentsOffset n) 0 (left file n 0)
   dropped-start = let z : n - 0 ≡ n = omega arith in rw z refl
 
   module _ (i : ℕ) (h : n ≤ i) where
@@ -111,10 +111,10 @@ module _ (file : List ℕ) (n limit : ℕ) where
 
 -- of n entries, how many are kept and how many dropped, and the bytes of the kept ones
 pub counts-of : (file : List ℕ) (n : ℕ) → length (keptOf file n) + length (droppedOf file n) ≡ n
-counts-of file n = counts-add (length file) (segmentsPlace n) 0 (entries n (drop 16 file)) ∙ entries-count n (drop 16 file)
+counts-of file n = counts-add (length file) (segmentsOffset n) 0 (entries n (drop 16 file)) ∙ entries-count n (drop 16 file)
 
-pub bytes-of : (file : List ℕ) (n : ℕ) → bytesBy file (keptOf file n) ≤ length file - segmentsPlace n
-bytes-of file n = kept-fits file (segmentsPlace n) (entries n (drop 16 file))
+pub bytes-of : (file : List ℕ) (n : ℕ) → bytesBy file (keptOf file n) ≤ length file - segmentsOffset n
+bytes-of file n = kept-fits file (segmentsOffset n) (entries n (drop 16 file))
 
 -- ---- the list of the dropped ones
 
@@ -125,7 +125,7 @@ pub record Listing (file : List ℕ) (n : ℕ) (old report : List ℕ) (limit by
   pub count-is : count + length (droppedLeft file n i limit) ≡ length (droppedOf file n)
   pub listed : Filling (numbersOf (droppedOf file n)) old report (2 * count) (numbersOf (droppedLeft file n i limit))
 
-pub listing-start : (file : List ℕ) (n : ℕ) (old : List ℕ) → Listing file n old old (segmentsPlace n) 0 0 0
+pub listing-start : (file : List ℕ) (n : ℕ) (old : List ℕ) → Listing file n old old (segmentsOffset n) 0 0 0
 listing-start file n old =
     record {
       within = omega arith;

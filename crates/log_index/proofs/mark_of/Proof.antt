@@ -1,8 +1,8 @@
 use mathlib.Core.Path.{sym}
 use borrow.Author.Tests.{lt-ltb, le-ltb}
 use borrow.Author.Needs.{needs}
-use Rattle.log_index.proofs.place_of.Statement.{statement}
-use Rattle.log_index.proofs.place_of.Tie as tie
+use Rattle.log_index.proofs.mark_of.Statement.{statement}
+use Rattle.log_index.proofs.mark_of.Tie as tie
 
 returns : tie.Need-returns
 returns c = rw (lt-ltb _ 253 (c .if1 .taken))
@@ -10,5 +10,5 @@ returns c = rw (lt-ltb _ 253 (c .if1 .taken))
 returns-2 : tie.Need-returns-2
 returns-2 c = rw (le-ltb _ 253 (c .if1 .left))
 
-pub place-of-spec : {M : Type 1} → statement M
-place-of-spec = tie.close (tie.spec returns returns-2)
+pub mark-of-spec : {M : Type 1} → statement M
+mark-of-spec = tie.close (tie.spec returns returns-2)

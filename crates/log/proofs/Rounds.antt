@@ -1,4 +1,4 @@
--- One turn of the loops over a directory and an index, and what stands at a place of them.
+-- One round of the loops over a directory and an index, and what stands at a place of them.
 use mathlib.Core.Path.{_≡_, refl, sym, ap, ap₂, _∙_}
 use mathlib.Core.Bool.{Bool, true, false, _&&_}
 use mathlib.Core.List.{List, [], _∷_}
@@ -15,7 +15,7 @@ use Rattle.reading.specs.Reading.{reading}
 use Rattle.packet.specs.Verdict.{protocol2}
 use Rattle.log_layout.specs.Log.{Entry}
 use Rattle.log_layout.specs.Layout.{u32At, numbers, entries, segmentBy, segmentsBy, noneAbove}
-use Rattle.log_layout.proofs.Turns.{numbers-turn, entries-turn}
+use Rattle.log_layout.proofs.Rounds.{numbers-turn, entries-turn}
 use Rattle.log_index.specs.Marks.{marked}
 use Rattle.log_index.proofs.Marks.{markedAll}
 use Rattle.log_index.specs.declared.Offset.{Offset}

@@ -1,4 +1,4 @@
--- One turn of the loops that compare the indexes and the headers.
+-- One round of the loops that compare the indexes and the headers.
 use mathlib.Core.Path.{_≡_, refl, sym, ap, _∙_}
 use mathlib.Core.Bool.{Bool, true, false, not, cond, _&&_}
 use mathlib.Core.List.{List, [], _∷_}
@@ -10,7 +10,7 @@ use lib.ListN.{length, take, drop, getD, drop-of-length-le}
 use lib.Seq.{drop-cons}
 use borrow.Author.Tests.{eq-eqb, ne-eqb}
 use Rattle.log_layout.specs.Layout.{u32At, numbers}
-use Rattle.log_layout.proofs.Turns.{numbers-turn}
+use Rattle.log_layout.proofs.Rounds.{numbers-turn}
 use Rattle.log.specs.Soundness.{sameNumbers}
 use Rattle.log_salvage.specs.Report.{differing}
 

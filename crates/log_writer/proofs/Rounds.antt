@@ -1,4 +1,4 @@
--- One turn of the writer's loops.
+-- One round of the writer's loops.
 use mathlib.Core.Path.{_≡_, refl, sym, ap, ap₂, subst, _∙_}
 use mathlib.Core.Bool.{Bool, true, false}
 use mathlib.Core.List.{List, [], _∷_, _++_}

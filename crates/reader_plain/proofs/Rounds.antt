@@ -1,4 +1,4 @@
--- One turn of the walk: an event stands at the offset, or it is passed by one byte.
+-- One round of the walk: an event stands at the offset, or it is passed by one byte.
 use mathlib.Core.Path.{_≡_, refl, sym, ap, subst, _∙_}
 use mathlib.Core.List.{List, [], _∷_}
 use Prim.Native.Nat.{ℕ, _+_, _≤_, _<_}
@@ -16,7 +16,7 @@ use Rattle.packet.proofs.Laws.{laws}
 use Rattle.reader_plain.specs.declared.Next.the-variants.{Packet, BadChecksum, Nothing}
 use Rattle.reader_plain.specs.Next.{firstTold, nextEvent}
 
--- what a turn at offset p comes to, by the verdict as the code has it
+-- what a round at offset p comes to, by the verdict as the code has it
 abbrev pub Turn : List ℕ → ℕ → Judgement → Type 0
 Turn s p (Judgement·Packet n) = (p + 4 < length s) × (p + n ≤ length s) × (nextEvent s p ≡ Packet p n (p + n) (getD s (p + 4) 0))
 Turn s p (Judgement·BadChecksum id) = nextEvent s p ≡ BadChecksum p (p + 1) id

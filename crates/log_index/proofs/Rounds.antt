@@ -1,4 +1,4 @@
--- One turn of the loops over the events of a segment, by the plain reader's answer.
+-- One round of the loops over the events of a segment, by the plain reader's answer.
 use mathlib.Core.Path.{_≡_, refl, sym, ap, subst, _∙_}
 use mathlib.Core.Bool.{true, false, cond}
 use mathlib.Core.List.{List, [], _∷_}
@@ -17,7 +17,7 @@ use Rattle.reader_plain.specs.Next.{nextEvent}
 use Rattle.reader_plain.specs.Plain.{Within}
 use Rattle.reader_plain.proofs.Plain.{within}
 use Rattle.reader_plain.proofs.Left.{left, Left, left-is}
-use Rattle.log_index.specs.Last.{later, lastPacket, placeOf}
+use Rattle.log_index.specs.Last.{later, lastPacket, markOf}
 use Rattle.log_index.specs.declared.Offset.{Offset}
 use Rattle.log_index.specs.declared.Offset.the-variants.{At, Nothing as Offset·Nothing}
 use Rattle.log_index.specs.Marks.{marked, offsetOf}
@@ -52,10 +52,10 @@ module _ (s : List ℕ) (from p n q id : ℕ) (e : nextEvent s from ≡ Packet p
   packet-less = let w = subst (Within s from) e (within s from) in omega (arith, w .0, w .1, w .2)
 
   pub mark-packet : (number : ℕ) (index : List ℕ)
-      → marked number index (left s from) ≡ marked number (set index (placeOf id) number) (left s q)
+      → marked number index (left s from) ≡ marked number (set index (markOf id) number) (left s q)
   unfolding marked
   mark-packet number index =
-      ap (marked number index) (told .2) ∙ ap (λ (x : ℕ). marked number (set index (placeOf x) number) (left s q)) (told .1)
+      ap (marked number index) (told .2) ∙ ap (λ (x : ℕ). marked number (set index (markOf x) number) (left s q)) (told .1)
 
   at-packet : (wanted : ℕ) (last : Offset) → orElse (lastPacket wanted (left s from)) last
       ≡ orElse (lastPacket wanted (left s q)) (orElse (cond (eqb id wanted) (some p) none) last)

@@ -9,7 +9,7 @@ use Rattle.table_registers.specs.Registers.{minPosition, maxPosition, goalPosit
 use Rattle.table_items.specs.Items.{valueOf}
 use Rattle.table_items.proofs.Signed.{le-trans}
 use Rattle.table_rules.specs.Rules.{touches, goalInside, limitsKept}
-use Rattle.table_rules.specs.Fence.{limitTouched, Fence}
+use Rattle.table_rules.specs.LimitTests.{limitTouched, LimitTests}
 
 -- over what the tests say, where limits around the goal are in order
 together : (limit goal inside ordered : Bool) → (inside ≡ true → ordered ≡ true)
@@ -27,7 +27,7 @@ around new e =
     let high = leZ (valueOf goalPosition new) (valueOf maxPosition new) in
     le-trans (valueOf minPosition new) (valueOf goalPosition new) (valueOf maxPosition new) (and-left low high e) (and-right low high e)
 
-pub fence : Fence
+pub fence : LimitTests
 unfolding limitsKept
 fence a n new =
     together (limitTouched a n) (touches a n goalPosition) (goalInside new) (leZ (valueOf minPosition new) (valueOf maxPosition new)) (around new)

@@ -1,4 +1,4 @@
--- One turn of the loops over a directory and over an index.
+-- One round of the loops over a directory and over an index.
 use mathlib.Core.Path.{_≡_, refl, sym, ap, ap₂, _∙_}
 use mathlib.Core.Bool.{Bool, true, false, _&&_}
 use mathlib.Core.List.{List, [], _∷_}

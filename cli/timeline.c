@@ -18,7 +18,7 @@ const char HELP_TIMELINE[] =
     "statuses as bars, bad checksums, noise and missing statuses marked, and the list of 'dxl show' beside them. The page needs a browser\n"
     "and no network. The wheel zooms, dragging moves, a double click shows all; what an event means stands beside the pointer.\n"
     "\n"
-    "FILE - is standard input. The options are those of 'dxl show'. With times, --baud makes a bar as long as its bytes took. Pages of\n"
+    "FILE - is standard input. The options mean what they do in 'dxl show'. With times, --baud makes a bar as long as its bytes took. Pages of\n"
     "ten thousand events are quick; of a long capture, cut out what you want to see.\n";
 
 /* The lines of timeline.html, made by the Makefile. */

@@ -192,6 +192,7 @@ def gate(temporary):
 
 def main():
     with tempfile.TemporaryDirectory(prefix="mednukals-", ignore_cleanup_errors=True) as temporary:
+        os.chmod(temporary, 0o755)  # rt runs programs as nobody, who has to reach what they read there
         return gate(temporary)
 
 

@@ -1,10 +1,12 @@
 // What a function that may refuse answers, and the number of each refusal.
+#![tactic(auto)]
+
 ghost use Rattle.std.specs.Prelude.{◌≡◌};
 ghost use Rattle.answers.specs.Refusals.{number_of};
 ghost use Rattle.answers.specs.Answers.{exported as answers_exported};
 
 // The refusals, in the order of RULES N; which is tested first in a call stands in its definition.
-#[derive(Drop)]
+#[derive(Clone, Copy)]
 pub enum Refusal {
     BadId,
     TooLong,
@@ -55,7 +57,7 @@ pub const NOT_GOALS: u8 = 41;
 pub const BAD_GOAL: u8 = 42;
 
 // A count, 0 where there is nothing to count, or a refusal.
-#[derive(Drop)]
+#[derive(Clone, Copy)]
 pub enum Answer {
     Count(usize),
     Refused(Refusal),

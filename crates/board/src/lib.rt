@@ -1,4 +1,6 @@
 // From the line to the table: a call takes bytes up to the next event and carries it out at once.
+#![tactic(auto)]
+
 ghost use Rattle.std.specs.Prelude.{◌≡◌, cond, ◌+◌, ◌≤◌, eqb, length, take, get_or};
 ghost use Rattle.lists.specs.Write.{placed};
 ghost use Rattle.stuffing.specs.Stuffing.{unstuff};
@@ -25,7 +27,7 @@ use table_registers::{REG_ID, TABLE_BYTES};
 // What a call returns: how many bytes it took; the event as of `dxl_feed`, or the number of a refusal as its kind; the instruction, if
 // it is for this device, and its error number; the reply that waits; and the registered write from now on.
 #[repr(C)]
-#[derive(Drop)]
+#[derive(Clone, Copy)]
 pub struct BoardStep {
     pub taken: usize,
     pub count: usize,
@@ -169,7 +171,7 @@ fn instruction_in(packet: &[u8], end: usize) -> u8
 }
 
 // What came of an event: the instruction and its error number, the reply that waits, the registered write from now on.
-#[derive(Drop)]
+#[derive(Clone, Copy)]
 struct Came {
     instruction: u8,
     error: u8,

@@ -1,4 +1,6 @@
 // Moving bytes within and between buffers, as far as there is room; numbers of four bytes; the smaller and the larger of two.
+#![tactic(auto)]
+
 ghost use Rattle.std.specs.Prelude.{◌≡◌, [], ◌∷◌, ◌++◌, ◌⊎◌, ◌-◌, ◌≤◌, min, length, take, drop, replicate};
 ghost use Rattle.lists.specs.Numbers.{number_at, bytes_of};
 ghost use Rattle.lists.specs.Write.{overwritten, placed, padded};

@@ -1,5 +1,7 @@
 // The functions that C calls. Each passes its arguments on to a crate below and makes that crate's promise in numbers and byte
 // slices; include/mednukals.h declares and documents them. A `&[u8]` is a pointer and a length in C.
+#![tactic(auto)]
+
 ghost use Rattle.std.specs.Prelude.{◌≡◌, ◌∷◌};
 ghost use Rattle.answers.specs.Answers.{answered, exported};
 ghost use Rattle.crc.specs.Crc.{crc_from};

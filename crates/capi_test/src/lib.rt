@@ -1,4 +1,6 @@
 // Exports that only the comparison tests and the benchmark call: parts that firmware does not need by themselves.
+#![tactic(auto)]
+
 ghost use Rattle.std.specs.Prelude.{◌≡◌, ◌∷◌, min, length, take, drop, replicate};
 ghost use Rattle.lists.specs.Write.{overwritten};
 ghost use Rattle.crc.specs.Crc.{crc_from};
@@ -27,7 +29,7 @@ use stuffing::Checked;
 
 // A verdict as numbers. kind 0: nothing; 1: a packet of `count` bytes; 2: a bad checksum of `id`; 3: waiting for `count` bytes.
 #[repr(C)]
-#[derive(Drop)]
+#[derive(Clone, Copy)]
 pub struct VerdictNumbers {
     pub kind: u8,
     pub id: u8,

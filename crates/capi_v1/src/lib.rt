@@ -1,5 +1,7 @@
 // The functions that C calls for the packets of Protocol 1.0 and Mercury, in an object of their own: firmware that calls none of
 // them has none of their code. Otherwise as those of `capi`.
+#![tactic(auto)]
+
 ghost use Rattle.std.specs.Prelude.{◌≡◌, ◌∷◌};
 ghost use Rattle.reading.specs.Calls.{feed as call_feed, gap as call_gap};
 ghost use Rattle.packet_v1.specs.Packet.{up_to, last_of_p1, last_of_mercury};

@@ -1,13 +1,15 @@
 // Prints the checksum of standard input and the count of its bytes, as `CRC BYTES`: four hexadecimal digits and a decimal
 // number. The input may be of any length: it is read in parts, each going on from the checksum of those before it. If a read or a
 // write fails, it says so on standard error and does not print that line.
+#![tactic(auto)]
+
 ghost use Rattle.std.specs.Prelude.{◌≡◌, List, ◌++◌, ℕ};
 ghost use Rattle.crc.specs.Crc.{crc_from};
 
 use libc::{STDERR_FILENO, STDOUT_FILENO};
 
 // The checksum and the count so far.
-#[derive(Drop)]
+#[derive(Clone, Copy)]
 struct Total {
     crc: u16,
     bytes: u64,
@@ -38,7 +40,7 @@ fn with_part(total: Total, part: &[u8]) -> Total
 }
 
 // The total of all parts, and whether a read failed.
-#[derive(Drop)]
+#[derive(Clone, Copy)]
 struct Outcome {
     total: Total,
     failed: bool,

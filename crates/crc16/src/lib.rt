@@ -1,4 +1,6 @@
 // The checksum of Protocol 2.0: polynomial 0x8005, highest bit first, no final inversion. The start value is the caller's.
+#![tactic(auto)]
+
 mod table;
 
 ghost use Rattle.std.specs.Prelude.{◌≡◌};

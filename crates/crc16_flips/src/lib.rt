@@ -1,4 +1,6 @@
 // The checksum after bits were flipped, from the checksum before, without a pass over the bytes before or behind the flips.
+#![tactic(auto)]
+
 ghost use Rattle.std.specs.Prelude.{◌≡◌, replicate};
 ghost use Rattle.crc.specs.Crc.{shift, crc_from};
 ghost use Rattle.crc.specs.Flips.{flipped_checksum};

@@ -1,5 +1,7 @@
 // The checksum of Protocol 2.0 without a table: the same function as that of `crc16`, with the same promise, eight bytes a round.
 // The register is kept as a number and a parity; what they stand for is in specs/Fold.antt, and x is that of the polynomial.
+#![tactic(auto)]
+
 ghost use Rattle.std.specs.Prelude.{◌≡◌, [], ◌∷◌, ◌^◌, ◌<◌, drop};
 ghost use Rattle.crc.specs.Crc.{shifts, crc_from};
 ghost use Rattle.crc.specs.Laws.{ChecksumLaws};

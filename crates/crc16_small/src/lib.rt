@@ -1,4 +1,6 @@
 // The checksum of Protocol 2.0 for boards with little flash: function and promise of `crc16`, with a table of sixteen numbers.
+#![tactic(auto)]
+
 mod table;
 
 ghost use Rattle.std.specs.Prelude.{◌≡◌};

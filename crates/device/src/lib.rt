@@ -1,4 +1,6 @@
 // The device on the bus: what it hears is carried out, and answered in the caller's buffer.
+#![tactic(auto)]
+
 ghost use Rattle.std.specs.Prelude.{◌≡◌, ◌≤◌, length};
 ghost use Rattle.table_registers.specs.Registers.{table_size};
 ghost use Rattle.device_status.specs.Status.{silence as status_silence};
@@ -40,7 +42,7 @@ fn reply_to(table: &[u8], own: u8, level: u8, reacted: Reacted) -> Reply
 }
 
 // The count of bytes of the status, 0 for silence, and the reply slot; or a refusal.
-#[derive(Drop)]
+#[derive(Clone, Copy)]
 pub enum Replied {
     Sent(usize, usize),
     Refused(Refusal),
@@ -48,7 +50,7 @@ pub enum Replied {
 
 // What the first call leaves: a fault of the caller, or `Sent(0, 0)` for none; the reply; the registered write; the error number, 0 for
 // none, also where it is not answered.
-#[derive(Drop)]
+#[derive(Clone, Copy)]
 pub struct CarriedOut {
     pub refused: Replied,
     pub reply: Reply,
@@ -121,7 +123,7 @@ pub fn carry_out_tested(
     dispatch(table, registered, heard, id, body)
 }
 
-#[derive(Drop)]
+#[derive(Clone, Copy)]
 pub struct Response {
     pub replied: Replied,
     pub registered: RegisteredWrite,

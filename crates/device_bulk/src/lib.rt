@@ -1,5 +1,7 @@
 // Bulk Read and Bulk Write. A Bulk list begins with its first entry, and each entry has an address and a length of its own. A table
 // of another size is refused, as by Sync Read and Sync Write.
+#![tactic(auto)]
+
 ghost use Rattle.std.specs.Prelude.{◌≡◌};
 ghost use Rattle.device_replies.specs.Results.{reacted_of, sized_reaction};
 ghost use Rattle.device_bulk.specs.Bulk.{heard_bulk_read, heard_bulk_write};

@@ -1,4 +1,5 @@
 // The numbers in the bodies of packets: instructions, and the error numbers of a status.
+#![tactic(auto)]
 
 // The instructions: the first byte of a body.
 pub const INST_PING: u8 = 0x01;

@@ -1,5 +1,7 @@
 // What the device makes of what it hears: which instruction is carried out, and how that is answered. A table of another size is
 // refused: nothing is done, NOT_A_TABLE stands in the place of the error number, and nothing is answered.
+#![tactic(auto)]
+
 ghost use Rattle.std.specs.Prelude.{◌≡◌, length};
 ghost use Rattle.table_registers.specs.Registers.{table_size};
 ghost use Rattle.device_replies.specs.Results.{reacted_of, sized_reaction};
@@ -17,7 +19,7 @@ use device_replies::{LEVEL_ALL, Reacted};
 use table_registers::TABLE_BYTES;
 
 // What the device hears: a packet with its unstuffed body, or one whose checksum is wrong, which has no body.
-#[derive(Drop)]
+#[derive(Clone, Copy)]
 pub enum Heard {
     Packet,
     BadChecksum,

@@ -1,5 +1,7 @@
 // What each instruction does to the control table and the registered write. A table of another size is refused: nothing is done,
 // and NOT_A_TABLE stands in the place of the error number.
+#![tactic(auto)]
+
 ghost use Rattle.std.specs.Prelude.{◌≡◌, cond, [], ◌≤◌, leb, length};
 ghost use Rattle.table_registers.specs.Registers.{table_size};
 ghost use Rattle.table_rules.specs.Outcomes.{refusal_of};
@@ -35,7 +37,7 @@ pub const MAX_REGISTERED: u8 = MAX_DATA as u8;
 // A write that waits for Action (the paper's held turn), with the limits of the position at which it was registered: count 0 means
 // none.
 #[repr(C)]
-#[derive(Drop)]
+#[derive(Clone, Copy)]
 pub struct RegisteredWrite {
     pub address: u16,
     pub count: u8,
@@ -45,7 +47,7 @@ pub struct RegisteredWrite {
 }
 
 // What an instruction did, but for the table: the error number of the status (0 for none), its data, the registered write.
-#[derive(Drop)]
+#[derive(Clone, Copy)]
 pub struct Done {
     pub error: u8,
     pub count: usize,
@@ -54,7 +56,7 @@ pub struct Done {
 }
 
 // The same of a read.
-#[derive(Drop)]
+#[derive(Clone, Copy)]
 pub struct Data {
     pub error: u8,
     pub count: usize,

@@ -1,4 +1,6 @@
 // One exchange on the bus: from a packet as received to the device's answer.
+#![tactic(auto)]
+
 ghost use Rattle.std.specs.Prelude.{◌≡◌, true};
 ghost use Rattle.stuffing.specs.Stuffing.{well_stuffed};
 ghost use Rattle.stuffing.specs.Answers.{removal_refusal};
@@ -50,7 +52,7 @@ fn first_refusal(packet: &[u8], body: &[u8], refused: Replied) -> Replied
 }
 
 // What the first call leaves: a refusal, or `Sent(0, 0)` for none; the reply; the registered write.
-#[derive(Drop)]
+#[derive(Clone, Copy)]
 pub struct CarriedPacket {
     pub refused: Replied,
     pub reply: Reply,

@@ -1,4 +1,6 @@
 // The parameters of an instruction: words, and the own entry in a list.
+#![tactic(auto)]
+
 ghost use Rattle.std.specs.Prelude.{◌≡◌, cond, ◌&&◌, ◌+◌, leb, eqb, length};
 ghost use Rattle.device_parameters.specs.Entries.{search as entries_search};
 ghost use Rattle.device_parameters.specs.Parameters.{word_at, entry_of, sync_search};
@@ -6,14 +8,14 @@ ghost use Rattle.device_parameters.specs.Parameters.{word_at, entry_of, sync_sea
 use packet_front::MAX_ID;
 
 // The own entry of a list: its index among the entries, and its offset in the parameters.
-#[derive(Drop)]
+#[derive(Clone, Copy)]
 pub enum OwnEntry {
     At(usize, usize),
     Nothing,
 }
 
 // What an entry is: an ID and so many bytes; ID, address and length; or the same and as many bytes as the length says.
-#[derive(Drop)]
+#[derive(Clone, Copy)]
 pub enum EntryKind {
     Plain(u16),
     BulkRead,

@@ -1,5 +1,7 @@
 // How what was done is answered, for any instruction: not at all, to the own ID only, or from a status return level on and in a
 // reply slot.
+#![tactic(auto)]
+
 ghost use Rattle.std.specs.Prelude.{◌≡◌, []};
 ghost use Rattle.device_instructions.specs.Results.{done_with};
 ghost use Rattle.device_replies.specs.Replies.{silent, own_only};
@@ -15,7 +17,7 @@ pub const LEVEL_READ: u8 = 1;
 pub const LEVEL_ALL: u8 = 2;
 
 // What was done, and whether it is answered: from which status return level on, and in which reply slot.
-#[derive(Drop)]
+#[derive(Clone, Copy)]
 pub struct Reacted {
     pub done: Done,
     pub speaks: bool,

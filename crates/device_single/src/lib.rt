@@ -1,5 +1,7 @@
 // What each instruction with parameters of its own does, and how it is answered. A table of another size is refused: nothing is done,
 // NOT_A_TABLE stands in the place of the error number, and nothing is answered. Then a wrong count of parameters comes first.
+#![tactic(auto)]
+
 ghost use Rattle.std.specs.Prelude.{◌≡◌, ◌&&◌, eqb};
 ghost use Rattle.device_replies.specs.Results.{reacted_of, sized_reaction};
 ghost use Rattle.device_single.specs.Single.{heard_ping, heard_read, heard_write, heard_reg_write, heard_action, heard_reboot, heard_factory_reset};

@@ -1,4 +1,6 @@
 // The reply, and its status packet.
+#![tactic(auto)]
+
 ghost use Rattle.std.specs.Prelude.{◌≡◌, ◌≤◌};
 ghost use Rattle.packet_encoder.specs.Encoding.{encode_answer, encode_out};
 ghost use Rattle.device_status.specs.Status.{silence as status_silence};
@@ -22,7 +24,7 @@ pub const MAX_REPLY_DATA: u8 = MAX_DATA as u8;
 // A status that waits for its reply slot (the paper's turn number): ID, error byte with its alert bit, data; or silence, where
 // `speaks` and all else is 0. Any other mark speaks.
 #[repr(C)]
-#[derive(Drop)]
+#[derive(Clone, Copy)]
 pub struct Reply {
     pub speaks: u8,
     pub id: u8,

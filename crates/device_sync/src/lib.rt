@@ -1,5 +1,7 @@
 // Sync Read and Sync Write, which have an entry for each device, and what is done by the own entry of any list. A table of another
 // size is refused: nothing is done, NOT_A_TABLE stands in the place of the error number, and nothing is answered.
+#![tactic(auto)]
+
 ghost use Rattle.std.specs.Prelude.{◌≡◌};
 ghost use Rattle.device_replies.specs.Results.{reacted_of, sized_reaction, sized_effect};
 ghost use Rattle.device_sync.specs.Sync.{sync_read_by, sync_write_by, heard_sync_read, heard_sync_write};

@@ -1,4 +1,6 @@
 // Standard input, where a failed read is told from the end of the input.
+#![tactic(auto)]
+
 ghost use Rattle.io.specs.Counts.{IsPrefixLen};
 
 use libc::STDIN_FILENO;

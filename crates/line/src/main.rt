@@ -1,6 +1,8 @@
 // Reads standard input, up to 65,536 bytes of it, as one segment and prints its events by the plain reader: `packet ID INSTRUCTION
 // COUNT`, with the count of unstuffed parameters, or `crc ID`, a line for each event, and last `end BYTES`, the bytes read.
 // If a read or a write fails, it says so on standard error and does not print `end BYTES`.
+#![tactic(auto)]
+
 use answers::Answer;
 use libc::{STDERR_FILENO, STDOUT_FILENO};
 use reader_plain::Next;

@@ -1,4 +1,6 @@
 // A line log: whether it is sound, and where the last packet for an ID stands.
+#![tactic(auto)]
+
 ghost use Rattle.std.specs.Prelude.{◌≡◌};
 ghost use Rattle.answers.specs.Answers.{answered};
 ghost use Rattle.log_index.specs.Last.{nowhere, or_in, last_in, index};
@@ -10,7 +12,7 @@ use answers::{Answer, Refusal};
 use log_index::{INDEX_COUNT, Offset};
 use log_layout::{DIRECTORY, LOG_ENTRY};
 
-#[derive(Drop)]
+#[derive(Clone, Copy)]
 pub enum Found {
     // Number of the segment, from 0, and offset in it.
     At(usize, usize),

@@ -1,4 +1,6 @@
 // The packets of a segment by their IDs: marks in an index of all IDs, and the last packet for one ID.
+#![tactic(auto)]
+
 ghost use Rattle.std.specs.Prelude.{◌≡◌};
 ghost use Rattle.reading.specs.Reading.{reading};
 ghost use Rattle.packet.specs.Verdict.{protocol2};
@@ -13,7 +15,7 @@ use reader_plain::Next;
 pub const INDEX_COUNT: usize = 254;
 
 // Where a packet stands in its segment, if there is one.
-#[derive(Drop)]
+#[derive(Clone, Copy)]
 pub enum Offset {
     At(usize),
     Nothing,

@@ -1,4 +1,6 @@
 // The entries of a cut log's directory: which of them are kept, and the list of the others in the caller's report.
+#![tactic(auto)]
+
 ghost use Rattle.std.specs.Prelude.{◌≡◌, ◌*◌, ◌≤◌, length};
 ghost use Rattle.lists.specs.Write.{overwritten};
 ghost use Rattle.log_layout.specs.Log.{numbers_of};
@@ -13,7 +15,7 @@ pub const BAD_START: u32 = 1;
 
 pub const BAD_END: u32 = 2;
 
-#[derive(Drop)]
+#[derive(Clone, Copy)]
 pub enum KeptOrDropped {
     // Start and length.
     Kept(usize, usize),
@@ -22,14 +24,14 @@ pub enum KeptOrDropped {
 }
 
 // How many entries are kept, the bytes of their segments, and how many are dropped.
-#[derive(Drop)]
+#[derive(Clone, Copy)]
 pub struct Counts {
     pub kept: usize,
     pub bytes: usize,
     pub dropped: usize,
 }
 
-#[derive(Drop)]
+#[derive(Clone, Copy)]
 pub enum Sorted {
     Listed(Counts),
     // The report has fewer rows than there are entries.

@@ -1,4 +1,6 @@
 // The layout of a line log: its numbers, its segments, and the test of all that can be told without reading a segment.
+#![tactic(auto)]
+
 ghost use Rattle.std.specs.Prelude.{◌≡◌, length, take, drop, get_or};
 ghost use Rattle.log_index.specs.Last.{index_size};
 ghost use Rattle.log_layout.specs.Log.{directory_offset, index_offset, segments_offset};

@@ -1,4 +1,6 @@
 // The parts of a log that are numbers, written into a buffer: header, an entry of the directory, index.
+#![tactic(auto)]
+
 ghost use Rattle.std.specs.Prelude.{◌≡◌, [], ◌∷◌, ◌+◌, ◌*◌, ◌≤◌, leb, length};
 ghost use Rattle.lists.specs.Numbers.{bytes_of};
 ghost use Rattle.lists.specs.Write.{placed};

@@ -1,4 +1,6 @@
 // Salvage of a cut log: what is sound in it is written as a log, and what was altered is reported.
+#![tactic(auto)]
+
 ghost use Rattle.std.specs.Prelude.{◌≡◌, not, [], ◌+◌, ◌≤◌, length, take, drop};
 ghost use Rattle.lists.specs.Write.{overwritten, placed};
 ghost use Rattle.reading.specs.Promise.{joined};
@@ -18,7 +20,7 @@ use log_layout::{DIRECTORY, LOG_ENTRY, LOG_FRONT, LONGEST_FILE};
 
 // The bytes written, and the report in numbers: dropped entries, index numbers that have changed, bytes behind the old index that
 // are in no kept segment, and whether the header has changed.
-#[derive(Drop)]
+#[derive(Clone, Copy)]
 pub struct Figures {
     pub count: usize,
     pub dropped: usize,
@@ -27,7 +29,7 @@ pub struct Figures {
     pub header: bool,
 }
 
-#[derive(Drop)]
+#[derive(Clone, Copy)]
 pub enum Salvaged {
     Written(Figures),
     Refused(Refusal),

@@ -1,4 +1,6 @@
 // Writing a log: header, directory, index, and the segments as they are.
+#![tactic(auto)]
+
 ghost use Rattle.std.specs.Prelude.{◌≡◌, [], ◌+◌, ◌*◌, ◌≤◌, ◌<◌, eqb, length};
 ghost use Rattle.lists.specs.Write.{overwritten, placed};
 ghost use Rattle.log_index.specs.Last.{index};

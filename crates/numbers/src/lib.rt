@@ -1,5 +1,7 @@
 // Results as C gets them: each result of a crate below becomes a number or a record of numbers. A function has the name of what
 // it converts.
+#![tactic(auto)]
+
 ghost use Rattle.std.specs.Prelude.{◌≡◌, cond};
 ghost use Rattle.log_salvage.specs.declared.Salvaged.TheVariants.{Written as Salvaged-as-Written};
 ghost use Rattle.numbers.specs.Exported.{step_numbers, next_numbers, device_numbers, refusal_number, carried_numbers, found_numbers, salvaged_numbers, tested_number};
@@ -17,7 +19,7 @@ use reader_plain::Next;
 // What a feeding or gap call returns. kind 0: no event, from a gap call: nothing is left; 1: a packet of `count` bytes; 2: a bad
 // checksum; else the number of a refusal. `id` is that of the packet or of the bad checksum.
 #[repr(C)]
-#[derive(Drop)]
+#[derive(Clone, Copy)]
 pub struct StepNumbers {
     pub taken: usize,
     pub count: usize,
@@ -28,7 +30,7 @@ pub struct StepNumbers {
 // What the plain reader returns: where the event begins, of a packet its byte count, where reading goes on, the kind as above, and
 // the ID. All of it is 0 where there is no event.
 #[repr(C)]
-#[derive(Drop)]
+#[derive(Clone, Copy)]
 pub struct EventNumbers {
     pub offset: usize,
     pub count: usize,
@@ -40,7 +42,7 @@ pub struct EventNumbers {
 // What a call of the device returns: the status's byte count, 0 for silence, or minus the number of a refusal; the reply slot; and
 // the registered write from now on.
 #[repr(C)]
-#[derive(Drop)]
+#[derive(Clone, Copy)]
 pub struct DeviceNumbers {
     pub count: i64,
     pub slot: usize,
@@ -50,7 +52,7 @@ pub struct DeviceNumbers {
 // What the first of two calls of the device returns: 0, or minus the number of a refusal; the reply that waits; and the registered
 // write from now on.
 #[repr(C)]
-#[derive(Drop)]
+#[derive(Clone, Copy)]
 pub struct CarriedNumbers {
     pub refusal: i64,
     pub reply: Reply,
@@ -60,7 +62,7 @@ pub struct CarriedNumbers {
 // What the question to a log returns: 1 for a packet, 0 for none, or minus the number of a refusal; the packet's segment and its
 // offset there, 0 beside any other answer.
 #[repr(C)]
-#[derive(Drop)]
+#[derive(Clone, Copy)]
 pub struct FoundNumbers {
     pub found: i64,
     pub segment: usize,
@@ -71,7 +73,7 @@ pub struct FoundNumbers {
 // dropped, how many index numbers have changed, the bytes behind the old index that are in no kept segment, and whether the header
 // has changed. These are 0 beside a refusal.
 #[repr(C)]
-#[derive(Drop)]
+#[derive(Clone, Copy)]
 pub struct SalvagedNumbers {
     pub count: i64,
     pub dropped: usize,

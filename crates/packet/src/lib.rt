@@ -1,4 +1,6 @@
 // Reading one packet of Protocol 2.0: the verdict on all its bytes, and the body as a part of them.
+#![tactic(auto)]
+
 ghost use Rattle.std.specs.Prelude.{◌≡◌, ◌++◌};
 ghost use Rattle.crc.specs.Crc.{crc_from};
 ghost use Rattle.stuffing.specs.Answers.{removal_answer, removal_out};

@@ -1,5 +1,7 @@
 // The encoder of Protocol 1.0 and Mercury: writes the packet of an ID, an instruction or error byte and parameters into the
 // caller's buffer.
+#![tactic(auto)]
+
 ghost use Rattle.std.specs.Prelude.{◌≡◌, [], ◌∷◌, ◌+◌, ◌≤◌, length};
 ghost use Rattle.lists.specs.Write.{overwritten};
 ghost use Rattle.packet_v1.specs.Packet.{up_to, checksum_of};

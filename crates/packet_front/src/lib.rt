@@ -1,4 +1,6 @@
 // The front of a packet of Protocol 2.0: whether bytes agree with header and ID.
+#![tactic(auto)]
+
 ghost use Rattle.std.specs.Prelude.{◌≡◌, eqb};
 ghost use Rattle.packet_rules.specs.Shape.{so_far};
 ghost use Rattle.packet_front.specs.Front.{good_id};

@@ -1,5 +1,7 @@
 // The protocols: what the bytes from an offset on are, by the packet rules of each. The shape of a packet is chosen by the
 // protocol, and the tests on it stand once.
+#![tactic(auto)]
+
 ghost use Rattle.std.specs.Prelude.{◌≡◌, ◌+◌, ◌≤◌, length, drop};
 ghost use Rattle.packet_rules.specs.Answers.{front_by, answer_by};
 ghost use Rattle.packet_rules.specs.Starts.{before_start};
@@ -8,7 +10,7 @@ ghost use Rattle.packet_protocols.specs.Protocols.{shape_of, rules_of, id_offset
 use packet_rules::{Front, Verdict};
 
 // Protocol 2.0, and those of the old boards: Protocol 1.0 and Mercury.
-#[derive(Drop)]
+#[derive(Clone, Copy)]
 pub enum Protocol {
     Two,
     One,

@@ -1,5 +1,7 @@
 // Reading one packet of Protocol 1.0 or Mercury: whether bytes agree with header and ID, and the verdict on all its bytes. The two
 // protocols differ in `last`, the largest ID of a device.
+#![tactic(auto)]
+
 ghost use Rattle.std.specs.Prelude.{◌≡◌, ◌+◌, ◌%◌, eqb};
 ghost use Rattle.packet_rules.specs.Shape.{so_far};
 ghost use Rattle.packet_rules.specs.Answers.{answer_for};

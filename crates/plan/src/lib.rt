@@ -1,4 +1,6 @@
 // The wanted goals of a plan: one signed number for each ID, -1 for none. What a plan is stands in specs/.
+#![tactic(auto)]
+
 ghost use Rattle.std.specs.Prelude.{◌≡◌};
 ghost use Rattle.answers.specs.Answers.{answered};
 ghost use Rattle.plan.specs.Goals.{goals_within, goals_refusal};

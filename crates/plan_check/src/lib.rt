@@ -1,4 +1,6 @@
 // The test of a plan: whether bytes are Sync Writes end to end that set the wanted goals, each once, and nothing else.
+#![tactic(auto)]
+
 ghost use Rattle.std.specs.Prelude.{◌≡◌, ℕ, ◌+◌, ◌≤◌, ◌<◌, length, take, get_or};
 ghost use Rattle.lists.specs.Numbers.{number_at};
 ghost use Rattle.table_items.specs.Items.{signed};
@@ -18,7 +20,7 @@ const LIST: usize = 4;
 
 const ENTRY: usize = 5;
 
-#[derive(Drop)]
+#[derive(Clone, Copy)]
 pub enum Tested {
     Accepted,
     NotPlan,

@@ -1,4 +1,6 @@
 // Our planner: writes the wanted goals as Sync Writes, IDs rising, as many devices to a packet as fit.
+#![tactic(auto)]
+
 ghost use Rattle.std.specs.Prelude.{◌≡◌, [], ◌∷◌, ◌++◌, ◌+◌, ◌*◌, ◌/◌, ◌≤◌, ◌<◌, length, take, drop};
 ghost use Rattle.lists.specs.Write.{overwritten, placed};
 ghost use Rattle.table_items.specs.Items.{unsigned};

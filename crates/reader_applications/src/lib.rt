@@ -1,1 +1,2 @@
 // What is promised of the readers, applied to bytes that are written out: see specs/ and proofs/. No functions.
+#![tactic(auto)]

@@ -1,4 +1,6 @@
 // The reader's feeding and gap calls, in place on the caller's held bytes and packet buffer.
+#![tactic(auto)]
+
 ghost use Rattle.std.specs.Prelude.{◌≡◌, cond, [], ◌∷◌, ◌++◌, ◌+◌, ◌-◌, ◌^◌, ◌≤◌, ◌<◌, min, leb, length, take, drop, replicate};
 ghost use Rattle.reading.specs.Reading.{closed};
 ghost use Rattle.reading.specs.Calls.{first, fed, gapped, call};
@@ -25,7 +27,7 @@ pub const V1_MAX_HELD: usize = 258;
 
 // The event of a call: a packet with its ID and its byte count, a bad checksum with its ID, none (of a gap call: nothing is
 // left), or the refusal of a count of held bytes above what can be held.
-#[derive(Drop)]
+#[derive(Clone, Copy)]
 pub enum StepEvent {
     Packet { id: u8, size: usize },
     BadChecksum { id: u8 },
@@ -34,7 +36,7 @@ pub enum StepEvent {
 }
 
 // What a call returns: how many bytes it took, how many are held now, and its event.
-#[derive(Drop)]
+#[derive(Clone, Copy)]
 pub struct Step {
     pub taken: usize,
     pub held: usize,

@@ -1,5 +1,7 @@
 // A plain reader: the next event of a whole segment, which lies in one slice, by the rule of reading and nothing else. It keeps no
 // bytes of its own.
+#![tactic(auto)]
+
 ghost use Rattle.std.specs.Prelude.{◌≡◌};
 ghost use Rattle.reader_plain.specs.Next.{next_event};
 
@@ -7,7 +9,7 @@ use packet_protocols::Protocol;
 use packet_rules::Verdict;
 
 // The next event: the offset where it begins, of a packet how many bytes it has, where reading goes on, and the ID.
-#[derive(Drop)]
+#[derive(Clone, Copy)]
 pub enum Next {
     Packet {
         offset: usize,

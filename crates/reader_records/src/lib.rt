@@ -1,5 +1,7 @@
 // The streaming reader of Protocol 2.0 as a record: bytes go in as they come, in chunks of any size, and events come out. The
 // calls here take the record by value and return it; `reader_core` does the work in place.
+#![tactic(auto)]
+
 ghost use Rattle.std.specs.Prelude.{◌≡◌, replicate};
 ghost use Rattle.reading.specs.Calls.{feed as call_feed, gap as call_gap};
 ghost use Rattle.reader_records.specs.Records.{step_on, left_by, packet_on, EveryProtocol};

@@ -1,4 +1,6 @@
 // Looking for the first event in held bytes and in a chunk, in place.
+#![tactic(auto)]
+
 ghost use Rattle.std.specs.Prelude.{◌≡◌, ◌&&◌, [], ◌++◌, ◌⊎◌, ◌+◌, ◌-◌, ◌≤◌, leb, ltb, length, take, drop};
 ghost use Rattle.reading.specs.Reading.{open', closed};
 ghost use Rattle.reading.specs.Calls.{fed};
@@ -12,7 +14,7 @@ use packet_protocols::Protocol;
 use packet_rules::{Front, Verdict};
 
 // What stands at the first offset that is not nothing. Waiting stands also at the end, where all has been passed.
-#[derive(Drop)]
+#[derive(Clone, Copy)]
 pub enum Scanned {
     Packet { at: usize, count: usize },
     BadChecksum { at: usize, id: u8 },
@@ -20,14 +22,14 @@ pub enum Scanned {
 }
 
 // The same, and how many bytes are wanted where some wait.
-#[derive(Drop)]
+#[derive(Clone, Copy)]
 struct Live {
     seen: Scanned,
     lacks: usize,
 }
 
 // What was seen of a segment up to its end.
-#[derive(Drop)]
+#[derive(Clone, Copy)]
 pub struct Window {
     pub seen: Scanned,
     pub end: usize,
@@ -35,7 +37,7 @@ pub struct Window {
 
 // How held bytes stop, so many bytes of the chunk taken: with what was seen of them up to their end; or all of them have been
 // passed; or those from an offset on wait, and for what the chunk has for them their buffer is too short.
-#[derive(Drop)]
+#[derive(Clone, Copy)]
 pub enum Stop {
     Done {
         seen: Scanned,

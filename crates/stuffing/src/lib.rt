@@ -1,4 +1,6 @@
 // Byte stuffing of packet bodies: the test, and unstuffing.
+#![tactic(auto)]
+
 ghost use Rattle.std.specs.Prelude.{◌≡◌, true, ◌≤◌, length};
 ghost use Rattle.lists.specs.Write.{overwritten};
 ghost use Rattle.stuffing.specs.Stuffing.{mark_at, well_stuffed, unstuff, NoFd};
@@ -7,7 +9,7 @@ ghost use Rattle.stuffing.specs.Answers.{checked, removal_answer, removal_out};
 use answers::{Answer, Refusal};
 
 // Whether a body is well stuffed, and its unstuffed byte count.
-#[derive(Drop)]
+#[derive(Clone, Copy)]
 pub enum Checked {
     Good(usize),
     Bad,

@@ -1,11 +1,13 @@
 // The stuffed form of packet bodies: its length, and writing it.
+#![tactic(auto)]
+
 ghost use Rattle.std.specs.Prelude.{◌≡◌, ◌∷◌, min, length, take};
 ghost use Rattle.lists.specs.Write.{overwritten};
 ghost use Rattle.stuffing.specs.Stuffing.{stuff};
 ghost use Rattle.stuffing_writer.specs.Answers.{length_within};
 
 // A length, or that it is past a bound.
-#[derive(Drop)]
+#[derive(Clone, Copy)]
 pub enum Length {
     Within(usize),
     Past,

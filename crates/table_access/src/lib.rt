@@ -1,4 +1,6 @@
 // The control table: 136 bytes of registers. A write is judged whole before a byte of it is stored.
+#![tactic(auto)]
+
 ghost use Rattle.std.specs.Prelude.{◌≡◌, ◌+◌, ◌≤◌, length, take, drop};
 ghost use Rattle.answers.specs.Answers.{answered};
 ghost use Rattle.lists.specs.Write.{padded};
@@ -16,7 +18,7 @@ use table_registers::{
 use table_rules::Outcome;
 
 // The bytes that were read, with 0 after them, where the outcome is Done.
-#[derive(Drop)]
+#[derive(Clone, Copy)]
 pub struct Reading {
     pub outcome: Outcome,
     pub bytes: [u8; MAX_DATA],

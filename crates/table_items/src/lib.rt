@@ -1,4 +1,6 @@
 // Numbers in a control table: four bytes as a signed number, the way back, and the test of a range.
+#![tactic(auto)]
+
 ghost use Rattle.std.specs.Prelude.{◌≡◌, [], ◌∷◌};
 ghost use Rattle.table_registers.specs.Registers.{read_write};
 ghost use Rattle.lists.specs.Numbers.{number_at};

@@ -1,5 +1,7 @@
 // The registers of the control table: their numbers, the one that has a byte, and what a run of bytes permits. The proofs compare
 // each result with the list of specs/Registers.antt.
+#![tactic(auto)]
+
 ghost use Rattle.std.specs.Prelude.{◌≡◌, ◌≤◌, ◌<◌};
 ghost use Rattle.table_registers.specs.Registers.{read_only, read_write, rom, ram, register, every_byte};
 ghost use Rattle.table_registers.specs.Rows.{row_of, no_row, row_at};
@@ -97,7 +99,7 @@ pub const PERMITS_ROM_WRITE: u8 = 2;
 pub const PERMITS_RAM_WRITE: u8 = 3;
 
 // A register as the rules need it: what its bytes permit, and the range of its value where it can be written.
-#[derive(Drop)]
+#[derive(Clone, Copy)]
 pub struct Row {
     pub start: usize,
     pub bytes: usize,

@@ -1,4 +1,6 @@
 // Reboot and Factory Reset, on the table; stores go by rising addresses. A table of another size is refused and stays as it is.
+#![tactic(auto)]
+
 ghost use Rattle.std.specs.Prelude.{◌≡◌, cond};
 ghost use Rattle.answers.specs.Answers.{answered};
 ghost use Rattle.table_rules.specs.Outcomes.{size_refusal, on_table};

@@ -1,4 +1,6 @@
 // The write rule: a write is judged whole, on the table as it would then stand. And what becomes of a read or a write.
+#![tactic(auto)]
+
 ghost use Rattle.std.specs.Prelude.{◌≡◌, ◌&&◌, true, ◌+◌, ◌≤◌, ◌<◌, leb, ltb, length};
 ghost use Rattle.std.specs.Int.Signed.{le_z};
 ghost use Rattle.table_registers.specs.Registers.{registers, table_size, every_byte};
@@ -17,7 +19,7 @@ use table_registers::{
 };
 
 // What became of a read or a write: an error of the status packet where it is not done, or a table of another size.
-#[derive(Drop)]
+#[derive(Clone, Copy)]
 pub enum Outcome {
     Done,
     DataRange,
@@ -63,7 +65,7 @@ fn word_after(table: &[u8], address: usize, bytes: &[u8], a: usize) -> i32
 }
 
 // The limits of the position.
-#[derive(Drop)]
+#[derive(Clone, Copy)]
 pub struct PositionLimits {
     pub min: i32,
     pub max: i32,

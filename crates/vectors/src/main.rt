@@ -6,6 +6,8 @@
 //      `refused` if its ID is above 252; then `stored ADDRESS VALUE` for each byte of the control table that has changed
 // Reading stops at a record that is cut short or of another form. The last line, `end BYTES`, has the count of bytes before it.
 // Before the first device the control table is all 0.
+#![tactic(auto)]
+
 use answers::Answer;
 use device::Replied;
 use device_instructions::RegisteredWrite;

@@ -1,0 +1,14 @@
+use mathlib.Core.Path.{◌≡◌, refl}
+use Prim.Native.Nat.{ℕ, ◌/◌, ◌%◌}
+use native.Mathlib.Omega.{arith}
+use Rattle.lists.specs.Numbers.{bytes_of}
+use borrow.Author.Rules.{rules}
+use Rattle.buffers.proofs.bytes_of.Goals as goal
+
+pub returns : goal.returns
+unfolding bytes_of
+returns c =
+    let v = c.args.value in
+    let third : v / 65536 % 256 ≡ v / 256 / 256 % 256 = omega arith in
+    let fourth : v / 16777216 % 256 ≡ v / 256 / 256 / 256 % 256 = omega arith in
+    rw (third, fourth)

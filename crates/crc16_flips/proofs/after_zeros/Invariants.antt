@@ -1,0 +1,14 @@
+use mathlib.Core.Path.{◌≡◌, ◌∙◌}
+use mathlib.Core.Logic.{⊎_elim}
+use Prim.Native.Nat.{◌*◌, ◌%◌, ◌^◌, ◌<◌}
+use native.Mathlib.Omega.{arith}
+use Rattle.crc.specs.Crc.{shifts}
+use Rattle.crc16_flips.proofs.Zeros.{Turn, first, odd, even, next, last}
+use borrow.Author.Rules.{rules}
+use Rattle.crc16_flips.proofs.after_zeros.Given as goal
+
+abbrev pub invariant-loop-left : goal.invariant-loop-left
+invariant-loop-left l = Turn l.crc l.count l.sum l.power l.left
+
+abbrev pub decreases-loop-left : goal.decreases-loop-left
+decreases-loop-left l = l.left

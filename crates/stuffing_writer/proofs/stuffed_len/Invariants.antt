@@ -1,0 +1,20 @@
+use mathlib.Core.Path.{◌≡◌, sym, ap, ◌∙◌}
+use mathlib.Core.Logic.{⊎_elim}
+use mathlib.Core.List.{◌∷◌}
+use Prim.Native.Nat.{◌+◌, ◌-◌, ◌≤◌}
+use native.Mathlib.Omega.{arith}
+use lib.ListN.{length}
+use borrow.Author.Tests.{le-leb, lt-leb}
+use Rattle.stuffing.specs.Stuffing.{stuff_after, stuff}
+use Rattle.stuffing.proofs.Laws.{length_stuff}
+use Rattle.stuffing_writer.proofs.Rounds.{stuffed_at, stuff_plain, stuff_marked, stuff_end}
+use borrow.Author.Rules.{rules}
+use Rattle.stuffing_writer.proofs.stuffed_len.Given as goal
+
+abbrev pub invariant-loop-i : goal.invariant-loop-i
+invariant-loop-i l =     (l.i ≤ length l.rest)
+    × (l.n ≤ length l.rest + 1 + l.i)
+    × (l.n + length (stuffed_at l.first l.rest l.i) ≡ length (stuff (l.first ∷ l.rest)) + (length l.rest - l.i))
+
+abbrev pub decreases-loop-i : goal.decreases-loop-i
+decreases-loop-i l = length l.rest - l.i

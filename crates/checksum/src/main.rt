@@ -6,17 +6,14 @@
 ghost use Rattle.std.specs.Prelude.{◌≡◌, List, ◌++◌, ℕ};
 ghost use Rattle.crc.specs.Crc.{crc_from};
 
-use libc::{STDERR_FILENO, STDOUT_FILENO};
+use std::io;
+use std::io::Stdin;
 
 // The checksum and the count so far.
 #[derive(Clone, Copy)]
 struct Total {
     crc: u16,
     bytes: u64,
-}
-
-fn wide(x: u16) -> u64 {
-    x as u64
 }
 
 // One part more: from the checksum of the parts so far to that of all of them joined. The count stops at the largest number.
@@ -48,13 +45,13 @@ struct Outcome {
 
 // Reads until the input ends or a read fails: only then is the buffer not full. A loop must be bounded to be proved to end: this
 // one would stop after 2^64 - 1 parts.
-fn total_of_input() -> Outcome {
-    let mut buffer = io::large_buffer();
+fn total_of_input(stdin: &mut Stdin) -> Outcome {
+    let mut buffer = [0u8; 65536];
     let mut total = Total { crc: 0, bytes: 0 };
     let mut failed = false;
     let mut left: u64 = 18446744073709551615;
     while 0 < left {
-        let got = input::read(&mut buffer);
+        let got = input::read(stdin, &mut buffer);
         let n = got.count;
         failed = got.failed;
         total = with_part(total, &buffer[..n]);
@@ -66,22 +63,16 @@ fn total_of_input() -> Outcome {
     Outcome { total, failed }
 }
 
-// Whether all of the line was written.
-fn print_total(total: Total) -> bool {
-    io::print_hex(STDOUT_FILENO, wide(total.crc), 4)
-        && io::write_all(STDOUT_FILENO, b" ")
-        && io::print_decimal(STDOUT_FILENO, total.bytes)
-        && io::write_all(STDOUT_FILENO, b"\n")
+// An error says that not all of the line was written.
+fn print_total(rt: &impl Print, total: Total) -> io::Result<()> {
+    println!(rt; "{:04x} {}", total.crc, total.bytes)
 }
 
-fn main() {
-    let outcome = total_of_input();
+fn main(rt: HostRuntime) {
+    let outcome = total_of_input(&mut rt.stdin());
     if outcome.failed {
-        io::write_all(STDERR_FILENO, b"checksum: standard input cannot be read\n");
-    } else if !print_total(outcome.total) {
-        io::write_all(
-            STDERR_FILENO,
-            b"checksum: standard output cannot be written\n",
-        );
+        let _ = eprintln!(rt; "checksum: standard input cannot be read");
+    } else if print_total(&rt, outcome.total).is_err() {
+        let _ = eprintln!(rt; "checksum: standard output cannot be written");
     }
 }

@@ -3,7 +3,7 @@
 
 ghost use Rattle.io.specs.Counts.{IsPrefixLen};
 
-use libc::STDIN_FILENO;
+use std::io::{Read, Stdin};
 
 // How many bytes were read, and whether a read failed after them.
 #[derive(Drop)]
@@ -13,20 +13,26 @@ pub struct Input {
 }
 
 // Fills the buffer from standard input, and stops early only where that ends or a read fails.
-pub fn read(buffer: &mut [u8]) -> Input
+pub fn read(stdin: &mut Stdin, buffer: &mut [u8]) -> Input
     ensures { IsPrefixLen result.count buffer.new }
 {
     let mut done = 0;
     while done < buffer.len() {
-        let got = libc::read(STDIN_FILENO, &mut buffer[done..]);
-        let n = io::count(got, &buffer[done..]);
-        if n == 0 {
-            return Input {
-                count: done,
-                failed: got < 0,
-            };
+        match stdin.read(&mut buffer[done..]) {
+            Ok(0) => {
+                return Input {
+                    count: done,
+                    failed: false,
+                };
+            }
+            Ok(n) => done += n,
+            Err(_) => {
+                return Input {
+                    count: done,
+                    failed: true,
+                };
+            }
         }
-        done += n;
     }
     Input {
         count: done,

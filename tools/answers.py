@@ -11,11 +11,14 @@ import re
 import sys
 
 NAME = r"[^\s(){}\[\];,.:|\"«»]+"
-PATH = re.compile(r"(?<![\w.'])(" + NAME + r")((?:\." + NAME + r")+)?")
+PATH = re.compile(r"(?<![\w.'{])(" + NAME + r")((?:\." + NAME + r")+)?")
 
 
 def norm(s):
-    return s.replace("-", "_")
+    return s.replace("-", "_").lower()
+
+
+LENT = {}
 
 
 def labels_of(root):
@@ -33,6 +36,7 @@ def labels_of(root):
                 name = m.group(1) or m.group(2)
                 head = m.group(0)
                 found[c + "::" + name] = (re.findall(r"\n\s+ensures (\w+) \{", head), re.findall(r"\n\s+requires (\w+) \{", head))
+                LENT[c + "::" + name] = re.findall(r"(\w+): &mut", head.split("->")[0].split("\n    ensures")[0])
     return found
 
 
@@ -103,7 +107,7 @@ class Function:
                 return k
         return None
 
-    def resolve(self, i, segs):
+    def resolve(self, i, segs, home=None):
         """From the place i along the old fields: (place, None) where only places are passed, else (place, new fields)."""
         segs = list(segs)
         while segs and segs[0] == "before":
@@ -112,7 +116,11 @@ class Function:
             segs.pop(0)
         if not segs:
             return (i, None)
-        return (i, self.fields(i, segs))
+        found = self.fields(i, segs)
+        if found == segs and segs[0] not in ("args", "requires", "ranges") and home is not None:
+            # the older kit had other places on the way
+            found = self.fields(home, segs)
+        return (i, found)
 
     def fields(self, i, segs):
         first, rest = segs[0], segs[1:]
@@ -140,6 +148,8 @@ class Function:
         while k is not None:
             fld = self.places[k][2]
             if fld[0] and norm(fld[0]) == norm(first):
+                if rest and (fld[1].startswith("if-") or fld[1].endswith("-test")):
+                    rest = [{"taken": "true", "left": "false"}.get(rest[0], rest[0])] + rest[1:]
                 return [fld[1]] + self.rest(self.places[k][3], rest)
             k = self.parent(k)
         if first in ("args", "requires", "ranges", "lifetimes"):
@@ -147,6 +157,8 @@ class Function:
         return [first] + rest
 
     def rest_own(self, first, rest):
+        if first == "args" and rest and rest[0] == "own_val":
+            return ["own"] + rest[1:]
         if first == "requires" and rest and rest[0].isdigit():
             labels = self.labels.get(self.crate + "::" + self.name, ([], []))[1]
             if int(rest[0]) < len(labels):
@@ -163,6 +175,12 @@ class Function:
             elif s == "came":
                 s = "branch"
             out.append(s)
+        if callee and len(out) > 1 and out[0] == "new" and out[1].isdigit():
+            lent = LENT.get(callee, [])
+            k = 1
+            while k < len(out) and out[k].isdigit():
+                k += 1
+            out[1:k] = [lent[0]] if len(lent) == 1 else ["TODO" + "_".join(out[1:k])]
         if callee and len(out) > 1 and out[0] in ("ensures", "requires") and out[1].isdigit():
             labels = self.labels.get(callee, ([], []))[0 if out[0] == "ensures" else 1]
             out = [out[0]] + self.by_label(labels, out[1:])
@@ -341,6 +359,9 @@ class Body:
         self.fn.used.add(new)
         if self.goal and base == "c":
             return "(goal.at.%s c).%s" % (self.goal, new)
+        for k, (o, w) in enumerate(self.fn.j["asked_at"]):
+            if w == self.fn.byname[home] and k < len(self.fn.needs) and not self.fn.needs[k][1].endswith("-requires"):
+                return "(goal.at.%s %s).%s" % (self.fn.needs[k][1], base, new)
         self.fn.todo += 1
         return "(TODO %s %s)" % (base, new)
 
@@ -350,7 +371,7 @@ class Body:
             name, root, segs = m.group(1), m.group(2), m.group(3)
             segs = segs.split(".")[1:] if segs else []
             if root in self.env:
-                r = self.fn.resolve(self.env[root][1], segs)
+                r = self.fn.resolve(self.env[root][1], segs, self.env[root][3])
                 if r and r[1] is None:
                     base, _, _, home = self.env[root]
                     self.env[name] = (base, r[0], True, home)
@@ -392,7 +413,7 @@ class Body:
             if root not in self.env:
                 return m.group(0)
             segs = segs.split(".")[1:] if segs else []
-            r = self.fn.resolve(self.env[root][1], segs)
+            r = self.fn.resolve(self.env[root][1], segs, self.env[root][3])
             if r is None:
                 self.fn.todo += 1
                 return "(TODO %s)" % m.group(0)
@@ -529,7 +550,7 @@ def main(argv):
                 print("%s: %s: no names; left as it is" % (crate, rel))
                 continue
             text = inlined(text)
-            for raw in (False, True):
+            for raw in (False,):
                 fn = Function(crate, rel.split(".")[-1].lstrip("+"), entry, labels)
                 fn.raw = raw
                 inv, ans, uses, loc = convert(fn, text)

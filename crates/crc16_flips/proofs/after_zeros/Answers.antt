@@ -6,7 +6,7 @@ use Rattle.crc.specs.Crc.{shifts}
 use Rattle.crc16_flips.proofs.Zeros.{Turn, first, odd, even, next, last}
 use borrow.Author.Rules.{rules}
 use Rattle.crc16_flips.proofs.after_zeros.Goals as goal
-use Rattle.crc16_flips.proofs.after_zeros.Goals.{After-times-power}
+use Rattle.crc16_flips.proofs.after_zeros.Goals.{then-left-eq1, else-left-eq1, After-times-power}
 
 pub loop-left-init : goal.loop-left-init
 loop-left-init c = first _ _ c.ranges.crc.fits
@@ -16,9 +16,10 @@ summed : (c : After-times-power)
     → (c.if-left-eq1.sum ≡ shifts (c.loop-left.left % 2 * c.loop-left.invariant.k) c.loop-left.sum) × (c.if-left-eq1.sum < 2 ^ 16)
 summed c =
     let t = c.loop-left.invariant in
-    ⊎_elim (λ w. (w.2 ∙ w.1.ensures ∙ odd t w.0.taken, rw w.2 w.1.ok))
-    (λ w. (w.1 ∙ even t (omega (arith, w.0.left)), rw w.1 t.small))
-    c.if-left-eq1.branch
+    elim c.if-left-eq1.branch [
+      then-left-eq1 w ↦ (w.sum-is ∙ w.times-sum.ensures ∙ odd t w.if-left-eq1.true, rw w.sum-is w.times-sum.type_inv)
+      | else-left-eq1 w ↦ (w.sum-is ∙ even t (omega (arith, w.if-left-eq1.false)), rw w.sum-is t.small)
+    ]
 
 pub loop-left-preserved : goal.loop-left-preserved
 loop-left-preserved c = next c.loop-left.invariant _ _ (summed c).0 (summed c).1 c.times-power.ensures c.times-power.type_inv

@@ -33,7 +33,7 @@ module _ (k : After-is_mark) where
   byte = get_or k.loop-i.body k.loop-i.i 0
 
   written : Within k.args.body.now (set k.loop-i.body k.loop-i.j byte) k.loop-i.a k.loop-i.b byte (k.loop-i.j + 1) (k.loop-i.i + 1)
-  written = kept k.args.body.now k.loop-i.body 0 k.loop-i.a k.loop-i.b k.loop-i.j k.loop-i.i k.loop-i.invariant k.loop-i-test.taken refl
+  written = kept k.args.body.now k.loop-i.body 0 k.loop-i.a k.loop-i.b k.loop-i.j k.loop-i.i k.loop-i.invariant k.loop-i-test.true refl
 
   length_is : length (set k.loop-i.body k.loop-i.j byte) ≡ length k.args.body.now
   length_is = within_same_length _ _ _ _ _ _ _ written

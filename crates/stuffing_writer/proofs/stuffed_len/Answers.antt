@@ -10,6 +10,7 @@ use Rattle.stuffing.proofs.Laws.{length_stuff}
 use Rattle.stuffing_writer.proofs.Rounds.{stuffed_at, stuff_plain, stuff_marked, stuff_end}
 use borrow.Author.Rules.{rules}
 use Rattle.stuffing_writer.proofs.stuffed_len.Goals as goal
+use Rattle.stuffing_writer.proofs.stuffed_len.Goals.{then-ends_mark, else-ends_mark}
 
 pub returns-then-most-rest : goal.returns-then-most-rest
 returns-then-most-rest c =
@@ -33,10 +34,10 @@ loop-i-preserved c =
     let a = c.args in
     let t = c.loop-i-test.true in
     let m = c.ends_mark.ensures in
-    ⊎_elim
-    (λ w. (search rules, omega arith, omega (arith, ap length (stuff_marked a.first a.rest.now h.i (sym m ∙ w.0.taken) t))))
-    (λ w. (search rules, omega arith, omega (arith, ap length (stuff_plain a.first a.rest.now h.i (sym m ∙ w.0.left) t))))
-    c.if-ends_mark.branch
+    elim c.if-ends_mark.branch [
+      then-ends_mark w ↦ (search rules, omega arith, omega (arith, ap length (stuff_marked a.first a.rest.now h.i (sym m ∙ w.if-ends_mark.true) t)))
+      | else-ends_mark w ↦ (search rules, omega arith, omega (arith, ap length (stuff_plain a.first a.rest.now h.i (sym m ∙ w.if-ends_mark.false) t)))
+    ]
 
 pub returns-then-n-most : goal.returns-then-n-most
 returns-then-n-most c =

@@ -11,7 +11,7 @@ use Rattle.stuffing.specs.Stuffing.{stuff_after, stuff}
 use Rattle.stuffing_writer.proofs.Rounds.{stuffed_at, stuff_end, put_plain, put_marked}
 use borrow.Author.Rules.{rules}
 use Rattle.stuffing_writer.proofs.write_stuffed.Goals as goal
-use Rattle.stuffing_writer.proofs.write_stuffed.Goals.{At-loop-i}
+use Rattle.stuffing_writer.proofs.write_stuffed.Goals.{then-ends_mark+else-out-j-2, else-ends_mark, At-loop-i}
 
 empty : (old new : List ℕ) → length old ≡ 0 → (0 ≡ min (length old) (length new)) × (old ≡ overwritten old (take (length old) new))
 empty [] new e = (omega arith, refl)
@@ -27,12 +27,12 @@ module _ (p : At-loop-i) where
   kept = fill_length _ _ _ _ _ p.loop-i.invariant.1 ∙ length-set p.args.out.now 0 _
 
   some : 0 < length p.args.out.now
-  some = pos_of_ne-zero p.if-out-eq0.left
+  some = pos_of_ne-zero p.if-out-eq0.false
 
 pub returns-then-out-eq0 : goal.returns-then-out-eq0
 returns-then-out-eq0 c =
     let a = c.args in
-    empty a.out.now (stuff (a.first ∷ a.rest.now)) c.if-out-eq0.true
+    let e = empty a.out.now (stuff (a.first ∷ a.rest.now)) c.if-out-eq0.true in record { value = e.0; out_after = e.1 }
 
 pub loop-i-init : goal.loop-i-init
 unfolding stuff_after
@@ -92,20 +92,20 @@ loop-i-preserved c =
     let t = c.loop-i-test.true in
     let m = c.ends_mark.ensures in
     let room : h.j < length (set a.out.now 0 a.first) = simp length-set (omega (arith, kept (goal.at.loop-i-preserved c).At-loop-i, c.if-out-j.false)) in
-    ⊎_elim
-    (λ w. (
-      search rules,
-      rw (w.2, w.3)
-          (fill_next _ _ _ (h.j + 1) 0xFD _
-          (put_marked a.first a.rest.now h.i _ _ h.out h.j t h.invariant.1 room (sym m ∙ w.0.taken))
-          (simp length-set (omega (arith, kept (goal.at.loop-i-preserved c).At-loop-i, length-set h.out h.j (get_or a.rest.now h.i 0), w.1.left)))),
-    ))
-    (λ w. (
-      search rules,
-      rw (w.1, w.2)
-          (put_plain a.first a.rest.now h.i _ _ h.out h.j t h.invariant.1 room (sym m ∙ w.0.left)),
-    ))
-    c.if-ends_mark.branch
+    elim c.if-ends_mark.branch [
+      then-ends_mark+else-out-j-2 w ↦ (
+        search rules,
+        rw (w.out-is, w.j-is)
+            (fill_next _ _ _ (h.j + 1) 0xFD _
+            (put_marked a.first a.rest.now h.i _ _ h.out h.j t h.invariant.1 room (sym m ∙ w.if-ends_mark.true))
+            (simp length-set (omega (arith, kept (goal.at.loop-i-preserved c).At-loop-i, length-set h.out h.j (get_or a.rest.now h.i 0), w.if-out-j-2.false)))),
+      )
+      | else-ends_mark w ↦ (
+        search rules,
+        rw (w.out-is, w.j-is)
+            (put_plain a.first a.rest.now h.i _ _ h.out h.j t h.invariant.1 room (sym m ∙ w.if-ends_mark.false)),
+      )
+    ]
 
 pub shape_of-out : goal.shape_of-out
 shape_of-out c = kept (goal.at.shape_of-out c).At-loop-i

@@ -1,0 +1,9 @@
+use Prim.Native.Nat.{◌+◌, ◌%◌}
+use native.Mathlib.Omega.{arith}
+use borrow.Author.Rules.{rules}
+use Rattle.packet_v1.specs.Packet.{sum}
+use Rattle.packet_encoder_v1.proofs.checksum.Goals as goal
+
+pub returns : goal.returns
+unfolding sum
+returns c = omega (arith, c.sum_from.ensures)

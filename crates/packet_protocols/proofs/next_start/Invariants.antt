@@ -1,0 +1,15 @@
+use mathlib.Core.Path.{◌≡◌, refl, ◌∙◌}
+use Prim.Native.Nat.{◌+◌, ◌-◌}
+use native.Mathlib.Omega.{arith}
+use lib.ListN.{length, drop}
+use Rattle.packet_rules.specs.Starts.{before_start}
+use Rattle.packet_rules.proofs.Starts.{start_here, start_later, start_past, may_at}
+use borrow.Author.Rules.{rules}
+use Rattle.packet_protocols.specs.Protocols.{may_begin_of}
+use Rattle.packet_protocols.proofs.next_start.Given as goal
+
+abbrev pub invariant-loop-at : goal.invariant-loop-at
+invariant-loop-at l =     l.from + before_start (may_begin_of l.protocol) (drop l.from l.segment) ≡ l.at + before_start (may_begin_of l.protocol) (drop l.at l.segment)
+
+abbrev pub decreases-loop-at : goal.decreases-loop-at
+decreases-loop-at l = length l.segment - l.at

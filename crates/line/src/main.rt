@@ -4,40 +4,23 @@
 #![tactic(auto)]
 
 use answers::Answer;
-use libc::{STDERR_FILENO, STDOUT_FILENO};
 use reader_plain::Next;
 
-fn wide(x: u8) -> u64 {
-    x as u64
-}
-
 // This and the functions below return whether all of it was written.
-fn print_text(text: &[u8]) -> bool {
-    io::write_all(STDOUT_FILENO, text)
+fn print_packet(rt: &impl Print, id: u8, instruction: u8, params: u64) -> bool {
+    println!(rt; "packet {id} {instruction} {params}").is_ok()
 }
 
-fn print_number(n: u64) -> bool {
-    print_text(b" ") && io::print_decimal(STDOUT_FILENO, n)
+fn print_bad_checksum(rt: &impl Print, id: u8) -> bool {
+    println!(rt; "crc {id}").is_ok()
 }
 
-fn print_packet(id: u8, instruction: u8, params: u64) -> bool {
-    print_text(b"packet")
-        && print_number(wide(id))
-        && print_number(wide(instruction))
-        && print_number(params)
-        && print_text(b"\n")
-}
-
-fn print_bad_checksum(id: u8) -> bool {
-    print_text(b"crc") && print_number(wide(id)) && print_text(b"\n")
-}
-
-fn print_end(bytes: u64) -> bool {
-    print_text(b"end") && print_number(bytes) && print_text(b"\n")
+fn print_end(rt: &impl Print, bytes: u64) -> bool {
+    println!(rt; "end {bytes}").is_ok()
 }
 
 // A packet's body is never empty, and unstuffed it has at most 1,022 bytes.
-fn packet_line(id: u8, found: &[u8]) -> bool {
+fn packet_line(rt: &impl Print, id: u8, found: &[u8]) -> bool {
     let mut body = [0u8; packet_front::MAX_BODY];
     let Answer::Count(n) = packet::unstuff(found, &mut body) else {
         return false;
@@ -45,11 +28,11 @@ fn packet_line(id: u8, found: &[u8]) -> bool {
     if n == 0 {
         return false;
     }
-    print_packet(id, body[0], (n - 1) as u64)
+    print_packet(rt, id, body[0], (n - 1) as u64)
 }
 
 // A line for each event, from where the one before says that reading goes on.
-fn print_segment(segment: &[u8]) -> bool {
+fn print_segment(rt: &impl Print, segment: &[u8]) -> bool {
     let mut from = 0;
     loop {
         match reader_plain::next_event(segment, from) {
@@ -59,7 +42,7 @@ fn print_segment(segment: &[u8]) -> bool {
                 next,
                 id,
             } => {
-                if !packet_line(id, &segment[offset..next]) {
+                if !packet_line(rt, id, &segment[offset..next]) {
                     return false;
                 }
                 from = next;
@@ -69,23 +52,23 @@ fn print_segment(segment: &[u8]) -> bool {
                 next,
                 id,
             } => {
-                if !print_bad_checksum(id) {
+                if !print_bad_checksum(rt, id) {
                     return false;
                 }
                 from = next;
             }
-            Next::Nothing => return print_end(segment.len() as u64),
+            Next::Nothing => return print_end(rt, segment.len() as u64),
         }
     }
 }
 
-fn main() {
-    let mut buffer = io::large_buffer();
-    let got = input::read(&mut buffer);
+fn main(rt: HostRuntime) {
+    let mut buffer = [0u8; 65536];
+    let got = input::read(&mut rt.stdin(), &mut buffer);
     let n = got.count;
     if got.failed {
-        io::write_all(STDERR_FILENO, b"line: standard input cannot be read\n");
-    } else if !print_segment(&buffer[..n]) {
-        io::write_all(STDERR_FILENO, b"line: standard output cannot be written\n");
+        let _ = eprintln!(rt; "line: standard input cannot be read");
+    } else if !print_segment(&rt, &buffer[..n]) {
+        let _ = eprintln!(rt; "line: standard output cannot be written");
     }
 }

@@ -12,14 +12,9 @@ use answers::Answer;
 use device::Replied;
 use device_instructions::RegisteredWrite;
 use device_status::{MIN_REPLY, Reply};
-use libc::{STDIN_FILENO, STDOUT_FILENO};
 use packet_front::{MAX_BODY, MAX_PACKET};
 use reader_core::{MAX_HELD, Step, StepEvent};
 use table_registers::TABLE_BYTES;
-
-fn wide(x: u8) -> u64 {
-    x as u64
-}
 
 fn size(x: u8) -> usize {
     x as usize
@@ -30,107 +25,85 @@ fn first(bytes: &[u8], n: usize) -> &[u8] {
     if n <= bytes.len() { &bytes[..n] } else { bytes }
 }
 
-fn print_number(n: u64) {
-    io::write_all(STDOUT_FILENO, b" ");
-    io::print_decimal(STDOUT_FILENO, n);
+// A write that fails is passed over, here and below.
+fn print_end(rt: &impl Print) {
+    let _ = rt.write_all(b"\n");
 }
 
-fn print_byte(x: u8) {
-    io::write_all(STDOUT_FILENO, b" ");
-    io::print_hex(STDOUT_FILENO, wide(x), 2);
+fn print_text(rt: &impl Print, text: &[u8]) {
+    let _ = rt.write_all(text);
+    print_end(rt);
 }
 
-fn print_end() {
-    io::write_all(STDOUT_FILENO, b"\n");
-}
-
-fn print_text(text: &[u8]) {
-    io::write_all(STDOUT_FILENO, text);
-    print_end();
-}
-
-fn print_device(id: u8, position: u64) {
-    io::write_all(STDOUT_FILENO, b"device");
-    print_number(wide(id));
-    print_number(position);
-    print_end();
+fn print_device(rt: &impl Print, id: u8, position: u64) {
+    let _ = println!(rt; "device {id} {position}");
 }
 
 // A packet's body is never empty.
-fn print_packet(id: u8, body: &[u8]) {
-    io::write_all(STDOUT_FILENO, b"packet");
-    print_number(wide(id));
+fn print_packet(rt: &impl Print, id: u8, body: &[u8]) {
+    let _ = print!(rt; "packet {id}");
     if 0 < body.len() {
-        print_number(wide(body[0]));
-        print_number((body.len() - 1) as u64);
+        let _ = print!(rt; " {} {}", body[0], body.len() - 1);
     }
-    print_end();
+    print_end(rt);
 }
 
-fn print_bad_checksum(id: u8) {
-    io::write_all(STDOUT_FILENO, b"crc");
-    print_number(wide(id));
-    print_end();
+fn print_bad_checksum(rt: &impl Print, id: u8) {
+    let _ = println!(rt; "crc {id}");
 }
 
-fn print_bytes(bytes: &[u8]) {
-    let mut i = 0;
-    while i < bytes.len() {
-        print_byte(bytes[i]);
-        i += 1;
+fn print_bytes(rt: &impl Print, bytes: &[u8]) {
+    for byte in bytes {
+        let _ = print!(rt; " {:02x}", *byte);
     }
 }
 
-fn print_status(slot: usize, status: &[u8]) {
-    io::write_all(STDOUT_FILENO, b"status");
-    print_number(slot as u64);
-    print_bytes(status);
-    print_end();
+fn print_status(rt: &impl Print, slot: usize, status: &[u8]) {
+    let _ = print!(rt; "status {slot}");
+    print_bytes(rt, status);
+    print_end(rt);
 }
 
-fn print_silence() {
-    print_text(b"silent");
+fn print_silence(rt: &impl Print) {
+    print_text(rt, b"silent");
 }
 
-fn print_refusal() {
-    print_text(b"refused");
+fn print_refusal(rt: &impl Print) {
+    print_text(rt, b"refused");
 }
 
 // The reply is sent.
-fn print_reply(reply: Reply) {
+fn print_reply(rt: &impl Print, reply: Reply) {
     let mut out = [0u8; MIN_REPLY];
     let slot = reply.slot;
     match device_status::send(reply, &mut out) {
         Answer::Count(n) => {
             if n == 0 {
-                print_silence();
+                print_silence(rt);
             } else {
-                print_status(slot, first(&out, n));
+                print_status(rt, slot, first(&out, n));
             }
         }
-        Answer::Refused(_) => print_refusal(),
+        Answer::Refused(_) => print_refusal(rt),
     }
 }
 
-fn print_answer(refused: Replied, reply: Reply) {
+fn print_answer(rt: &impl Print, refused: Replied, reply: Reply) {
     match refused {
-        Replied::Sent(_, _) => print_reply(reply),
-        Replied::Refused(_) => print_refusal(),
+        Replied::Sent(_, _) => print_reply(rt, reply),
+        Replied::Refused(_) => print_refusal(rt),
     }
 }
 
-fn print_stored(address: u64, value: u8) {
-    io::write_all(STDOUT_FILENO, b"stored");
-    print_number(address);
-    print_number(wide(value));
-    print_end();
+fn print_stored(rt: &impl Print, address: usize, value: u8) {
+    let _ = println!(rt; "stored {address} {value}");
 }
 
-fn print_changes(before: &[u8; TABLE_BYTES], after: &[u8; TABLE_BYTES]) {
+fn print_changes(rt: &impl Print, before: &[u8; TABLE_BYTES], after: &[u8; TABLE_BYTES]) {
     let mut i = 0;
     while i < TABLE_BYTES {
         if before[i] != after[i] {
-            print_stored(i as u64, after[i]);
+            print_stored(rt, i, after[i]);
         }
         i += 1;
     }
@@ -138,6 +111,7 @@ fn print_changes(before: &[u8; TABLE_BYTES], after: &[u8; TABLE_BYTES]) {
 
 // The device hears a packet's body or a bad checksum.
 fn answer(
+    rt: &impl Print,
     table: &mut [u8; TABLE_BYTES],
     registered: RegisteredWrite,
     heard: device_dispatch::Heard,
@@ -149,8 +123,8 @@ fn answer(
     let refused = carried.refused;
     let reply = carried.reply;
     let kept = carried.registered;
-    print_answer(refused, reply);
-    print_changes(&before, table);
+    print_answer(rt, refused, reply);
+    print_changes(rt, &before, table);
     kept
 }
 
@@ -163,6 +137,7 @@ fn unstuffed(got: Answer) -> usize {
 
 // A packet's body, unstuffed, has at most 1,022 bytes.
 fn hear_packet(
+    rt: &impl Print,
     table: &mut [u8; TABLE_BYTES],
     registered: RegisteredWrite,
     id: u8,
@@ -171,19 +146,20 @@ fn hear_packet(
     let mut body = [0u8; MAX_BODY];
     let n = unstuffed(packet::unstuff(found, &mut body));
     let part = first(&body, n);
-    print_packet(id, part);
+    print_packet(rt, id, part);
     let heard = device_dispatch::Heard::Packet;
-    answer(table, registered, heard, id, part)
+    answer(rt, table, registered, heard, id, part)
 }
 
 fn hear_bad_checksum(
+    rt: &impl Print,
     table: &mut [u8; TABLE_BYTES],
     registered: RegisteredWrite,
     id: u8,
 ) -> RegisteredWrite {
-    print_bad_checksum(id);
+    print_bad_checksum(rt, id);
     let heard = device_dispatch::Heard::BadChecksum;
-    answer(table, registered, heard, id, b"")
+    answer(rt, table, registered, heard, id, b"")
 }
 
 fn is_event(event: StepEvent) -> bool {
@@ -196,14 +172,21 @@ fn is_event(event: StepEvent) -> bool {
 }
 
 fn hear_event(
+    rt: &impl Print,
     table: &mut [u8; TABLE_BYTES],
     registered: RegisteredWrite,
     event: StepEvent,
     found: &[u8; MAX_PACKET],
 ) -> RegisteredWrite {
     match event {
-        StepEvent::Packet { id, size } => hear_packet(table, registered, id, first(found, size)),
-        StepEvent::BadChecksum { id } => hear_bad_checksum(table, registered, id),
+        StepEvent::Packet { id, size } => hear_packet(
+            rt,
+            table,
+            registered,
+            id,
+            first(found, size),
+        ),
+        StepEvent::BadChecksum { id } => hear_bad_checksum(rt, table, registered, id),
         StepEvent::Silent => registered,
         StepEvent::Refused(_) => registered,
     }
@@ -227,6 +210,7 @@ fn next(
 // Feeds the segment until a call gives no event, and then ends it: gap calls until nothing is left. A loop must be bounded to be
 // proved to end: this one would stop after 2^64 - 1 calls.
 fn hear_segment(
+    rt: &impl Print,
     segment: &[u8],
     table: &mut [u8; TABLE_BYTES],
     waiting: RegisteredWrite,
@@ -244,7 +228,7 @@ fn hear_segment(
         at += buffers::least(step.taken, segment.len() - at);
         let event = step.event;
         if is_event(event) {
-            registered = hear_event(table, registered, event, &found);
+            registered = hear_event(rt, table, registered, event, &found);
         } else if over {
             break;
         } else {
@@ -255,12 +239,12 @@ fn hear_segment(
     registered
 }
 
-fn new_device(table: &mut [u8; TABLE_BYTES], id: u8, low: u8, high: u8) {
+fn new_device(rt: &impl Print, table: &mut [u8; TABLE_BYTES], id: u8, low: u8, high: u8) {
     let position = (low as u16) + (high as u16) * 256;
     table_access::fresh(table);
     table_access::measure(table, position as i32, 0);
     table[7] = id;
-    print_device(id, position as u64);
+    print_device(rt, id, position as u64);
 }
 
 fn is_known(kind: u8, n: usize) -> bool {
@@ -269,26 +253,27 @@ fn is_known(kind: u8, n: usize) -> bool {
 
 // The registered write as the record leaves it; the record is of a known form.
 fn record(
+    rt: &impl Print,
     kind: u8,
     bytes: &[u8],
     table: &mut [u8; TABLE_BYTES],
     registered: RegisteredWrite,
 ) -> RegisteredWrite {
     if kind == 0 {
-        print_text(bytes);
+        print_text(rt, bytes);
         registered
     } else if kind == 1 {
         if bytes.len() == 3 {
-            new_device(table, bytes[0], bytes[1], bytes[2]);
+            new_device(rt, table, bytes[0], bytes[1], bytes[2]);
         }
         device_instructions::dropped()
     } else {
-        hear_segment(bytes, table, registered)
+        hear_segment(rt, bytes, table, registered)
     }
 }
 
 // Returns the count of bytes in the records that were read.
-fn records(input: &[u8], table: &mut [u8; TABLE_BYTES]) -> usize {
+fn records(rt: &impl Print, input: &[u8], table: &mut [u8; TABLE_BYTES]) -> usize {
     let mut registered = device_instructions::dropped();
     let mut at = 0;
     while 2 <= input.len() - at {
@@ -297,18 +282,16 @@ fn records(input: &[u8], table: &mut [u8; TABLE_BYTES]) -> usize {
         if input.len() - at - 2 < n || !is_known(kind, n) {
             break;
         }
-        registered = record(kind, &input[at + 2..at + 2 + n], table, registered);
+        registered = record(rt, kind, &input[at + 2..at + 2 + n], table, registered);
         at += 2 + n;
     }
     at
 }
 
-fn main() {
-    let mut input = io::large_buffer();
-    let n = io::read_full(STDIN_FILENO, &mut input);
+fn main(rt: HostRuntime) {
+    let mut buffer = [0u8; 65536];
+    let n = input::read(&mut rt.stdin(), &mut buffer).count;
     let mut table = [0u8; TABLE_BYTES];
-    let read = records(&input[..n], &mut table);
-    io::write_all(STDOUT_FILENO, b"end");
-    print_number(read as u64);
-    print_end();
+    let read = records(&rt, &buffer[..n], &mut table);
+    let _ = println!(rt; "end {read}");
 }

@@ -1,0 +1,16 @@
+use mathlib.Core.Path.{◌≡◌, refl, sym, ap, ◌∙◌}
+use Prim.Native.Nat.{◌-◌}
+use native.Mathlib.Omega.{arith}
+use lib.ListN.{length}
+use Rattle.reader_plain.proofs.Left.{left}
+use Rattle.log_index.specs.Last.{last_packet}
+use Rattle.log_index.specs.Marks.{offset_of}
+use Rattle.log_index.proofs.Rounds.{or_else, last_start, packet_less, last_here, last_other, bad_less, last_bad, last_end}
+use borrow.Author.Rules.{rules}
+use Rattle.log_index.proofs.last_in.Given as goal
+
+abbrev pub invariant-loop-offset : goal.invariant-loop-offset
+invariant-loop-offset l = or_else (last_packet l.wanted (left l.segment 0)) l.initial.last ≡ or_else (last_packet l.wanted (left l.segment l.from)) l.last
+
+abbrev pub decreases-loop-offset : goal.decreases-loop-offset
+decreases-loop-offset l = length l.segment - l.from

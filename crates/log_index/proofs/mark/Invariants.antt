@@ -1,0 +1,16 @@
+use mathlib.Core.Path.{◌≡◌, refl, sym, ap, ◌∙◌}
+use Prim.Native.Nat.{◌-◌}
+use native.Mathlib.Omega.{arith}
+use lib.ListN.{length}
+use Rattle.reader_plain.proofs.Left.{left}
+use Rattle.log_index.specs.Marks.{marked}
+use Rattle.log_index.proofs.Rounds.{packet_less, mark_packet, bad_less, mark_bad, mark_end, all_left}
+use Rattle.log_index.proofs.Marks.{position_within}
+use borrow.Author.Rules.{rules}
+use Rattle.log_index.proofs.mark.Given as goal
+
+abbrev pub invariant-loop-next : goal.invariant-loop-next
+invariant-loop-next l = marked l.number l.initial.index (left l.segment 0) ≡ marked l.number l.index (left l.segment l.from)
+
+abbrev pub decreases-loop-next : goal.decreases-loop-next
+decreases-loop-next l = length l.segment - l.from

@@ -74,7 +74,7 @@ pub step_is : (p : Protocol) (count : ℕ) (h : List ℕ) (c : Call) (held bytes
 step_is p count h c held bytes step l w =
     let r = call (rules_of p) h c in
     rw (le-leb count (most_held p) l)
-    (of_fields step _ w.taken-is w.count_is
+    (of_fields step _ w.taken_is w.count_is
     (w.event_is ∙ event_is p r.answer bytes (packet_good (rules_of p) (laws p) h c) w.bytes_are))
 
 pub answered : (p : Protocol) (count : ℕ) (h : List ℕ) (c : Call) (held₀ bytes₀ held bytes held' bytes' : List ℕ) (step : Step)
@@ -88,7 +88,7 @@ answered p count h c held₀ bytes₀ held bytes held' bytes' step l m n w e =
     let front = ap (λ (k : ℕ). take k bytes) size ∙ w.bytes_are in
     let event = w.event_is ∙ event_is p r.answer bytes (packet_good (rules_of p) (laws p) h c) w.bytes_are in
     rw (le-leb count (most_held p) l) (
-      of_fields step _ w.taken-is w.count_is event,
+      of_fields step _ w.taken_is w.count_is event,
       cleared_is held held' r.held step.held (most_held p) m w.count_is w.held_is e.0,
       cleared_is bytes bytes' (packet_bytes r.answer) (size_in step.event) (rules_of p).longest n size front e.1,
     )

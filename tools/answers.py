@@ -80,6 +80,7 @@ class Function:
         self.todo = 0
         self.unknown = []
         self.raw = self.raw_now = False
+        self.helpers = {}
 
     def place(self, old):
         return self.old_place.get(norm(old))
@@ -175,6 +176,8 @@ class Function:
             elif s == "came":
                 s = "branch"
             out.append(s)
+        if callee and len(out) > 1 and out[0] == "auto" and out[1].isdigit() and len(LENT.get(callee, [])) == 1:
+            out[1] = LENT[callee][0]
         if callee and len(out) > 1 and out[0] == "new" and out[1].isdigit():
             lent = LENT.get(callee, [])
             k = 1
@@ -251,7 +254,17 @@ def tail_tuple(body):
 def labelled(body, labels):
     t = tail_tuple(body)
     if not t:
-        return body
+        if "record {" in body or re.match(r"rw |simp |elim |λ", body.strip()):
+            return body
+        at = max(body.rfind(" in "), body.rfind(" in\n"))
+        head, last = ("", body) if at < 0 else (body[:at + 3], body[at + 3:])
+        if re.match(r"\s*(rw |simp |elim |λ|search|grind|omega)", last):
+            return body
+        fields, path = [], ""
+        for k, l in enumerate(labels):
+            fields.append("%s = both%s" % (l, path + (".0" if k + 1 < len(labels) else "")))
+            path += ".1"
+        return head + (" " if head else "") + "let both = " + last.strip() + " in record { " + "; ".join(fields) + " }"
     head, tup = t
     parts = split_tuple(tup)
     if not parts or len(parts) < 2:
@@ -406,6 +419,8 @@ class Body:
     def paths(self, text):
         def sub(m):
             root, segs = m.group(1), m.group(2)
+            before = re.search(r"(" + NAME + r")\s+\(?$", text[:m.start()])
+            helper = self.fn.helpers.get(before.group(1)) if before else None
             if root in self.ens and segs:
                 return root + "." + ".".join(self.fn.by_label(self.ens[root], segs.split(".")[1:]))
             if root in self.steps and segs and segs.startswith(".ensures."):
@@ -418,7 +433,10 @@ class Body:
                 self.fn.todo += 1
                 return "(TODO %s)" % m.group(0)
             if r[1] is None:
-                return self.placed(root, r[0])
+                k, home = self.env[root][3], self.env[root][3]
+                while helper is not None and k is not None and k != helper:
+                    k = self.fn.parent(k)
+                return self.placed(root, helper if helper is not None and k == helper else r[0])
             return self.env[root][0] + "." + ".".join(r[1])
         return PATH.sub(sub, text)
 
@@ -429,6 +447,16 @@ def convert(fn, text):
     inv_names = set()
     loops = {norm(l[0][0]): (l, ch) for l, ch in zip(fn.j["loops"], fn.j["changed"])}
     locals_used = {}
+    # what helpers are over
+    for comment, lines in blocks(text):
+        t = "\n".join(lines)
+        m = re.match(r"module _ \((" + NAME + r") : tie\.(\S+?)((?: [^()\s]+)*)\)", t)
+        if m and fn.place(m.group(2)) is not None:
+            for q in re.finditer(r"(?m)^  (?:abbrev )?(" + NAME + r") :", t):
+                fn.helpers[q.group(1)] = fn.canon(fn.place(m.group(2)))
+        m = re.match(r"(?:abbrev )?(" + NAME + r") : \((" + NAME + r") : tie\.(\S+?)((?: [^()\s]+)*)\)", t)
+        if m and fn.place(m.group(3)) is not None:
+            fn.helpers[m.group(1)] = fn.canon(fn.place(m.group(3)))
     for comment, lines in blocks(text):
         first = lines[0]
         if first.startswith("use "):
@@ -485,7 +513,7 @@ def convert(fn, text):
             at = fn.old_place.get(norm(fn.j["asked_at"][k][0]))
             env = {args[0]: ("c", at, False, at)} if args and at is not None else {}
             fn.raw_now = False
-            body = Body(fn, env, new).turn(re.sub(r"not-(?:true|false) _ (" + NAME + r"\.[\w.'-]+)", r"\1", b))
+            body = Body(fn, env, new).turn(re.sub(r"not-(?:true|false) (?:_|[\w.]+) (" + NAME + r"\.[\w.'-]+)", r"\1", b))
             if "⊎_elim" in body and ".branch" in body:
                 fn.todo += 1
             asked = fn.j["asked"].get(new) or fn.j["asked"].get(fn.needs[k][0])
@@ -522,7 +550,7 @@ def convert(fn, text):
             fn.used.add(fn.byname[i])
             return "(%s : %s)" % (q.group(1), fn.byname[i])
         fn.raw_now = fn.raw
-        text_ = re.sub(r"not-(?:true|false) _ (" + NAME + r"\.[\w.'-]+)", r"\1", text_)
+        text_ = re.sub(r"not-(?:true|false) (?:_|[\w.]+) (" + NAME + r"\.[\w.'-]+)", r"\1", text_)
         b = Body(fn, env, None)
         t = re.sub(r"\((" + NAME + r") : tie\.(\S+?)((?: [^()\s]+)*)\)", place_type, text_)
         # the signature and each equation: paths from the place

@@ -17,8 +17,7 @@ use Rattle.table_rules.specs.declared.PositionLimits.{PositionLimits}
 use Rattle.device_instructions.specs.Registered.{same_limits}
 use Rattle.device_instructions.specs.declared.RegisteredWrite.{RegisteredWrite}
 use borrow.Author.Rules.{rules}
-use Rattle.device_instructions.proofs.same_limits.Statement.{statement}
-use Rattle.device_instructions.proofs.same_limits.Tie as tie
+use Rattle.device_instructions.proofs.same_limits.Goals as goal
 
 -- the tests of the words, one after the other, of limits that are those in the table
 module _ (table : List ℕ) (w : RegisteredWrite) (l : PositionLimits) (e : l ≡ limits_in table) (s : length table ≡ table_size)
@@ -34,28 +33,13 @@ module _ (table : List ℕ) (w : RegisteredWrite) (l : PositionLimits) (e : l �
       → eqb (of_z w32 l.max) (of_z w32 w.max) ≡ same_limits table w
   same_min h k t = same_words l.max w.max h k ∙ (rw (sym (same_words l.min w.min f g) ∙ eq-eqb _ _ t) at by_both)
 
-limits-in-requires : tie.Need-limits-in-requires
-limits-in-requires c κs = search rules
+pub returns-then-limits-registered : goal.returns-then-limits-registered
+returns-then-limits-registered c =
+    same_min c.args.table.now c.args.registered c.limits_in-limits.result c.limits_in-limits.ensures c.requires
+    (search rules) (search rules) (search rules)
+    (search rules) c.if-limits-registered.true
 
-returns : tie.Need-returns
-returns c =
-    let k = c.before.before.before.before in
-    let w = k.before.struct-told2.given in
-    let t = k.before.before.before in
-    let l = t.before.before in
-    let a = l.before.before in
-    same_min a.args.table.now a.args.registered l.limits-in.result l.limits-in.ensures a.requires
-    (record { sfits = t.struct_told.given.0.1 }) (record { sfits = w.1.1.1.0.1 }) (record { sfits = t.struct_told.given.1.0.1 })
-    (record { sfits = w.1.1.1.1.0.1 }) k.if1.true
-
-returns-2 : tie.Need-returns-2
-returns-2 c =
-    let w = c.before.struct-told2.given in
-    let t = c.before.before.before in
-    let l = t.before.before in
-    let a = l.before.before in
-    other_min a.args.table.now a.args.registered l.limits-in.result l.limits-in.ensures a.requires
-    (record { sfits = t.struct_told.given.0.1 }) (record { sfits = w.1.1.1.0.1 }) c.if1.false
-
-pub same_limits_spec : {M : Type 1} → statement M
-same_limits_spec = tie.close (tie.spec limits-in-requires returns returns-2)
+pub returns-else-limits-registered : goal.returns-else-limits-registered
+returns-else-limits-registered c =
+    other_min c.args.table.now c.args.registered c.limits_in-limits.result c.limits_in-limits.ensures c.requires
+    (search rules) (search rules) c.if-limits-registered.false

@@ -1,0 +1,14 @@
+use mathlib.Core.Path.{◌≡◌, sym, ◌∙◌}
+use borrow.Author.Tests.{leb-true}
+use Rattle.log_parts.proofs.Numbers.{put_fits, put_not}
+use borrow.Author.Rules.{rules}
+use Rattle.log_parts.proofs.put_header.Goals as goal
+
+pub header_in-requires : goal.header_in-requires
+header_in-requires c = leb-true _ _ (sym c.has_room.ensures ∙ c.if-has_room.true)
+
+pub returns-then-has_room : goal.returns-then-has_room
+returns-then-has_room c = c.header_in.ensures ∙ sym (put_fits _ _ _ _ (leb-true _ _ (sym c.has_room.ensures ∙ c.if-has_room.true)))
+
+pub returns-else-has_room : goal.returns-else-has_room
+returns-else-has_room c = sym (put_not _ _ _ _ (sym c.has_room.ensures ∙ c.if-has_room.false))

@@ -22,10 +22,10 @@ use Rattle.device_parameters.specs.Entries.{occurs, entry_good, search_from}
 use Rattle.device_parameters.specs.Parameters.{plain}
 use Rattle.device_parameters.specs.declared.OwnEntry.{OwnEntry}
 use Rattle.device_parameters.specs.declared.OwnEntry.TheVariants.{At, Nothing}
-use Rattle.plan.specs.Goals.{unwanted, goal_of, goal_within, goals_within, goals_refusal, wanted}
+use Rattle.plan.specs.Goals.{unwanted, goal_of, goal_within, goals_within, goals_refusal}
 use Rattle.plan.specs.Plan.{plan_head, goal_at, goal_found, params_of, goals_in, GoalWrite, Plan}
 use Rattle.plan.specs.Planner.{GoalEntry, entries_from, entry_bytes, list_bytes, goal_packet, packets_from, plan_of}
-use Rattle.plan.proofs.Packets.{Rising, lower, rising_take, rising_drop, entries_rise, list_length, body_length}
+use Rattle.plan.proofs.Packets.{Rising, rising_take, rising_drop, entries_rise, list_length, body_length}
 use Rattle.plan.proofs.Wanted.{goals_counted, goals_within_lem}
 
 -- ---- the goals of an ID among entries
@@ -87,7 +87,8 @@ entries_goal [] b i w h = refl
 entries_goal (pos n ∷ goals) b zero w h =
     let v = and_right (goal_within (pos n)) (goals_within goals) w in
     let e : b + 0 ≡ b = omega arith in
-    rw (e, eq-eqb b b refl) (ap (λ (l : List ℕ). n ∷ l) (none_below b (suc b) (entries_from goals (suc b)) (omega arith) (entries_rise goals (suc b) (omega arith) v)))
+    subst (λ (x : ℕ). goals_of x (entries_from (pos n ∷ goals) b) ≡ n ∷ []) (sym e)
+    (rw (eq-eqb b b refl) (ap (λ (l : List ℕ). n ∷ l) (none_below b (suc b) (entries_from goals (suc b)) (omega arith) (entries_rise goals (suc b) (omega arith) v))))
 entries_goal (negsuc n ∷ goals) b zero w h =
     let v = and_right (goal_within (negsuc n)) (goals_within goals) w in
     let e : b + 0 ≡ b = omega arith in
@@ -95,7 +96,8 @@ entries_goal (negsuc n ∷ goals) b zero w h =
 entries_goal (pos n ∷ goals) b (suc i) w h =
     let v = and_right (goal_within (pos n)) (goals_within goals) w in
     let e : b + suc i ≡ suc b + i = omega arith in
-    rw (ne_eqb b (b + suc i) (λ q. omega arith)) (rw e (entries_goal goals (suc b) i v (omega arith)))
+    rw (ne_eqb b (b + suc i) (λ q. omega arith))
+    (subst (λ (x : ℕ). goals_of x (entries_from goals (suc b)) ≡ goal_of (get_or goals i unwanted)) (sym e) (entries_goal goals (suc b) i v (omega arith)))
 entries_goal (negsuc n ∷ goals) b (suc i) w h =
     let v = and_right (goal_within (negsuc n)) (goals_within goals) w in
     let e : b + suc i ≡ suc b + i = omega arith in

@@ -1,14 +1,14 @@
 -- How far a feeding call has come, by what was seen of its window: one round of the loops that take bytes, and their end.
 use mathlib.Core.Path.{◌≡◌, refl, sym, ap, ◌∙◌}
 use mathlib.Core.Bool.{true, false, ◌&&◌}
-use mathlib.Core.List.{List, [], ◌++◌, append-nil, append_assoc}
+use mathlib.Core.List.{List, [], ◌++◌, append_assoc}
 use mathlib.Core.Logic.{◌⊎◌, inl, inr}
 use mathlib.Core.Option.{some}
 use Prim.Native.Nat.{ℕ, zero, suc, ◌+◌, ◌-◌, ◌≤◌, ◌<◌, min}
 use native.Mathlib.Omega.{arith}
 use lib.Dec.{leb, ltb}
 use lib.ListN.{length, take, drop, length-append, length-take, length-drop}
-use lib.Seq.{length-take-le, take_all, take-take, take_at, take-add, drop-drop, drop-append-le, drop-append-add}
+use lib.Seq.{length-take-le, take-take, take_at, take-add, drop-drop, drop-append-le, drop-append-add}
 use borrow.Author.Tests.{leb-true, ltb-true, le-leb, lt-ltb}
 use Rattle.lists.proofs.Bools.{and_left, and_right, both_ways}
 use Rattle.lists.proofs.Parts.{take_least}

@@ -1,21 +1,17 @@
 use mathlib.Core.Path.{◌≡◌, sym, ◌∙◌}
-use mathlib.Core.List.{List, [], ◌∷◌}
-use mathlib.Core.Logic.{◌⊎◌, ⊎_elim, inl, inr}
-use Prim.Native.Nat.{ℕ, ◌+◌, ◌-◌, ◌≤◌, ◌<◌}
+use mathlib.Core.Logic.{◌⊎◌, inl, inr}
+use Prim.Native.Nat.{ℕ, ◌+◌, ◌≤◌, ◌<◌}
 use native.Mathlib.Omega.{arith}
-use types.Run.{miss}
 use lib.ListN.{length, drop}
 use Rattle.packet_rules.specs.declared.Front.{Front}
 use Rattle.packet_rules.specs.declared.Front.TheVariants.{Nothing, Whole}
 use Rattle.packet_rules.specs.Answers.{settled_by}
 use Rattle.packet_rules.specs.declared.Verdict.{Verdict}
 use Rattle.packet_rules.proofs.Peeks.{Peeked, VerdictIs}
-use Rattle.packet_protocols.specs.declared.Protocol.{Protocol}
 use Rattle.packet_protocols.specs.Protocols.{shape_of, rules_of}
 use Rattle.packet_protocols.proofs.Shapes.{laws, settles, some_lacking, some_longest}
 use Rattle.reader_scan.proofs.Seeking.{Sought, sought_start, sought_none, sought_next, sought_packet, sought_bad, sought_end}
 use Rattle.reader_scan.proofs.Peeking.{peek_at, fits_at, judge_at, nothing_at, start_sought}
-use borrow.Author.Rules.{rules}
 use Rattle.reader_scan.proofs.advance.Goals as goal
 use Rattle.reader_scan.proofs.advance.Goals.{in-Nothing, in-Whole, in-Whole-front+in_default-judge_whole, in_default, After-judge_whole, After-next_start-at, After-peek-front, Joined-front}
 

@@ -1,6 +1,5 @@
 use mathlib.Core.Path.{sym}
 use borrow.Author.Tests.{le-leb, lt-leb}
-use borrow.Author.Rules.{rules}
 use Rattle.reader_scan.proofs.back_in_chunk.Goals as goal
 
 pub returns-then-waiting-taken : goal.returns-then-waiting-taken

@@ -1,8 +1,7 @@
-use mathlib.Core.Path.{◌≡◌, refl}
+use mathlib.Core.Path.{refl}
 use native.Mathlib.Omega.{arith}
 use lib.ListN.{length}
 use lib.Seq.{length-take-le}
-use borrow.Author.Rules.{rules}
 use Rattle.packet_rules.proofs.Laws.{undecided}
 use Rattle.packet_protocols.specs.Protocols.{shape_of, rules_of}
 use Rattle.packet_protocols.proofs.Shapes.{laws, shapes_kept}

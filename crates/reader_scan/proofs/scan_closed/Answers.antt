@@ -1,9 +1,6 @@
 use mathlib.Core.Path.{◌≡◌, refl, ◌∙◌}
-use mathlib.Core.List.{List, [], ◌∷◌}
-use mathlib.Core.Logic.{⊎_elim}
-use Prim.Native.Nat.{ℕ, ◌+◌, ◌-◌, ◌≤◌, ◌<◌}
+use Prim.Native.Nat.{◌+◌, ◌≤◌, ◌<◌}
 use native.Mathlib.Omega.{arith}
-use types.Run.{miss}
 use lib.ListN.{length, drop, length-drop}
 use Rattle.reading.specs.Reading.{closed}
 use Rattle.reading.specs.Calls.{first}
@@ -12,12 +9,10 @@ use Rattle.packet_rules.specs.Answers.{settled_by}
 use Rattle.packet_rules.specs.declared.Verdict.{Verdict}
 use Rattle.packet_rules.proofs.Laws.{undecided}
 use Rattle.packet_rules.proofs.Peeks.{Peeked, VerdictIs}
-use Rattle.packet_protocols.specs.declared.Protocol.{Protocol}
 use Rattle.packet_protocols.specs.Protocols.{shape_of, rules_of}
 use Rattle.packet_protocols.proofs.Shapes.{laws, shapes_kept, some_longest}
 use Rattle.reader_scan.proofs.Scans.{scan_packet, scan_bad, scan_nothing, scan_few, scan_end}
 use Rattle.reader_scan.proofs.Peeking.{peek_at, fits_at, peek_past, judge_at, nothing_at, start_at}
-use borrow.Author.Rules.{rules}
 use Rattle.reader_scan.proofs.scan_closed.Goals as goal
 use Rattle.reader_scan.proofs.scan_closed.Goals.{in-Whole+in_default-judge_whole, in_default, After-judge_whole, After-next_start-at, After-peek, In-Whole, Joined-peek}
 

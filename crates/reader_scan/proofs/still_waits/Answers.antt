@@ -1,6 +1,5 @@
 use mathlib.Core.Path.{sym}
 use borrow.Author.Tests.{le-leb, lt-leb}
-use borrow.Author.Rules.{rules}
 use Rattle.reader_scan.proofs.still_waits.Goals as goal
 
 pub returns-then-left-more : goal.returns-then-left-more

@@ -8,7 +8,7 @@ use lib.Dec.{leb}
 use lib.ListN.{length, take, drop, replicate, take-append-drop, drop_of_length-le}
 use borrow.Author.Tests.{leb-true, leb-false, le-leb}
 use borrow.Rule.Slice.PartMut.{mid_of, put_mid, mid_len, Post-is}
-use Rattle.lists.specs.Write.{overwritten, padded}
+use Rattle.lists.specs.Write.{overwritten}
 use Rattle.lists.proofs.Write.{overwritten_zeros}
 use Rattle.reading.specs.Calls.{CallResult, Call, call}
 use Rattle.reading.proofs.Held.{held_bound}

@@ -1,10 +1,10 @@
 -- Held bytes and more after them, one more than can be held, in a buffer with room for them.
-use mathlib.Core.Path.{◌≡◌, sym, ap, ◌∙◌}
+use mathlib.Core.Path.{◌≡◌, ap, ◌∙◌}
 use mathlib.Core.List.{List, [], ◌++◌, append-nil}
 use Prim.Native.Nat.{ℕ, ◌+◌, ◌-◌, ◌≤◌}
 use native.Mathlib.Omega.{arith}
-use lib.ListN.{length, take, drop, length-append, length-drop, length-take, drop_of_length-le}
-use lib.Seq.{take_all, take_at, drop_at, length-take-le}
+use lib.ListN.{length, take, drop, length-append, length-drop, drop_of_length-le}
+use lib.Seq.{take_all, take_at, length-take-le}
 use Rattle.lists.specs.Write.{placed}
 use Rattle.buffers.proofs.Parts.{part_is, placed_whole}
 

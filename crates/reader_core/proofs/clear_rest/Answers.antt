@@ -1,4 +1,3 @@
-use borrow.Author.Rules.{rules}
 use Rattle.reader_core.proofs.clear_rest.Goals as goal
 
 pub returns : goal.returns

@@ -1,4 +1,3 @@
-use borrow.Author.Rules.{rules}
 use Rattle.reader_core.proofs.Deliveries.{replied, stayed}
 use Rattle.reader_core.proofs.deliver.Goals as goal
 

@@ -1,7 +1,6 @@
 use mathlib.Core.Path.{◌∙◌}
 use native.Mathlib.Omega.{arith}
 use lib.ListN.{length-take}
-use borrow.Author.Rules.{rules}
 use Rattle.buffers.proofs.Parts.{placed_whole}
 use Rattle.reader_core.proofs.Deliveries.{replied, stayed}
 use Rattle.reader_core.proofs.deliver_chunk.Goals as goal

@@ -1,6 +1,5 @@
 use mathlib.Core.Path.{refl}
 use borrow.Author.Tests.{lt-leb}
-use borrow.Author.Rules.{rules}
 use Rattle.reader_core.proofs.feed_mercury.Goals as goal
 
 pub returns-then-count-gt-V1_MAX_HELD : goal.returns-then-count-gt-V1_MAX_HELD

@@ -1,12 +1,9 @@
 use borrow.Author.Rules.{rules}
-use types.Run.{miss}
-use mathlib.Core.List.{List, [], ◌∷◌, ◌++◌}
+use mathlib.Core.List.{List, ◌++◌}
 use lib.ListN.{length, take, drop, length-append, length-drop, length-take}
 use lib.Seq.{length-take-le}
 use Rattle.reading.specs.Calls.{CallResult, fed, feed, call}
-use Rattle.reading.specs.Progress.{Reached}
 use Rattle.reading.proofs.Progress.{reached_start}
-use Rattle.packet_protocols.specs.declared.Protocol.{Protocol}
 use Rattle.packet_protocols.specs.Protocols.{rules_of}
 use Rattle.packet_protocols.proofs.Shapes.{laws, some_longest}
 use Rattle.reader_core.specs.declared.Step.{Step}

@@ -1,27 +1,10 @@
-use borrow.Author.Rules.{rules}
-use types.Run.{miss}
-use mathlib.Core.List.{List, [], ◌∷◌, ◌++◌}
-use lib.ListN.{length, take, drop, length-append, length-drop, length-take}
-use lib.Seq.{length-take-le}
-use Rattle.reading.specs.Calls.{CallResult, fed, feed, call}
+use lib.ListN.{length, take, drop}
+use Rattle.reading.specs.Calls.{fed}
 use Rattle.reading.specs.Progress.{Reached}
-use Rattle.reading.proofs.Progress.{reached_start}
-use Rattle.packet_protocols.specs.declared.Protocol.{Protocol}
 use Rattle.packet_protocols.specs.Protocols.{rules_of}
-use Rattle.packet_protocols.proofs.Shapes.{laws, some_longest}
-use Rattle.reader_core.specs.declared.Step.{Step}
 use Rattle.reader_core.specs.Results.{most_held}
-use Rattle.reader_core.specs.Delivered.{Delivered, Stayed, Spared}
-use Rattle.reader_core.proofs.Spared.{call_shorter, reached_taken, filled_stays, none_stays, spared_full, spared}
-use Rattle.reader_scan.specs.declared.Stop.TheVariants.{Full}
-use Rattle.reader_scan.specs.Scan.{Filled}
-use Rattle.packet_rules.specs.Answers.{answer_by}
-use Rattle.packet_rules.proofs.Answers.{was_packet, was_bad}
-use Rattle.reader_core.proofs.Rounds.{filled_rest, room_for, ends_on, ends_fed, passed_fed, filled_done, filled_passed, filled_full}
-use Rattle.reader_core.proofs.Rounds.{full_packet, full_bad, full_other}
-use mathlib.Core.Path.{◌≡◌, refl, sym, ap, ◌∙◌}
-use Prim.Native.Nat.{ℕ, ◌+◌, ◌-◌, ◌≤◌, ◌<◌}
-use native.Mathlib.Omega.{arith}
+use mathlib.Core.Path.{◌≡◌}
+use Prim.Native.Nat.{◌+◌, ◌-◌, ◌≤◌}
 use Rattle.reader_core.proofs.feed_slices.Given as goal
 
 abbrev pub invariant-loop-seen : goal.invariant-loop-seen

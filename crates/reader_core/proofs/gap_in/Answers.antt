@@ -1,6 +1,5 @@
 use mathlib.Core.Path.{refl}
 use borrow.Author.Tests.{lt-leb}
-use borrow.Author.Rules.{rules}
 use Rattle.reader_core.proofs.gap_in.Goals as goal
 
 pub returns-then-count-gt-MAX_HELD : goal.returns-then-count-gt-MAX_HELD

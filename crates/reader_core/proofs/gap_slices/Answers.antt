@@ -1,7 +1,6 @@
 use Rattle.reader_core.proofs.Rounds.{room_for, gap_nothing, gap_decided}
 use lib.Seq.{length-take-le}
-use types.Run.{miss}
-use mathlib.Core.List.{List, [], ◌∷◌}
+use mathlib.Core.List.{List}
 use mathlib.Core.Path.{◌≡◌, refl, sym}
 use Prim.Native.Nat.{ℕ}
 use native.Mathlib.Omega.{arith}

@@ -2,7 +2,6 @@ use mathlib.Core.Path.{ap, ◌∙◌}
 use native.Mathlib.Omega.{arith}
 use Prim.Native.Nat.{ℕ}
 use lib.ListN.{get_or}
-use borrow.Author.Rules.{rules}
 use Rattle.packet_protocols.proofs.Shapes.{id_at_lem}
 use Rattle.reader_core.proofs.Answers.{id_short}
 use Rattle.reader_core.proofs.id_in.Goals as goal

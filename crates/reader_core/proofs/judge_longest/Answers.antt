@@ -1,12 +1,10 @@
-use mathlib.Core.Path.{◌≡◌, sym, ap, ◌∙◌}
+use mathlib.Core.Path.{◌≡◌, ap, ◌∙◌}
 use mathlib.Core.List.{List, ◌++◌}
 use Prim.Native.Nat.{ℕ, ◌≤◌}
 use lib.ListN.{length, take, drop}
-use native.Mathlib.Omega.{arith}
 use Rattle.packet_rules.specs.Answers.{answer_by}
 use Rattle.packet_protocols.specs.Protocols.{rules_of}
 use Rattle.reader_core.proofs.Longest.{longest_placed, longest_some, longest_held}
-use borrow.Author.Rules.{rules}
 use Rattle.reader_core.proofs.judge_longest.Goals as goal
 use Rattle.reader_core.proofs.judge_longest.Goals.{After-place-2}
 

@@ -1,6 +1,5 @@
 use mathlib.Core.Path.{sym, ap}
 use native.Mathlib.Omega.{arith}
-use borrow.Author.Rules.{rules}
 use Rattle.reader_scan.specs.Scan.{on_from}
 use Rattle.reader_core.proofs.on_from.Goals as goal
 

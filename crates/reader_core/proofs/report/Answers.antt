@@ -2,7 +2,6 @@ use mathlib.Core.Path.{refl}
 use native.Mathlib.Omega.{arith}
 use lib.ListN.{length}
 use Prim.Native.Nat.{◌+◌, ◌≤◌}
-use borrow.Author.Rules.{rules}
 use Rattle.reader_core.proofs.Deliveries.{on_packet, size_packet, reports_packet, reports_bad, reports_none}
 use Rattle.reader_core.proofs.report.Goals as goal
 use Rattle.reader_core.proofs.report.Goals.{In-Packet}

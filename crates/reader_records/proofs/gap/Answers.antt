@@ -1,7 +1,6 @@
 use Rattle.reader_records.specs.Records.{step_in, packet_in}
 use Rattle.reader_records.proofs.Records.{record_left, every_protocol}
 use Rattle.packet_protocols.specs.declared.Protocol.TheVariants.{Two}
-use borrow.Author.Rules.{rules}
 use Rattle.reader_records.proofs.gap.Goals as goal
 
 pub returns : goal.returns

@@ -1,0 +1,71 @@
+use mathlib.Core.Path.{◌≡◌, sym, ◌∙◌}
+use mathlib.Core.Option.{none}
+use Prim.Native.Nat.{◌+◌, ◌*◌, ◌/◌, ◌≤◌}
+use native.Mathlib.Omega.{arith}
+use lib.ListN.{length}
+use borrow.Author.Tests.{le-leb, lt-leb}
+use Rattle.answers.proofs.Laws.{counted, refused}
+use Rattle.plan.specs.Goals.{goals_refusal}
+use Rattle.plan.specs.Planner.{plan_of, plan_refusal}
+use Rattle.plan.proofs.Wanted.{goals_counted}
+use Rattle.plan_writer.proofs.Sending.{entries_good, count_few, size_is}
+use Rattle.plan_writer.proofs.write_plan.Goals as goal
+use Rattle.plan_writer.proofs.write_plan.Goals.{After-count_wanted-n}
+
+pub returns-in_default : goal.returns-in_default
+unfolding plan_refusal
+returns-in_default c =
+    let e = refused (goals_refusal c.args.goals.now) 0 _ (sym c.test_goals-tested.ensures ∙ c.in_default.is) in
+    record {
+      value = c.in_default.is ∙ rw e;
+      out_after = rw e;
+    }
+
+-- the goals are not refused, and the size is the plan's
+module _ (k : After-count_wanted-n) where
+  good : goals_refusal k.args.goals.now ≡ none
+  good =
+      (counted (goals_refusal k.args.goals.now) 0 _ (sym k.test_goals-tested.ensures ∙ k.in-Count.is)).0
+
+  few : k.count_wanted-n.result ≤ 253
+  few = count_few k.args.goals.now good k.count_wanted-n.result k.count_wanted-n.ensures
+
+  size : 14 * ((k.count_wanted-n.result + 202) / 203) + 5 * k.count_wanted-n.result ≡ length (plan_of k.args.goals.now)
+  size = size_is k.args.goals.now good k.count_wanted-n.result k.count_wanted-n.ensures
+
+pub overflow_add-size : goal.overflow_add-size
+overflow_add-size c = let f = few c in omega arith
+
+pub overflow_mul-size : goal.overflow_mul-size
+overflow_mul-size c = let f = few c in omega arith
+
+pub overflow_mul-size-2 : goal.overflow_mul-size-2
+overflow_mul-size-2 c = let f = few c in omega arith
+
+pub overflow_add-size-2 : goal.overflow_add-size-2
+overflow_add-size-2 c = let f = few c in omega arith
+
+pub returns-then-out-size : goal.returns-then-out-size
+unfolding plan_refusal
+returns-then-out-size c =
+    let a = c.args in
+    let l = lt-leb (length (plan_of a.goals.now)) (length a.out.now) (omega (arith, size (goal.at.returns-then-out-size c).After-count_wanted-n, c.if-out-size.true)) in
+    record {
+      value = rw (good (goal.at.returns-then-out-size c).After-count_wanted-n, l);
+      out_after = rw (good (goal.at.returns-then-out-size c).After-count_wanted-n, l);
+    }
+
+pub write_packets-requires : goal.write_packets-requires
+write_packets-requires c =
+    let a = c.args in
+    (omega (arith, goals_counted a.goals.now (good (goal.at.write_packets-requires c).After-count_wanted-n)), c.count_wanted-n.ensures, entries_good a.goals.now (good (goal.at.write_packets-requires c).After-count_wanted-n), omega (arith, size (goal.at.write_packets-requires c).After-count_wanted-n, c.if-out-size.false))
+
+pub returns : goal.returns
+unfolding plan_refusal
+returns c =
+    let a = c.args in
+    let l = le-leb (length (plan_of a.goals.now)) (length a.out.now) (omega (arith, size (goal.at.returns c).After-count_wanted-n, c.if-out-size.false)) in
+    record {
+      value = rw (good (goal.at.returns c).After-count_wanted-n, l, size (goal.at.returns c).After-count_wanted-n);
+      out_after = rw (good (goal.at.returns c).After-count_wanted-n, l) c.write_packets.ensures;
+    }

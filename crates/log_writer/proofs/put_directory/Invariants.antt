@@ -1,0 +1,20 @@
+use mathlib.Core.Path.{◌≡◌, refl, sym, ap, subst, ◌∙◌}
+use mathlib.Core.List.{List, [], ◌∷◌, ◌++◌}
+use Prim.Native.Nat.{ℕ, ◌+◌, ◌*◌, ◌-◌, ◌≤◌}
+use native.Mathlib.Omega.{arith}
+use lib.ListN.{length, take, drop, get_or}
+use Rattle.lists.proofs.Filling.{Filling, fill_from, fill_length}
+use Rattle.log_layout.specs.Log.{LogEntry, laid, numbers_of, segments_offset}
+use Rattle.log_writer.specs.Writing.{sum, directory_by}
+use Rattle.log_writer.proofs.Rounds.{sum_turn, directory_end, fill_entry}
+use Rattle.log_parts.proofs.Numbers.{put_fits, filled_end}
+use borrow.Author.Rules.{rules}
+use Rattle.log_writer.proofs.put_directory.Given as goal
+
+abbrev pub invariant-loop-i : goal.invariant-loop-i
+invariant-loop-i l = (l.i ≤ length l.lengths) × (length l.out ≡ length l.initial.out) × (l.start + sum (drop l.i l.lengths) ≡ segments_offset (length l.lengths) + sum l.lengths)
+    × Filling (take 16 l.initial.out ++ laid (numbers_of (directory_by (segments_offset (length l.lengths)) l.lengths)) []) l.initial.out l.out (16 + 8 * l.i)
+    (laid (numbers_of (directory_by l.start (drop l.i l.lengths))) [])
+
+abbrev pub decreases-loop-i : goal.decreases-loop-i
+decreases-loop-i l = length l.lengths - l.i

@@ -1,11 +1,11 @@
-# The gate is `make test`. What rt proves and builds lies under target/, which `rt ci` removes; what is kept lies under build/.
+# The gate is `make test`. What rt proves and builds of a crate lies in its folder out/; what make builds lies under build/.
 # To add a command: `TARGET: WHAT IT TAKES ## TEXT` in its group, with a line `#- VARIABLE=VALUE TEXT` for each of its variables, and
 # its tools under 'Tools'. `make help` prints the texts. A test joins the gate by its name in TESTS of tests/gate.py.
 # To add a program in C: `build/c/NAME: SOURCES ARCHIVES` under 'Programs in C', and its flags where they differ.
 .DEFAULT_GOAL := help
 .SUFFIXES:
 .DELETE_ON_ERROR:
-# rt works in one target/ folder, so two of its runs must never overlap.
+# rt takes all processors by itself.
 .NOTPARALLEL:
 COMMANDS := $(shell awk -v names=1 -f tools/help.awk Makefile)
 # cargo sees by itself what has changed, and is always asked.
@@ -16,7 +16,7 @@ FUZZ := build/rust/release/fuzz
 export TMPDIR := $(or $(shell sh tools/tmp.sh 2>/dev/null),/tmp)
 
 # Each crate of crates.txt whose name begins with capi is an object of libmednukals.a; capi_test alone is libmednukals_test.a.
-EXPORTS := $(filter-out capi_test,$(shell sed -n 's/^\(capi[a-z0-9_]*\):.*/\1/p' crates.txt))
+EXPORTS := $(filter-out capi_test,$(shell sed -n 's/^\(capi[a-z0-9_]*\) staticlib:.*/\1/p' crates.txt))
 LIB := build/lib/libmednukals.a
 LIBS := $(LIB) build/lib/libmednukals_test.a
 # The same over another checksum function, crc16_LEAF; what is measured over it has its name behind it.
@@ -25,8 +25,9 @@ LEAF_LIBS := $(LEAVES:%=build/lib/libmednukals_%.a)
 MADE_LIBS = $(if $(TARGET),$(TARGET_LIB),$(if $(LEAF),build/lib/libmednukals_$(LEAF).a build/$(LEAF)/libmednukals_test.a,$(LIBS)))
 OVER := $(LEAF:%=_%)
 
-# Folders stand in the list too, so that a file added or removed counts as a change.
-SOURCES := crates.txt $(shell find crates -path '*/must-fail' -prune -o -print)
+# Folders stand in the list too, so that a file added or removed counts as a change; but not those of the crates themselves, in which
+# rt makes out/.
+SOURCES := crates.txt $(shell find crates -mindepth 2 \( -name must-fail -o -name out \) -prune -o -print)
 include tools/targets/targets.mk
 $(if $(filter-out $(LEAVES),$(LEAF)),$(error mednukals: LEAF=$(LEAF): only $(LEAVES:%=LEAF=%) are known))
 $(if $(LEAF),$(if $(filter-out lib install uninstall $(if $(TARGET),demo,bench counts) memory,$(MAKECMDGOALS)),$(error mednukals: LEAF is for make lib, make install, make uninstall, make bench, make counts and make memory)))
@@ -76,9 +77,8 @@ checksum: build/bin/checksum ## print the checksum and byte count of a file, by 
 #- CAPTURE=FILE a file of your own; - is standard input
 	@sh tools/run_program.sh $< '[0-9a-f]{4} [0-9]+' 'checksum and byte count of' "$${MEDNUKALS_CAPTURE:-examples/ping.bin}"
 
-build/bin/line build/bin/checksum: build/bin/%: $(SOURCES)
-	@$(call need,rt)$(STEP) program-$* 'proving and building the program $*' rt check $*
-	@mkdir -p $(@D) && cp target/bin/$* $@
+build/bin/line build/bin/checksum: build/bin/%: $(SOURCES) tools/prove.py
+	@$(call need,rt python3)$(STEP) program-$* 'proving and building the program $*' python3 tools/prove.py program $* $@
 
 demo: $(if $(TARGET),$(BARE_BOARD) $(wildcard build/c/dxl),build/c/board build/c/uart_pty build/c/dxl) ## run a device in C on a pseudo-terminal, talk to it and show the exchanges
 #- TARGET=NAME on an emulated Cortex-M0, thumbv6m, or Cortex-M4, thumbv7em, with dxl only if that is built; LEAF=NAME as for make lib
@@ -90,18 +90,13 @@ lib: $(MADE_LIBS) ## prove the exports and build what C links, archives and a sh
 #- TARGET=NAME for another processor, thumbv6m, thumbv7em, rv32imac or i686, under build/lib/NAME
 	@echo 'libraries: $^'
 
-$(LIB): CRATES := $(EXPORTS)
-build/lib/libmednukals_test.a: CRATES := capi_test
-# rt staticlib proves one crate at a time; what the exports stand on is proved before, as many at a time as in the gate.
-$(LIBS): $(SOURCES) tools/join.sh
-	@$(call need,rt ar)RT_JOBS=$${RT_JOBS:-$$((2 * $$(nproc)))} $(STEP) below 'proving what the exports stand on' \
-	    rt check $$(sed -n 's/^capi[a-z0-9_]*: *//p' crates.txt)
-	@$(foreach crate,$(CRATES),$(STEP) archive-$(crate) 'proving the exports of $(crate)' rt staticlib $(crate) &&) true
-	@mkdir -p $(@D) && sh tools/join.sh $@ $(CRATES:%=target/staticlib/lib%.a) || $(call failed,building $@)
+# They come with what the compiler was handed for them: the libraries for other processors are made of that (tools/targets/targets.mk).
+ARCHIVES_TOOLS := tools/prove.py tools/join.sh tools/targets/record.py tests/archives.py
+$(LIBS) $(call modules,table) &: $(SOURCES) KIT $(ARCHIVES_TOOLS)
+	@$(call need,rt python3 ar)$(STEP) archives 'proving the exports and building the archives' python3 tools/prove.py archives
 
-# The callers of the checksum function are proved over another one in a copy of the tree, so that this may run beside rt.
-$(LEAF_LIBS): build/lib/libmednukals_%.a: $(SOURCES) KIT tests/other_leaf.py tests/archives.py tools/join.sh
-	@$(call need,rt python3)$(STEP) archive-$* 'proving the exports over crc16_$* and building $@' python3 tests/other_leaf.py crc16_$* build/$*
+$(LEAF_LIBS): build/lib/libmednukals_%.a: $(SOURCES) KIT tests/other_leaf.py $(ARCHIVES_TOOLS)
+	@$(call need,rt python3 ar)$(STEP) archive-$* 'proving the exports over crc16_$* and building $@' python3 tests/other_leaf.py crc16_$* build/$*
 	@mkdir -p $(@D) && cp build/$*/libmednukals.a $@
 $(LEAVES:%=build/%/libmednukals_test.a): build/%/libmednukals_test.a: build/lib/libmednukals_%.a ;
 dxl: build/c/dxl ## build the tool dxl, for captures, line logs, plans of goals and devices on a serial line: build/c/dxl
@@ -111,7 +106,7 @@ include tools/install.mk
 
 ### prove and test it
 
-# rt ci comes last: it removes target/, and its count is the last line. The tests that link the archives run beside it.
+# rt ci comes last: its count is the last line. The tests that link the archives run beside it.
 test: kit format promises_test constants_test vectors_test make_test ## the gate: every proof from nothing, every must-fail edit, and all that follows down to targets_test
 	@python3 tests/gate.py rt ci
 
@@ -120,7 +115,7 @@ kit: ## the tools that are needed, and the kit's version
 	@echo "kit: $$(rt version)"
 	@[ "$$(rt version)" = "$$(cat KIT)" ] || echo "WARNING: the project is written for the kit $$(cat KIT)" >&2
 format: ## the layout of the Rattle files
-	@$(STEP) format 'layout of the Rattle files (make fmt puts it right)' rt fmt --check
+	@$(STEP) format 'layout of the Rattle files (make fmt puts it right)' sh tools/layout.sh --check
 promises_test: ## docs/PROMISES.md and docs/BELIEVE.md beside the tree
 	@$(STEP) promises 'docs/PROMISES.md beside the tree' python3 tools/promises.py --check
 	@$(STEP) check_believe 'docs/BELIEVE.md beside the tree' python3 tests/check_believe.py
@@ -235,9 +230,9 @@ promises: ## write docs/PROMISES.md from the comments in the tree, and say what 
 	@python3 tools/promises.py
 	@python3 tests/check_believe.py --write
 fmt: ## format every Rattle file
-	rt fmt
-clean: ## remove build/ and target/
-	rm -rf build target
+	@sh tools/layout.sh --write
+clean: ## remove build/, and what rt keeps of each crate
+	rm -rf build crates/*/out
 
 # Programs in C, by one rule: from what a program names, in that order, by COMPILER with FLAGS; where one takes others, it has its own.
 # A header that has changed makes all of them anew.

@@ -12,9 +12,15 @@ FIRMWARE, TESTS = "libmednukals.a", "libmednukals_test.a"
 ONLY_TESTS = "capi_test"
 
 
+def dependencies(text):
+    """The lines of crates.txt by crate: what each stands on."""
+    lines = (line.split("#")[0].split(":") for line in text.splitlines())
+    return {words[0].split()[0]: words[1].split() for words in lines if len(words) == 2}
+
+
 def archives(text):
     """Archive -> its crates, by the text of crates.txt."""
-    crates = re.findall(r"^(capi\w*):", text, flags=re.M)
+    crates = re.findall(r"^(capi\w*) staticlib:", text, flags=re.M)
     return {FIRMWARE: [crate for crate in crates if crate != ONLY_TESTS], TESTS: [ONLY_TESTS]}
 
 

@@ -20,9 +20,9 @@ def applies(name):
 
 
 def module(name):
-    """crate/specs/File.antt as a `use` line names it, from another crate or from its own."""
+    """crate/specs/File.antt as a `use` line names it."""
     crate, _, file = name.split("/")
-    return f"{crate}.specs.{file[:-5]}.", f"{crate}·specs.specs.{file[:-5]}."
+    return f"use Rattle.{crate}.specs.{file[:-5]}."
 
 
 def main():
@@ -53,9 +53,9 @@ def main():
         if there[name] != listed[name]
     ]
     for name in sorted(there.keys()):
-        uses = [line for line in (Path("crates") / name).read_text(encoding="utf-8").splitlines() if line.startswith("use Rattle·")]
+        uses = re.findall(r"^(?:pub )?(use Rattle\..*)$", (Path("crates") / name).read_text(encoding="utf-8"), flags=re.M)
         barred = applied if name in inside else applied | inside
-        named = {other for other in barred for line in uses if line[len("use Rattle·"):].startswith(module(other))}
+        named = {other for other in barred for line in uses if line.startswith(module(other))}
         faults += [f"{name} {'is inside' if name in inside else 'is to be believed'} and names {other}" for other in sorted(named)]
     return report("believe", faults, f"{len(there)} files of definitions with {sum(there.values())} lines, each listed")
 

@@ -48,7 +48,7 @@ def number(text):
 def registers():
     """Name and number of each register's address, size and fresh value, and its comment."""
     text = REGISTERS.read_text(encoding="utf-8")
-    row = r"^(\w+) = register (\S+) (\S+) (?:readOnly|\(read_write \((\w+) (\S+)\) \((\w+) (\S+)\)\)) (rom|ram) (\S+)$"
+    row = r"^(\w+) = register (\S+) (\S+) (?:read_only|\(read_write \((\w+) (\S+)\) \((\w+) (\S+)\)\)) (rom|ram) (\S+)$"
     values, comments = {}, {}
     for name, address, size, low_sign, low, high_sign, high, area, fresh in re.findall(row, text, flags=re.M):
         name = upper(name)
@@ -65,15 +65,15 @@ def registers():
 
 def instructions():
     text = REACTIONS.read_text(encoding="utf-8")
-    found = re.findall(r"\(?cond \(eqb instruction (\S+)\) \((?:heard(\w+)|reacting \(unchanged)", text)
+    found = re.findall(r"\(?cond \(eqb instruction (\S+)\) \((?:heard_(\w+)|reacting \(unchanged)", text)
     return {f"DXL_INST_{upper(name) if name else 'STATUS'}": number(code) for code, name in found}
 
 
 def errors():
     reactions, outcomes = REACTIONS.read_text(encoding="utf-8"), OUTCOMES.read_text(encoding="utf-8")
-    undefined = re.search(r"^heardUndefined all table w = reacting \(refusing table w (\S+)\)", reactions, flags=re.M).group(1)
+    undefined = re.search(r"^heard_undefined all table w = reacting \(refusing table w (\S+)\)", reactions, flags=re.M).group(1)
     checksum = re.search(r"^reaction BadChecksum all table w body = reacting \(refusing table w (\S+)\)", reactions, flags=re.M).group(1)
-    found = re.findall(r"^refusalOf (\w+) = some (\S+)$", outcomes, flags=re.M)
+    found = re.findall(r"^refusal_of (\w+) = some (\S+)$", outcomes, flags=re.M)
     values = {f"DXL_ERROR_{upper(name)}": number(code) for name, code in found if name != "NotTable"}
     alert = re.search(r"\(error % (\S+) \+ \1\)", STATUS.read_text(encoding="utf-8")).group(1)
     return {"DXL_ERROR_INSTRUCTION": number(undefined), "DXL_ERROR_CHECKSUM": number(checksum), "DXL_ERROR_ALERT": number(alert),
@@ -81,12 +81,12 @@ def errors():
 
 
 def refusals():
-    found = re.findall(r"^numberOf (\w+) = (\S+)$", REFUSALS.read_text(encoding="utf-8"), flags=re.M)
+    found = re.findall(r"^number_of (\w+) = (\S+)$", REFUSALS.read_text(encoding="utf-8"), flags=re.M)
     return {f"DXL_{upper(name)}": number(code) for name, code in found}
 
 
 def version():
-    found = re.findall(r"^(version[A-Z]\w+) = (\S+)$", VERSION.read_text(encoding="utf-8"), flags=re.M)
+    found = re.findall(r"^(version_\w+) = (\S+)$", VERSION.read_text(encoding="utf-8"), flags=re.M)
     return {f"DXL_{upper(name)}": number(value) for name, value in found}
 
 
@@ -135,7 +135,7 @@ def main(header):
     values.update(errors())
     values.update(refusals())
     values.update(version())
-    table = number(re.search(r"^tableSize = (\S+)$", REGISTERS.read_text(encoding="utf-8"), flags=re.M).group(1))
+    table = number(re.search(r"^table_size = (\S+)$", REGISTERS.read_text(encoding="utf-8"), flags=re.M).group(1))
 
     faults = [f"{name} is {values[name]} and the header has it not" for name in sorted(values.keys() - there.keys())]
     faults += [f"{name} is in the header and not defined" for name in sorted(there.keys() - values.keys())]

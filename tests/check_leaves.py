@@ -19,7 +19,7 @@ LESS = 400  # bytes, of the 480 that the tables differ by: the code differs too
 
 
 def rows():
-    numbers = [int(word, 16) for word in re.findall(r"^ *(0x[0-9a-f]+),", TABLE.read_text(encoding="utf-8"), flags=re.M)]
+    numbers = [int(word, 16) for word in re.findall(r"\b(0x[0-9a-f]+),", TABLE.read_text(encoding="utf-8"))]
     return [struct.pack(f"<{ROW}H", *numbers[at:at + ROW]) for at in range(0, len(numbers), ROW)]
 
 

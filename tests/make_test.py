@@ -20,32 +20,49 @@ ROOT = Path.cwd()
 INSIDE = {"replay_file"}  # targets that nobody asks for
 PATIENCE = 60  # seconds for one command
 VERSION = re.search(r'^#define DXL_VERSION "(.*)"$', Path("include/mednukals.h").read_text(encoding="utf-8"), flags=re.M).group(1)
-CRATES = "capi: lists\ncapi_other: lists\ncapi_test: lists\n"
+CRATES = "lists:\nline: lists\nchecksum: lists\ncapi staticlib: lists\ncapi_other staticlib: lists\ncapi_test staticlib: lists\n"
+ALL = re.findall(r"^\w+", CRATES, flags=re.M)
 
-PROVED = """fn lists::one: proved
+KEPT = "rt: {} is kept: an earlier run on this machine proved the same files over the same libraries\n"
+PROVED = """== lists
+fn lists::one: proved
 logic=proved functions=1
-rt: lists proved (3 s)
-rt: capi proved (4 s)
+rt: lists proved
+rt: lists: its tests are proved
+rt: lists: trying its must-fail edits (2)
+""" + "".join(map(KEPT.format, ALL[1:]))
+EDITS = """rt: must-fail lists/one.edit: refused, as it must be: src/lib.rt:1:1: error: `returns`
+rt: must-fail lists/two.edit: refused, as it must be (only by a limit of the prover)
+rt: capi: 1 of its 1 must-fail edits were tried by an earlier run on this machine, and nothing that they stand on has changed
+rt: must-fail capi/one.edit: refused, as it must be: src/lib.rt:1:1: error: `returns`
 """
-EDITS = """rt: must-fail lists/one: refused, as it must be (first at src/lib.rt:1:1; 1 s)
-rt: must-fail lists/two: refused, as it must be (first at src/lib.rt:2:1; 1 s)
-rt: must-fail capi/one: refused, as it must be (first at src/lib.rt:1:1; 1 s)
-"""
-RAN = "rt: line ran as nobody, and wrote what its file 'stdout' has (0 s)\n"
-GOOD = PROVED + EDITS + RAN + "rt: ok, 3 crates proved, 3 must-fail edits refused\n6 passed, 0 failed\n"
-SHOWN = """proved from nothing: lists
-proved from nothing: capi
+RAN = "rt: line ran, and wrote what its file stdout has\nrt: line ran (built by Rattle's own compiler), and wrote what its file stdout has\n"
+OK = "rt: ok; handles allowed: none; must-fail edits: 3 refused, 1 of them only by a limit{}; done in this run: 1 of the 6 proofs\n"
+GOOD = PROVED + EDITS + RAN + OK.format("") + "9 passed, 0 failed\n"
+SHOWN = """proved from nothing: lists, after
+trying the must-fail edits of lists, 2, begun after
+proved as they are by an earlier run on this machine: 5 crates
+rt: must-fail lists/two.edit: refused, as it must be (only by a limit of the prover)
 edits refused, as they must be: lists, 2
 edits refused, as they must be: capi, 1
 stored run: line
-rt: ok, 3 crates proved, 3 must-fail edits refused
-proofs, edits and tests, together
-6 passed, 0 failed
+stored run: line (built by Rattle's own compiler)
+""" + OK.format("") + """proofs, edits and tests, together
+9 passed, 0 failed
 """
-BESIDE = "build/lib/libmednukals.a\nbuild/lib/libmednukals_test.a\nall tests\n"
+BESIDE = "archives and programs\nall tests\n"
 
-STATICLIB = f"""mkdir -p target/staticlib && : >$2.o && ar qc target/staticlib/lib$2.a $2.o
-echo the module of $2 >module.bc && [ "$("$RATTLE_HOME/{COMPILER}" -x ir module.bc)" = compiled ]
+# rt ci in the copy for the archives: a file for each program
+RT = """[ "$*" = ci ] && for crate in $(sed 's/:.*//' crates.txt); do
+    mkdir crates/$crate/out && echo "the program $crate" >crates/$crate/out/$crate && echo "rt: $crate proved"
+done
+"""
+RATTLE = """while [ $# -gt 0 ]; do
+    case $1 in --crate-name) name=$2;; --toolchain) toolchain=$2;; -o) made=$2;; --cpu) [ $2 = x86-64 ] || exit;; esac
+    shift
+done
+[ -f src/lib.rt ] && : >$name.o && ar qc "$made" $name.o && echo logic=proved functions=1
+echo the module of $name >module.bc && [ "$("$toolchain/bin/clang" -x ir module.bc)" = compiled ]
 """
 
 VALGRIND = """for word; do
@@ -120,11 +137,12 @@ class Help(unittest.TestCase):
 class Commands(unittest.TestCase):
     """The Makefile in a folder of its own."""
 
-    TOOLS = {**dict.fromkeys(["cargo", "g++", "nm", "python3", "size", "valgrind"], ":"),
+    TOOLS = {**dict.fromkeys(["cargo", "g++", "nm", "rt", "size", "valgrind"], ":"),
              "gcc": 'echo "$@" >>calls; while [ "$1" != -o ]; do shift; done; : >"$2"',
-             "rt": "seq 1000; mkdir -p target/staticlib && : >$2.o && ar qc target/staticlib/lib$2.a $2.o"}
-    BELOW = "proving what the exports stand on"
-    STEPS = f"{BELOW}\nproving the exports of capi\nproving the exports of capi_other\n{BELOW}\nproving the exports of capi_test\n"
+             "python3": """seq 1000; [ "$*" != 'tools/prove.py archives' ] || {
+    mkdir -p build/lib build/table && touch build/lib/libmednukals.a build/lib/libmednukals_test.a build/table/capi.bc build/table/capi_other.bc
+}"""}
+    STEP = "proving the exports and building the archives"
     LIBRARIES = f"libraries: build/lib/libmednukals.a build/lib/libmednukals_test.a build/lib/libmednukals.so.{VERSION}\n"
 
     def setUp(self):
@@ -134,7 +152,10 @@ class Commands(unittest.TestCase):
         for part in ["tools", "include", "cli"]:
             shutil.copytree(part, self.folder / part)
         shutil.copy("Makefile", self.folder)
-        (self.folder / "crates").mkdir()
+        for file in ["tests/archives.py", "KIT"]:
+            (self.folder / file).parent.mkdir(exist_ok=True)
+            shutil.copy(file, self.folder / file)
+        (self.folder / "crates/capi/src").mkdir(parents=True)
         (self.folder / "crates.txt").write_text(CRATES, encoding="utf-8")
         self.path = stand_ins(self.folder, self.TOOLS)
 
@@ -202,18 +223,21 @@ class Commands(unittest.TestCase):
         self.assertEqual(self.make("lib", "dxl"), (0, self.LIBRARIES + "the tool: build/c/dxl\n", ""))
 
     def test_a_line_for_each_step(self):
-        self.assertEqual(self.make("lib"), (0, self.STEPS + self.LIBRARIES, ""))
+        self.assertEqual(self.make("lib"), (0, f"{self.STEP}\n{self.LIBRARIES}", ""))
         self.later("lib")  # a file of the command's name is not what the command makes
         self.assertEqual(self.make("lib"), (0, self.LIBRARIES, ""))
         for change in Path.touch, Path.unlink:
-            self.later("crates/new", change)
-            self.assertEqual(self.make("lib"), (0, self.STEPS + self.LIBRARIES, ""))
+            self.later("crates/capi/src/new", change)
+            self.assertEqual(self.make("lib"), (0, f"{self.STEP}\n{self.LIBRARIES}", ""))
+        self.later("crates/capi/out", Path.mkdir)  # what rt keeps of a crate is none of its files
+        self.later("crates/capi/out/rlib")
+        self.assertEqual(self.make("lib"), (0, self.LIBRARIES, ""))
 
     def test_a_step_fails(self):
-        stand_ins(self.folder, {"rt": "echo the goal does not follow; exit 1"})
+        stand_ins(self.folder, {"python3": "echo the goal does not follow; exit 1"})
         code, output, errors = self.make("lib")
-        self.assertEqual((code, output), (2, f"{self.BELOW}\n"))
-        self.assertRegex(errors, rf"^the goal does not follow\nmednukals: FAILED: {self.BELOW}; .*\nmake: .*\n$")
+        self.assertEqual((code, output), (2, f"{self.STEP}\n"))
+        self.assertRegex(errors, rf"^the goal does not follow\nmednukals: FAILED: {self.STEP}; .*\nmake: .*\n$")
 
     def test_a_program_in_c(self):
         for file in ["cli/dxl.c", "include/mednukals.h", "cli/files.h"]:
@@ -259,50 +283,73 @@ class Gate(unittest.TestCase):
     EARLIER = ["build/lib/earlier/libmednukals.a", "build/lib/libmednukals_fold.a", "build/lib/libmednukals.so.0"]
 
     def gate(self, text, status=0, make=f"for file in build/c {' '.join(EARLIER)}; do [ ! -e $file ] || exit; done; echo all tests",
-             rt=STATICLIB):
+             rt=RT, edits=("lists/one", "lists/two", "capi/one")):
         with tempfile.TemporaryDirectory() as folder:
-            made = [f"target/{part}" for part in ("rlib", "obj", "bin", "log", "stamp")]
-            for part in ["crates", "build/c/of_an_earlier_run", "build/lib/earlier", COMPILER.parent, *made]:
+            for part in ["build/c/of_an_earlier_run", "build/lib/earlier", COMPILER.parent, *(f"crates/{crate}/src" for crate in ALL)]:
                 Path(folder, part).mkdir(parents=True)
-            for file in ["target/bin/line", "target/bin/checksum", *self.EARLIER]:
+            for file in [*(f"crates/{crate}/src/lib.rt" for crate in ALL), *self.EARLIER]:
                 Path(folder, file).touch()
+            for edit in edits:
+                path = Path(folder, "crates", *edit.split("/")[:1], "must-fail", edit.split("/")[1]).with_suffix(".edit")
+                path.parent.mkdir(exist_ok=True)
+                path.touch()
             Path(folder, "crates.txt").write_text(CRATES, encoding="utf-8")
             Path(folder, "said").write_text(text, encoding="utf-8")
-            path = stand_ins(folder, {"rt": rt, "make": make, "ci": f"cat said; sleep 0.2; exit {status}"})
+            path = stand_ins(folder, {"rt": rt, "rattle": RATTLE, "make": make, "ci": f"cat said; sleep 0.2; exit {status}"})
             compiler = Path(folder, COMPILER)
             compiler.write_text("#!/bin/sh\necho compiled\n", encoding="utf-8")
             compiler.chmod(0o755)
-            places = {**os.environ, "PATH": path, "RATTLE_HOME": folder}
-            code, output, errors = run(sys.executable, str(ROOT / "tests/gate.py"), "ci", cwd=folder, env=places)
+            code, output, errors = run(sys.executable, str(ROOT / "tests/gate.py"), "ci", cwd=folder, env={**os.environ, "PATH": path})
             self.assertEqual(Path(folder, "build/log/rt-ci.log").read_text(encoding="utf-8"), text)
             if code == 0:
                 self.assertEqual(run("ar", "t", f"{folder}/build/lib/libmednukals.a")[1], "capi.o\ncapi_other.o\n")
                 self.assertEqual(Path(folder, "build/table/capi.bc").read_text(encoding="utf-8"), "the module of capi\n")
+                self.assertEqual(Path(folder, "build/bin/line").read_text(encoding="utf-8"), "the program line\n")
             return code, untimed(output), errors
 
     def test_good(self):
         code, output, errors = self.gate(GOOD)
         self.assertEqual((code, errors), (0, ""))
         lines = output.splitlines()
-        self.assertEqual(lines[-1], "6 passed, 0 failed")
+        self.assertEqual(lines[-1], "9 passed, 0 failed")
         self.assertEqual(sorted(lines), sorted((SHOWN + BESIDE).splitlines()))
         self.assertEqual([line for line in lines if line in SHOWN.splitlines()], SHOWN.splitlines())
 
     def test_a_crate_is_not_proved(self):
-        said = PROVED + "the goal does not follow\n" * 99 + "rt: capi NOT PROVED (exit 1, 3 s)\nrt: FAILED: capi\n1 passed, 1 failed\n"
+        said = PROVED[:PROVED.index("rt: capi ")] + "the goal does not follow\n" * 99
+        said += "rt: capi NOT PROVED\nrt: FAILED: capi\n1 passed, 1 failed\n"
         code, output, errors = self.gate(said, 1)
         self.assertEqual(code, 1)
         self.assertEqual(output.count("the goal does not follow\n"), 40)
-        self.assertIn("rt: capi NOT PROVED (exit 1, 3 s)\nrt: FAILED: capi\n", output)
+        self.assertIn("rt: capi NOT PROVED\nrt: FAILED: capi\n", output)
         self.assertEqual(errors, "mednukals: FAILED: rt ci; all that it said is in build/log/rt-ci.log\n")
         self.assertTrue(output.endswith("\n1 passed, 1 failed\n"))
 
     def test_an_edit_is_not_refused(self):
-        wrong = "rt: must-fail capi/two: NOT REFUSED: the crate is still proved with this edit (1 s)\n"
-        code, output, _ = self.gate(PROVED + EDITS + wrong + "rt: FAILED: capi/two\n5 passed, 1 failed\n", 1)
+        wrong = "rt: must-fail capi/two.edit: NOT REFUSED: the crate is still proved with this edit (remove it)\n"
+        code, output, _ = self.gate(PROVED + EDITS + wrong + "rt: FAILED: capi/two.edit\n9 passed, 1 failed\n", 1)
         self.assertEqual(code, 1)
         self.assertIn(wrong, output)
-        self.assertTrue(output.endswith("\n5 passed, 1 failed\n"))
+        self.assertTrue(output.endswith("\n9 passed, 1 failed\n"))
+
+    def test_an_edit_is_bad(self):
+        wrong = "rt: must-fail capi/two.edit: BAD EDIT: it changes nothing\n"
+        code, output, errors = self.gate(PROVED + EDITS + wrong + OK.format(", 1 bad") + "9 passed, 0 failed\n")
+        self.assertEqual((code, errors), (1, "mednukals: FAILED: rt ci: 1 must-fail edits are bad; all that it said is in build/log/rt-ci.log\n"))
+        self.assertIn(wrong, output)
+        self.assertNotIn("passed", output)
+
+    def test_an_edit_is_passed_over(self):
+        code, output, errors = self.gate(GOOD, edits=("lists/one", "lists/two", "capi/one", "capi/two"))
+        said = "mednukals: FAILED: rt ci: there are 4 must-fail edits, and 3 are refused; all that it said is in build/log/rt-ci.log\n"
+        self.assertEqual((code, errors), (1, said))
+        self.assertNotIn("passed", output)
+
+    def test_it_does_not_say_that_all_is_ok(self):
+        code, output, errors = self.gate(GOOD.replace("rt: ok;", "rt: well;"))
+        self.assertEqual(code, 1)
+        self.assertIn("it does not say that all is ok", errors)
+        self.assertNotIn("passed", output)
 
     def test_a_test_fails(self):
         code, output, errors = self.gate(GOOD, make="echo a test says no; exit 2")
@@ -312,11 +359,11 @@ class Gate(unittest.TestCase):
 
     def test_an_archive_fails(self):
         code, output, errors = self.gate(GOOD, rt="echo no archive; exit 1")
-        self.assertEqual((code, errors), (1, "mednukals: FAILED: the tests beside rt ci: the archive of capi: no archive\n\n"))
+        self.assertEqual((code, errors), (1, "mednukals: FAILED: the tests beside rt ci: the archives: rt ci: no archive\n\n"))
         self.assertNotIn("passed", output)
 
     def test_the_tests_never_ran(self):
-        code, output, errors = self.gate(PROVED + "4 passed, 0 failed\n")
+        code, output, errors = self.gate(PROVED[:PROVED.index("rt: line ")] + "4 passed, 0 failed\n")
         self.assertEqual((code, errors), (1, "mednukals: FAILED: the tests beside rt ci: they did not run\n"))
         self.assertNotIn("passed", output)
 

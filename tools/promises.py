@@ -17,10 +17,12 @@ import sys
 from collections import defaultdict
 from pathlib import Path
 
-from statements import Statements, read
+from statements import Statements, clauses, read
 
 PAGE = Path("docs/PROMISES.md")
 RULES = Path("docs/RULES.md")
+# the head of a function with its contract: its body's brace stands alone, and where there is no contract it ends the head's last line
+HEAD_OF = r'^(pub )?(?:extern "C" )?fn (\w+)(?:(?:(?!\b(?:ensures|requires|decreases)\b)[^{])*? \{$|.*?^\{)'
 TAG = re.compile(r"\[((?:[A-Z]\d+(?:-[A-Z]\d+)?)(?:[ ,]+[A-Z]\d+(?:-[A-Z]\d+)?)*)\]\s*(?:\*/)?\s*(?:\"\"\")?$")
 
 
@@ -103,7 +105,7 @@ def functions():
     for path in sorted(Path("crates").glob("*/src/**/*.rt")):
         text = read(path)
         lines = text.split("\n")
-        for head in re.finditer(r'^(pub )?(?:extern "C" )?fn (\w+).*?^\{', text, flags=re.M | re.S):
+        for head in re.finditer(HEAD_OF, text, flags=re.M | re.S):
             number = text[:head.start()].count("\n")
             comment = above(lines, number, r"^//", r"^#\[")
             yield path.parts[1], head.group(2), bool(head.group(1)), head.group(), comment, path
@@ -185,7 +187,7 @@ class Tree:
             self.place("definition", tags_of(self, comment, f"{path}: {name}"), (f"{crate}/{path.stem}", name))
         for crate, name, public, head, comment, path in self.functions:
             named = tags_of(self, comment, f"{crate}::{name}")
-            if named and not (public and "ensures {" in head) and "main" not in path.stem:
+            if named and not (public and has(head, "ensures")) and "main" not in path.stem:
                 self.faults.append(f"{crate}::{name} names rules and is no public function with an ensures")
             if "main" not in path.stem:
                 self.place("promise", named, f"{crate}::{name}")
@@ -222,12 +224,13 @@ class Tree:
         for crate, name, public, head, _, path in self.functions:
             if not public:
                 continue
-            if "requires {" in head:
+            if has(head, "requires"):
                 yield f"{crate}::{name} is public and requires something"
-            if "ensures {" not in head:
+            if not has(head, "ensures"):
                 yield f"{crate}::{name} is public and has no ensures"
-            for lent in re.findall(r"(\w+): &(?:'\w+ )?mut ", head):
-                if f"({lent} .exit)" not in head and f"(«{lent}» .exit)" not in head:
+            # what standard input still holds no contract can say
+            for lent in re.findall(r"(\w+): &(?:'\w+ )?mut (?!Stdin\b)", head):
+                if not re.search(rf"(?<![\w.])(?:{lent}|«{lent}»)\.new\b", head):
                     yield f"{crate}::{name} does not say what it leaves of {lent}"
 
     def promised(self):
@@ -264,11 +267,12 @@ class Tree:
                 continue
             parts = self.statements.reached([theorem])
             text = "\n".join("\n".join(texts) for applied, texts in proofs.items() if applied in parts)
+            text = re.sub(r"^(?:pub )?use .*$", "", text, flags=re.M)
             if not any(theorem in self.statements.reached([applied]) or applied in parts for applied in proofs):
                 yield f"{theorem[2]} of crates/{theorem[0]} has no application"
                 continue
             for place, field in self.statements.applied_fields(theorem):
-                if not re.search(rf"[ (]\.{re.escape(field)}(?![\w-])", text):
+                if not re.search(rf"(?<=[\w)'])\.{re.escape(field)}(?![\w'-])", text):
                     yield f"no application of {theorem[2]} uses {place[2]}.{field} of crates/{place[0]}"
 
     def page(self):
@@ -308,6 +312,11 @@ class Tree:
             applied = sorted({f"`{use[0]}/{use[1]}`" for use, theorems in self.statements.applications.items() if set(places) & set(theorems)})
             stands = by_file((f"{crate}/{file}", name) for crate, file, name in places)
             yield "- " + "; ".join(filter(None, [", ".join(stands), exports or "–", ", ".join(applied)]))
+
+
+def has(head, kind):
+    """Whether a function's head has a clause of that kind."""
+    return next(clauses(head, kind), None) is not None
 
 
 def spanned(rules):
@@ -377,7 +386,7 @@ HEAD = """
 From each rule of [RULES.md](RULES.md) to its definitions; the functions that promise it; and the edits and tests that fail if it does not hold, in this order. `tools/promises.py` writes this page from the comments in the tree. An export is listed with the rules about the call itself, and also promises what the functions that it calls promise; a test of everything, as `device.random_calls`, is listed where no other test is.
 
 - `packet_front/Front.good_id` is a definition: `good_id` in `crates/packet_front/specs/Front.antt`; `.name` behind it is in the same file.
-- `dxl_encode` is the contract of an export, `packet_protocols::judge` that of a function in `crates/packet_protocols/src/lib.rt`. Its proof is `proofs/judge/Proof.antt`, unless the checker finds one by itself.
+- `dxl_encode` is the contract of an export, `packet_protocols::judge` that of a function in `crates/packet_protocols/src/lib.rt`. What the checker does not find of its proof by itself stands in `proofs/judge/`.
 - `packet_front/id_253` is an edit: `crates/packet_front/must-fail/id_253.edit`, a change that the checker has to refuse.
 - `verdict.every_id` is a test: `every_id` in the file `verdict` under `tests/`; `.name` behind it is in the same file.
 """

@@ -7,7 +7,7 @@ APPLIED = re.compile(r"crates/(?:\w+/specs/Applied|\w+_applications/specs/\w+)\.
 # what a conclusion states by its name: definitions of the rules, whose own fields no application has to take apart
 BY_NAME = {"WellFormed", "Sound", "Plan", "Laws"}
 BEGINS = re.compile(r"(?:(?:abbrev|unfoldable|pub) )*(?P<sort>record |data )?(?P<name>[^\s(]+)")
-USES = re.compile(r"^(?:ghost )?use Rattle·(\w+)(?:·specs)?\.specs\.(\w+)\.\{(.*)\};?$", flags=re.M)
+USES = re.compile(r"^(?:ghost |pub )?use Rattle\.(\w+)\.specs\.(\w+)\.\{(.*)\};?$", flags=re.M)
 # the parameters of a theorem that is not about one call's arguments: packet rules, a reader, the IDs of a protocol, a number
 GENERAL = re.compile(r"[^:]* (?:\((?:R : Rules|M : AnyReader|good : ℕ → Bool)\) )*: (?:(?:Rules|AnyReader|ℕ) → )*Type [01](?: where)?$")
 
@@ -21,7 +21,7 @@ def definitions(source):
     scopes, found, in_type = [0], [], False
     for line in source.splitlines():
         words, indent = line.strip(), len(line) - len(line.lstrip())
-        if not words or words.startswith(("--", "use ", "pub mod ", "mod ")):
+        if not words or words.startswith(("--", "use ", "pub use ", "pub mod ", "mod ")):
             continue
         while indent < scopes[-1]:
             scopes.pop()
@@ -45,7 +45,7 @@ def brought_in(source):
     """What each name that a file brings in from some specs/ stands for: the crate, the file and the name there."""
     names = {}
     for crate, file, items in USES.findall(source):
-        for item in items.split(", "):
+        for item in items.split(", ") if Path("crates", crate).is_dir() else []:
             name, _, other = item.partition(" as ")
             names[other or name] = (crate, file, name)
     return names
@@ -82,6 +82,16 @@ def conclusion(statement):
         if sign == "→" and depth == 0:
             last = at + 1
     return statement[last:]
+
+
+def clauses(contract, kind):
+    """What stands in the braces of each clause of a kind: `ensures { .. }`, `ensures label { .. }`."""
+    for begin in re.finditer(rf"\b{kind}(?: \w+)? \{{", contract):
+        depth, at = 1, begin.end()
+        while depth:
+            depth += (contract[at] == "{") - (contract[at] == "}")
+            at += 1
+        yield contract[begin.end():at - 1]
 
 
 def named_in(text, scope):
@@ -126,13 +136,11 @@ class Statements:
 
     def cited(self, source, contract):
         """The definitions that a contract names; `source` is the file that it stands in."""
-        clauses = re.findall(r"\bensures \{(.*?)⌝ \}", contract, flags=re.S)
-        return [place for clause in clauses for place in named_in(clause, brought_in(source))]
+        return [place for clause in clauses(contract, "ensures") for place in named_in(clause, brought_in(source))]
 
     def asked(self, source, contract):
         """The definitions that a `requires` names."""
-        clauses = re.findall(r"\brequires \{(.*?)⌝ \}", contract, flags=re.S)
-        return {place for clause in clauses for place in named_in(clause, brought_in(source))}
+        return {place for clause in clauses(contract, "requires") for place in named_in(clause, brought_in(source))}
 
     def led_to(self, source, contract):
         """All definitions that a contract leads to."""

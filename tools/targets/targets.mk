@@ -16,11 +16,8 @@ $(BARE_BOARD): $(TARGET_LIB) $(wildcard examples/bare/*) examples/uart_board.c e
 	@python3 tools/targets/program.py $(TARGET) $< $@ examples/uart_board.c examples/bare/hardware.c
 endif
 
-# What the kit's compiler is handed for x86-64. Over the other checksum functions it comes with their archives.
+# What the kit's compiler is handed for x86-64: it comes with the archives.
 modules = $(EXPORTS:%=build/$(1)/%.bc)
-$(call modules,table) &: $(SOURCES) KIT tools/targets/record.py
-	@$(call need,rt python3)$(STEP) modules 'proving the exports, and keeping what their compiler is handed' \
-	    python3 tools/targets/record.py build/table $(EXPORTS)
 
 # $(call target_rules,LEAF,LIBRARY)
 define target_rules

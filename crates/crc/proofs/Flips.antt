@@ -1,7 +1,7 @@
 -- Flipped bits change the sum by that of the flips and as many bytes of 0 as follow them: from the laws of the sum alone.
 use mathlib.Core.Path.{◌≡◌, refl, sym, ap, ap₂, ◌∙◌}
 use mathlib.Core.List.{List, [], ◌∷◌, ◌++◌}
-use Prim.Native.Nat.{ℕ, ◌+◌, ◌*◌}
+use Prim.Native.Nat.{ℕ, ◌*◌}
 use native.Mathlib.Omega.{arith}
 use lib.Bits.{bit_xor, xor_comm, xor_zero_r}
 use lib.ListN.{length, replicate, length-append, length-replicate}

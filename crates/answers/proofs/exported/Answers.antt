@@ -3,7 +3,6 @@ use mir.Facts.{to_z-of_z}
 use mir.Syntax.{w64}
 use Rattle.answers.specs.declared.Answer.{Answer}
 use Rattle.answers.specs.Answers.{exported}
-use borrow.Author.Rules.{rules}
 use Rattle.answers.proofs.exported.Goals as goal
 
 by_case : (r s : Answer) → r ≡ s → exported s ≡ exported r

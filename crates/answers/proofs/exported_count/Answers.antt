@@ -4,7 +4,6 @@ use native.Mathlib.Omega.{arith}
 use lib.IntN.{pos}
 use mir.Facts.{to_z_pos}
 use mir.Syntax.{w64}
-use borrow.Author.Rules.{rules}
 use Rattle.answers.proofs.exported_count.Goals as goal
 
 pub returns-then-n-le9223372036854775807 : goal.returns-then-n-le9223372036854775807

@@ -1,8 +1,7 @@
-use mathlib.Core.Path.{◌≡◌, refl}
-use Prim.Native.Nat.{ℕ, ◌/◌, ◌%◌}
+use mathlib.Core.Path.{◌≡◌}
+use Prim.Native.Nat.{◌/◌, ◌%◌}
 use native.Mathlib.Omega.{arith}
 use Rattle.lists.specs.Numbers.{bytes_of}
-use borrow.Author.Rules.{rules}
 use Rattle.buffers.proofs.bytes_of.Goals as goal
 
 pub returns : goal.returns

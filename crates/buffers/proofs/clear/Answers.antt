@@ -1,10 +1,6 @@
 use borrow.Author.Rules.{rules}
-use lib.ListN.{length}
-use lib.Seq.{paste}
-use Rattle.buffers.proofs.Buffers.{zeros, clear_start, clear_next, clear_done}
-use mathlib.Core.Path.{◌≡◌, refl, ◌∙◌}
-use Prim.Native.Nat.{◌-◌, ◌≤◌}
-use lib.ListN.{length}
+use Rattle.buffers.proofs.Buffers.{clear_start, clear_next, clear_done}
+use mathlib.Core.Path.{refl, ◌∙◌}
 use Rattle.buffers.proofs.clear.Goals as goal
 
 pub loop-i-init : goal.loop-i-init

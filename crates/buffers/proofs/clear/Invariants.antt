@@ -1,10 +1,8 @@
-use borrow.Author.Rules.{rules}
 use lib.ListN.{length}
 use lib.Seq.{paste}
-use Rattle.buffers.proofs.Buffers.{zeros, clear_start, clear_next, clear_done}
-use mathlib.Core.Path.{◌≡◌, refl, ◌∙◌}
+use Rattle.buffers.proofs.Buffers.{zeros}
+use mathlib.Core.Path.{◌≡◌}
 use Prim.Native.Nat.{◌-◌, ◌≤◌}
-use lib.ListN.{length}
 use Rattle.buffers.proofs.clear.Given as goal
 
 abbrev pub invariant-loop-i : goal.invariant-loop-i

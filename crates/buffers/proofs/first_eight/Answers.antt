@@ -1,7 +1,6 @@
 use mathlib.Core.Path.{◌∙◌}
 use lib.ListN.{take}
 use Rattle.lists.proofs.Write.{overwritten_zeros}
-use borrow.Author.Rules.{rules}
 use Rattle.buffers.proofs.first_eight.Goals as goal
 
 pub returns : goal.returns

@@ -1,5 +1,4 @@
 use Rattle.lists.proofs.Numbers.{sum_is}
-use borrow.Author.Rules.{rules}
 use Rattle.buffers.proofs.number_of.Goals as goal
 
 pub returns : goal.returns

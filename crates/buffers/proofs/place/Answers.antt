@@ -1,8 +1,8 @@
 use borrow.Author.Rules.{rules}
-use mathlib.Core.Path.{◌≡◌, refl, ◌∙◌}
-use Prim.Native.Nat.{◌-◌, ◌≤◌}
+use mathlib.Core.Path.{refl, ◌∙◌}
+use Prim.Native.Nat.{◌-◌}
 use lib.ListN.{length}
-use lib.Seq.{paste, paste-zero}
+use lib.Seq.{paste-zero}
 use Rattle.buffers.proofs.Buffers.{place_next, place_done}
 use Rattle.buffers.proofs.place.Goals as goal
 
@@ -10,8 +10,7 @@ pub loop-i-init : goal.loop-i-init
 loop-i-init c = (search rules, refl, paste-zero _ c.args.at c.args.src.now)
 
 pub loop-i-preserved : goal.loop-i-preserved
-loop-i-preserved c =
-    (
+loop-i-preserved c = (
   search rules,
   search rules,
   place_next _ _ _ _ _ c.loop-i.invariant.2 (search rules)

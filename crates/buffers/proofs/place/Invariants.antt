@@ -1,9 +1,7 @@
-use borrow.Author.Rules.{rules}
-use mathlib.Core.Path.{◌≡◌, refl, ◌∙◌}
+use mathlib.Core.Path.{◌≡◌}
 use Prim.Native.Nat.{◌-◌, ◌≤◌}
 use lib.ListN.{length}
-use lib.Seq.{paste, paste-zero}
-use Rattle.buffers.proofs.Buffers.{place_next, place_done}
+use lib.Seq.{paste}
 use Rattle.buffers.proofs.place.Given as goal
 
 abbrev pub invariant-loop-i : goal.invariant-loop-i

@@ -1,8 +1,7 @@
 use borrow.Author.Rules.{rules}
-use Rattle.buffers.proofs.Buffers.{shifted, shift_next, shift_done, shift_none, shift_empty}
-use mathlib.Core.Path.{◌≡◌, refl, ◌∙◌}
-use Prim.Native.Nat.{◌-◌, ◌≤◌}
-use lib.ListN.{length}
+use Rattle.buffers.proofs.Buffers.{shift_next, shift_done, shift_none, shift_empty}
+use mathlib.Core.Path.{refl, ◌∙◌}
+use Prim.Native.Nat.{◌-◌}
 use Rattle.buffers.proofs.shift.Goals as goal
 
 pub returns-then-from-eq0 : goal.returns-then-from-eq0

@@ -1,6 +1,5 @@
-use borrow.Author.Rules.{rules}
-use Rattle.buffers.proofs.Buffers.{shifted, shift_next, shift_done, shift_none, shift_empty}
-use mathlib.Core.Path.{◌≡◌, refl, ◌∙◌}
+use Rattle.buffers.proofs.Buffers.{shifted}
+use mathlib.Core.Path.{◌≡◌}
 use Prim.Native.Nat.{◌-◌, ◌≤◌}
 use lib.ListN.{length}
 use Rattle.buffers.proofs.shift.Given as goal

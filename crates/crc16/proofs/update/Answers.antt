@@ -1,11 +1,11 @@
 use mathlib.Core.Path.{◌≡◌, ap}
 use mathlib.Core.List.{List}
-use Prim.Native.Nat.{ℕ, ◌-◌, ◌/◌, ◌^◌, ◌<◌}
+use Prim.Native.Nat.{ℕ, ◌/◌, ◌^◌, ◌<◌}
 use native.Mathlib.Omega.{arith}
 use lib.Bits.{xor_zero_r}
-use lib.ListN.{length, get_or}
+use lib.ListN.{get_or}
 use Rattle.crc.specs.Crc.{reduce_if, shift, shifts, crc_from}
-use Rattle.crc.proofs.Lookup.{Rule, rule, entry_lt, kept, met, met_lt, by_byte}
+use Rattle.crc.proofs.Lookup.{rule, entry_lt, kept, met, met_lt, by_byte}
 use Rattle.crc.proofs.Laws.{checksum_laws, Passed, pass_byte, pass_end}
 use Rattle.crc16.proofs.update.Goals as goal
 use Rattle.crc16.proofs.update.Goals.{In-loop-i}

@@ -1,10 +1,8 @@
 use mathlib.Core.Path.{◌≡◌, ◌∙◌}
-use mathlib.Core.Logic.{⊎_elim}
 use Prim.Native.Nat.{◌*◌, ◌%◌, ◌^◌, ◌<◌}
 use native.Mathlib.Omega.{arith}
 use Rattle.crc.specs.Crc.{shifts}
-use Rattle.crc16_flips.proofs.Zeros.{Turn, first, odd, even, next, last}
-use borrow.Author.Rules.{rules}
+use Rattle.crc16_flips.proofs.Zeros.{first, odd, even, next, last}
 use Rattle.crc16_flips.proofs.after_zeros.Goals as goal
 use Rattle.crc16_flips.proofs.after_zeros.Goals.{then-left-eq1, else-left-eq1, After-times-power}
 

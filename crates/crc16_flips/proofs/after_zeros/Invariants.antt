@@ -1,10 +1,4 @@
-use mathlib.Core.Path.{◌≡◌, ◌∙◌}
-use mathlib.Core.Logic.{⊎_elim}
-use Prim.Native.Nat.{◌*◌, ◌%◌, ◌^◌, ◌<◌}
-use native.Mathlib.Omega.{arith}
-use Rattle.crc.specs.Crc.{shifts}
-use Rattle.crc16_flips.proofs.Zeros.{Turn, first, odd, even, next, last}
-use borrow.Author.Rules.{rules}
+use Rattle.crc16_flips.proofs.Zeros.{Turn}
 use Rattle.crc16_flips.proofs.after_zeros.Given as goal
 
 abbrev pub invariant-loop-left : goal.invariant-loop-left

@@ -4,7 +4,6 @@ use Prim.Native.Nat.{ℕ}
 use lib.Bits.{bit_xor}
 use lib.ListN.{replicate}
 use Rattle.crc.specs.Crc.{crc_from}
-use borrow.Author.Rules.{rules}
 use Rattle.crc16_flips.proofs.flipped.Goals as goal
 
 -- the leaf's promise: the flips and then the bytes of 0 are both joined

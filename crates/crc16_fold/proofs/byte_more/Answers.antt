@@ -1,5 +1,4 @@
 use mathlib.Core.Path.{◌∙◌}
-use borrow.Author.Rules.{rules}
 use Rattle.crc16_fold.proofs.Powers.{byte_in}
 use Rattle.crc16_fold.proofs.byte_more.Goals as goal
 

@@ -1,6 +1,5 @@
 use mathlib.Core.Path.{sym, ◌∙◌}
 use Prim.Native.Nat.{◌/◌, ◌^◌}
-use native.Mathlib.Omega.{arith}
 use lib.Bits.{bit_xor}
 use Rattle.crc16_fold.specs.Fold.{parity_part}
 use Rattle.crc16_fold.proofs.Parts.{halved, one_bit}

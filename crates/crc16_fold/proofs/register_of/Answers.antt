@@ -2,7 +2,6 @@ use mathlib.Core.Path.{sym, ap, subst, ◌∙◌}
 use Prim.Native.Nat.{ℕ, ◌^◌, ◌<◌}
 use native.Mathlib.Omega.{arith}
 use lib.Bits.{bit_xor}
-use borrow.Author.Rules.{rules}
 use Rattle.crc16_fold.proofs.Parts.{register_from, register_lt}
 use Rattle.crc16_fold.proofs.register_of.Goals as goal
 

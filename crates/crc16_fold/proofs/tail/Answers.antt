@@ -1,11 +1,11 @@
 use mathlib.Core.Path.{refl, ◌∙◌}
-use mathlib.Core.List.{[], ◌∷◌}
+use mathlib.Core.List.{◌∷◌}
 use Prim.Native.Nat.{◌-◌, ◌^◌, ◌<◌}
 use native.Mathlib.Omega.{arith}
-use lib.ListN.{length, get_or, drop}
+use lib.ListN.{get_or}
 use borrow.Author.Rules.{rules}
 use Rattle.crc.specs.Crc.{crc_from}
-use Rattle.crc.proofs.Laws.{Passed, pass_byte, pass_end}
+use Rattle.crc.proofs.Laws.{pass_byte, pass_end}
 use Rattle.crc16_fold.specs.Fold.{register_of}
 use Rattle.crc16_fold.proofs.Parts.{register_lt, taken_once}
 use Rattle.crc16_fold.proofs.Words.{makes_byte}

@@ -1,14 +1,8 @@
-use mathlib.Core.Path.{refl, ◌∙◌}
-use mathlib.Core.List.{[], ◌∷◌}
 use Prim.Native.Nat.{◌-◌, ◌^◌, ◌<◌}
-use native.Mathlib.Omega.{arith}
-use lib.ListN.{length, get_or, drop}
-use borrow.Author.Rules.{rules}
+use lib.ListN.{length, drop}
 use Rattle.crc.specs.Crc.{crc_from}
-use Rattle.crc.proofs.Laws.{Passed, pass_byte, pass_end}
+use Rattle.crc.proofs.Laws.{Passed}
 use Rattle.crc16_fold.specs.Fold.{register_of}
-use Rattle.crc16_fold.proofs.Parts.{register_lt, taken_once}
-use Rattle.crc16_fold.proofs.Words.{makes_byte}
 use Rattle.crc16_fold.proofs.tail.Given as goal
 
 abbrev pub invariant-loop-i : goal.invariant-loop-i

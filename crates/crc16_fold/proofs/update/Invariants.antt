@@ -1,14 +1,8 @@
-use mathlib.Core.Path.{ap, ◌∙◌}
-use mathlib.Core.List.{◌++◌}
-use Prim.Native.Nat.{ℕ, ◌+◌, ◌-◌, ◌^◌, ◌≤◌, ◌<◌}
-use native.Mathlib.Omega.{arith}
+use Prim.Native.Nat.{◌-◌, ◌^◌, ◌≤◌, ◌<◌}
 use lib.ListN.{length}
-use borrow.Author.Rules.{rules}
 use Rattle.crc.specs.Crc.{crc_from}
-use Rattle.crc.proofs.Laws.{checksum_laws, Passed, pass_part}
+use Rattle.crc.proofs.Laws.{Passed}
 use Rattle.crc16_fold.specs.Fold.{register_of}
-use Rattle.crc16_fold.proofs.Parts.{stands_for_itself, register_lt, taken_twice}
-use Rattle.crc16_fold.proofs.Words.{first_four, last_four, eight_from}
 use Rattle.crc16_fold.proofs.update.Given as goal
 
 abbrev pub invariant-loop-i : goal.invariant-loop-i

@@ -1,15 +1,8 @@
-use mathlib.Core.Path.{◌≡◌, refl}
-use mathlib.Core.List.{List}
-use Prim.Native.Nat.{ℕ, ◌-◌, ◌/◌, ◌%◌, ◌^◌, ◌<◌}
-use native.Mathlib.Nat.{mod-lt}
-use native.Mathlib.Omega.{arith}
-use lib.Pow.{pow_pos}
-use lib.Bits.{bit_xor}
-use lib.ListN.{length, get_or}
-use borrow.Author.Rules.{rules}
-use Rattle.crc.specs.Crc.{reduce_if, shift, shifts, crc_byte, crc_from}
-use Rattle.crc.proofs.Lookup.{Rule, rule, index_lt, looked, looked_lt, by_halves}
-use Rattle.crc.proofs.Laws.{checksum_laws, Passed, pass_byte, pass_end}
+use Prim.Native.Nat.{◌-◌}
+use lib.ListN.{length}
+use Rattle.crc.specs.Crc.{crc_from}
+use Rattle.crc.proofs.Lookup.{Rule}
+use Rattle.crc.proofs.Laws.{Passed}
 use Rattle.crc16_small.proofs.update.Given as goal
 
 abbrev pub invariant-loop-i : goal.invariant-loop-i

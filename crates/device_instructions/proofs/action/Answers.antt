@@ -1,9 +1,8 @@
 use mathlib.Core.Path.{◌≡◌, refl, sym, ap, ◌∙◌}
-use mathlib.Core.List.{[]}
 use Prim.Native.Nat.{◌≤◌}
 use native.Mathlib.Omega.{arith}
 use lib.ListN.{length, length-set, length-take}
-use borrow.Author.Tests.{eq-eqb, not-true, not-false}
+use borrow.Author.Tests.{eq-eqb}
 use Rattle.device_instructions.specs.Instructions.{Effect, action}
 use Rattle.device_instructions.specs.Results.{done_with, done_of}
 use Rattle.device_instructions.proofs.Sized.{done, not_done}

@@ -2,7 +2,6 @@ use mathlib.Core.Path.{refl}
 use Rattle.device_instructions.specs.Instructions.{factory_reset}
 use Rattle.device_instructions.proofs.Sized.{not_done}
 use Rattle.device_instructions.proofs.Options.{option_is, option_other}
-use borrow.Author.Rules.{rules}
 use Rattle.device_instructions.proofs.factory_reset.Goals as goal
 
 pub returns-then-table-ne-TABLE_BYTES : goal.returns-then-table-ne-TABLE_BYTES

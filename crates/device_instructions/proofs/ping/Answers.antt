@@ -5,7 +5,6 @@ use Rattle.device_instructions.specs.Instructions.{ping}
 use Rattle.device_instructions.specs.Results.{done_with}
 use Rattle.device_instructions.proofs.Sized.{done, not_done}
 use Rattle.device_instructions.proofs.Options.{identity_bytes}
-use borrow.Author.Rules.{rules}
 use Rattle.device_instructions.proofs.ping.Goals as goal
 
 pub returns-then-table-ne-TABLE_BYTES : goal.returns-then-table-ne-TABLE_BYTES

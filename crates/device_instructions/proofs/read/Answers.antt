@@ -1,10 +1,7 @@
 use mathlib.Core.Path.{sym, ap, ◌∙◌}
-use mathlib.Core.List.{[]}
 use Prim.Native.Nat.{ℕ}
-use borrow.Author.Tests.{not-true, not-false}
 use Rattle.device_instructions.specs.Results.{done_with}
 use Rattle.device_instructions.proofs.Effects.{read_refused, read_done}
-use borrow.Author.Rules.{rules}
 use Rattle.device_instructions.proofs.read.Goals as goal
 
 pub returns-then-not-is_done : goal.returns-then-not-is_done

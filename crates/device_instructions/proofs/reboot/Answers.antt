@@ -1,11 +1,9 @@
 use mathlib.Core.Path.{refl, ap, ◌∙◌}
-use mathlib.Core.List.{[]}
 use Rattle.table_rules.proofs.Size.{on_table_lem}
 use Rattle.device_instructions.specs.declared.RegisteredWrite.{RegisteredWrite}
 use Rattle.device_instructions.specs.Instructions.{reboot}
 use Rattle.device_instructions.specs.Results.{done_with}
 use Rattle.device_instructions.proofs.Sized.{done, not_done}
-use borrow.Author.Rules.{rules}
 use Rattle.device_instructions.proofs.reboot.Goals as goal
 
 pub returns-then-table-ne-TABLE_BYTES : goal.returns-then-table-ne-TABLE_BYTES

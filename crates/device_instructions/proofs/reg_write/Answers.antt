@@ -1,10 +1,8 @@
 use mathlib.Core.Path.{◌≡◌, sym, ap, ◌∙◌}
 use mathlib.Core.Bool.{true}
-use mathlib.Core.List.{[]}
 use Prim.Native.Nat.{ℕ, ◌≤◌}
 use native.Mathlib.Omega.{arith}
 use lib.ListN.{length}
-use borrow.Author.Tests.{not-true, not-false}
 use Rattle.table_registers.specs.Registers.{table_size}
 use Rattle.table_rules.specs.Outcomes.{is_done}
 use Rattle.table_rules.proofs.WriteStages.{done_none}
@@ -14,7 +12,6 @@ use Rattle.device_instructions.specs.Instructions.{reg_write}
 use Rattle.device_instructions.proofs.Sized.{done}
 use Rattle.device_instructions.proofs.Effects.{reg_write_refused, reg_write_stays, reg_write_sized, reg_write_done, reg_write_table}
 use Rattle.device_instructions.specs.declared.RegisteredWrite.{RegisteredWrite}
-use borrow.Author.Rules.{rules}
 use Rattle.device_instructions.proofs.reg_write.Goals as goal
 use Rattle.device_instructions.proofs.reg_write.Goals.{Else-not-is_done}
 

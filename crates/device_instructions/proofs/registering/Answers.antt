@@ -1,6 +1,6 @@
-use mathlib.Core.Path.{◌≡◌, ap, ap₂, ◌∙◌}
+use mathlib.Core.Path.{ap, ap₂, ◌∙◌}
 use mathlib.Core.List.{List}
-use Prim.Native.Nat.{ℕ, ◌≤◌}
+use Prim.Native.Nat.{ℕ}
 use native.Mathlib.Omega.{arith}
 use lib.ListN.{length}
 use lib.Seq.{take_all}
@@ -10,7 +10,6 @@ use Rattle.lists.specs.Write.{padded}
 use Rattle.table_rules.specs.declared.PositionLimits.{PositionLimits}
 use Rattle.table_rules.proofs.Size.{limits_of_lem}
 use Rattle.device_instructions.specs.declared.RegisteredWrite.{RegisteredWrite}
-use borrow.Author.Rules.{rules}
 use Rattle.device_instructions.proofs.registering.Goals as goal
 
 kept : ℕ → ℕ → List ℕ → PositionLimits → RegisteredWrite

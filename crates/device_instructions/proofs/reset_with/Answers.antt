@@ -1,5 +1,4 @@
 use Rattle.device_instructions.proofs.Options.{then_reboot}
-use borrow.Author.Rules.{rules}
 use Rattle.device_instructions.proofs.reset_with.Goals as goal
 
 pub returns : goal.returns

@@ -1,9 +1,7 @@
 use mathlib.Core.Path.{ap, ◌∙◌}
-use mathlib.Core.List.{[]}
 use Prim.Native.Nat.{ℕ}
 use Rattle.device_instructions.specs.Results.{done_with}
 use Rattle.device_instructions.proofs.Effects.{write_done, write_table}
-use borrow.Author.Rules.{rules}
 use Rattle.device_instructions.proofs.write.Goals as goal
 
 pub returns : goal.returns

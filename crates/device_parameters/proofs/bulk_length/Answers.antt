@@ -1,8 +1,6 @@
-use Prim.Native.Nat.{◌≤◌}
 use native.Mathlib.Omega.{arith}
 use lib.ListN.{length}
 use borrow.Author.Tests.{le-leb, lt-leb}
-use borrow.Author.Rules.{rules}
 use Rattle.device_parameters.proofs.bulk_length.Goals as goal
 
 pub returns-then-rest-lt5 : goal.returns-then-rest-lt5

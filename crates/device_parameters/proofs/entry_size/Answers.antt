@@ -1,4 +1,3 @@
-use borrow.Author.Rules.{rules}
 use Rattle.device_parameters.proofs.Searching.{read_size, write_empty, write_size}
 use Rattle.device_parameters.proofs.entry_size.Goals as goal
 

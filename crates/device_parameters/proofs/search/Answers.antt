@@ -1,12 +1,11 @@
 use mathlib.Core.Path.{refl}
-use mathlib.Core.Logic.{⊎_elim}
 use Prim.Native.Nat.{◌-◌}
 use native.Mathlib.Omega.{arith}
-use lib.ListN.{length, drop, get_or}
+use lib.ListN.{drop, get_or}
 use borrow.Author.Tests.{ne_eqb}
 use borrow.Author.Rules.{rules}
 use Rattle.device_parameters.specs.Parameters.{entry_of}
-use Rattle.device_parameters.proofs.Searching.{Searching, own_entry, none_found, searched, not_good, allowed, fits_here, size_is, not_whole, no_id, again, some_bytes, own_next, other_next}
+use Rattle.device_parameters.proofs.Searching.{none_found, searched, not_good, allowed, fits_here, size_is, not_whole, no_id, again, some_bytes, own_next, other_next}
 use Rattle.device_parameters.proofs.search.Goals as goal
 use Rattle.device_parameters.proofs.search.Goals.{then-marks-k-ne0+else-marks-k-eq-PASSED, else-marks-k-ne0}
 

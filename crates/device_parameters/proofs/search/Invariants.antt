@@ -1,12 +1,7 @@
-use mathlib.Core.Path.{refl}
-use mathlib.Core.Logic.{⊎_elim}
 use Prim.Native.Nat.{◌-◌}
-use native.Mathlib.Omega.{arith}
-use lib.ListN.{length, drop, get_or}
-use borrow.Author.Tests.{ne_eqb}
-use borrow.Author.Rules.{rules}
+use lib.ListN.{length, get_or}
 use Rattle.device_parameters.specs.Parameters.{entry_of}
-use Rattle.device_parameters.proofs.Searching.{Searching, own_entry, none_found, searched, not_good, allowed, fits_here, size_is, not_whole, no_id, again, some_bytes, own_next, other_next}
+use Rattle.device_parameters.proofs.Searching.{Searching, own_entry}
 use Rattle.device_parameters.proofs.search.Given as goal
 
 abbrev pub invariant-loop-at : goal.invariant-loop-at

@@ -1,7 +1,6 @@
 use mathlib.Core.Path.{sym, ◌∙◌}
 use borrow.Author.Tests.{eq-eqb, ne_eqb}
 use Rattle.device_parameters.specs.Parameters.{word_at}
-use borrow.Author.Rules.{rules}
 use Rattle.device_parameters.proofs.sync_search.Goals as goal
 
 pub returns-then-word_at-eq0 : goal.returns-then-word_at-eq0

@@ -1,7 +1,6 @@
 use Prim.Native.Nat.{◌+◌}
 use native.Mathlib.Omega.{arith}
 use lib.ListN.{get_or-eq_default}
-use borrow.Author.Rules.{rules}
 use Rattle.device_parameters.proofs.word_at.Goals as goal
 
 pub returns-then-params-i : goal.returns-then-params-i

@@ -1,4 +1,3 @@
-use borrow.Author.Rules.{rules}
 use Rattle.device_replies.proofs.own_only.Goals as goal
 
 pub returns-then-all : goal.returns-then-all

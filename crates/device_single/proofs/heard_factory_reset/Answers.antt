@@ -9,11 +9,10 @@ use Rattle.device_instructions.specs.Instructions.{Effect, factory_reset}
 use Rattle.device_instructions.specs.Results.{done_of}
 use Rattle.device_instructions.proofs.Sized.{of_size}
 use Rattle.device_instructions.specs.declared.RegisteredWrite.{RegisteredWrite}
-use Rattle.device_replies.specs.Replies.{own_only, Reaction, unchanged}
+use Rattle.device_replies.specs.Replies.{own_only, unchanged}
 use Rattle.device_replies.proofs.Sized.{not_reacted}
 use Rattle.device_single.specs.Single.{heard_factory_reset}
 use Rattle.device_single.proofs.Counts.{wrong, fitting, both_of_size}
-use borrow.Author.Rules.{rules}
 use Rattle.device_single.proofs.heard_factory_reset.Goals as goal
 
 pub returns-then-table-ne-TABLE_BYTES : goal.returns-then-table-ne-TABLE_BYTES

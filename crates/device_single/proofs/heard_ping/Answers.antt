@@ -5,11 +5,10 @@ use borrow.Author.Tests.{eq-eqb, ne_eqb}
 use Rattle.device_instructions.specs.Instructions.{ping}
 use Rattle.device_instructions.specs.Results.{done_of}
 use Rattle.device_instructions.proofs.Sized.{of_size}
-use Rattle.device_replies.specs.Replies.{speaks, Reaction}
+use Rattle.device_replies.specs.Replies.{speaks}
 use Rattle.device_replies.specs.Results.{reacted_by}
 use Rattle.device_replies.proofs.Sized.{answer_of_size, no_answer}
 use Rattle.device_single.specs.Single.{heard_ping}
-use borrow.Author.Rules.{rules}
 use Rattle.device_single.proofs.heard_ping.Goals as goal
 
 pub returns-then-table-ne-TABLE_BYTES : goal.returns-then-table-ne-TABLE_BYTES

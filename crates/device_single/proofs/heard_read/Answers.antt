@@ -6,11 +6,10 @@ use Rattle.device_parameters.specs.Parameters.{word_at}
 use Rattle.device_instructions.specs.Instructions.{read}
 use Rattle.device_instructions.specs.Results.{done_of}
 use Rattle.device_instructions.proofs.Sized.{of_size}
-use Rattle.device_replies.specs.Replies.{own_only, Reaction}
+use Rattle.device_replies.specs.Replies.{own_only}
 use Rattle.device_replies.proofs.Sized.{answer_of_size, no_answer}
 use Rattle.device_single.specs.Single.{heard_read}
 use Rattle.device_single.proofs.Counts.{wrong_count, right_count}
-use borrow.Author.Rules.{rules}
 use Rattle.device_single.proofs.heard_read.Goals as goal
 
 pub returns-then-table-ne-TABLE_BYTES : goal.returns-then-table-ne-TABLE_BYTES

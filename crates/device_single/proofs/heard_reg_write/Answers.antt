@@ -1,10 +1,8 @@
 use mathlib.Core.Path.{refl}
 use Rattle.device_instructions.specs.Instructions.{reg_write}
-use Rattle.device_replies.specs.Replies.{Reaction}
 use Rattle.device_replies.proofs.Sized.{not_reacted}
 use Rattle.device_single.specs.Single.{heard_reg_write}
 use Rattle.device_single.proofs.Counts.{no_address, with_address, both_of_size}
-use borrow.Author.Rules.{rules}
 use Rattle.device_single.proofs.heard_reg_write.Goals as goal
 
 pub returns-then-table-ne-TABLE_BYTES : goal.returns-then-table-ne-TABLE_BYTES

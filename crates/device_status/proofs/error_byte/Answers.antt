@@ -1,5 +1,4 @@
 use borrow.Author.Tests.{eq-eqb, ne_eqb}
-use borrow.Author.Rules.{rules}
 use Rattle.device_status.proofs.error_byte.Goals as goal
 
 pub returns-then-hardware-eq0 : goal.returns-then-hardware-eq0

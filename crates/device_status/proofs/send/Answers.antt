@@ -2,7 +2,6 @@ use mathlib.Core.Path.{◌∙◌}
 use native.Mathlib.Omega.{arith}
 use borrow.Author.Tests.{eq-eqb, ne_eqb}
 use Rattle.device_status.proofs.Sending.{refuses_id, refuses_count, refuses_room, accepts, fits, goes_out}
-use borrow.Author.Rules.{rules}
 use Rattle.device_status.proofs.send.Goals as goal
 
 pub returns-then-reply-gt-MAX_ID : goal.returns-then-reply-gt-MAX_ID

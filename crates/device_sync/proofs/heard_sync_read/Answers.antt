@@ -1,8 +1,6 @@
 use mathlib.Core.Path.{sym, ◌∙◌}
-use borrow.Author.Tests.{not-true, not-false}
 use Rattle.device_replies.proofs.Sized.{answer_of_size, no_answer, by_entry_lem}
 use Rattle.device_sync.specs.Sync.{sync_read_by, heard_sync_read}
-use borrow.Author.Rules.{rules}
 use Rattle.device_sync.proofs.heard_sync_read.Goals as goal
 
 pub returns-then-table-ne-TABLE_BYTES : goal.returns-then-table-ne-TABLE_BYTES

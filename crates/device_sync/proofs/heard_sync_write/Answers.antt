@@ -2,13 +2,10 @@ use mathlib.Core.Path.{◌≡◌, refl, sym, ◌∙◌}
 use Prim.Native.Nat.{◌+◌, ◌-◌, ◌≤◌}
 use native.Mathlib.Omega.{arith}
 use lib.ListN.{length, get_or, take, drop}
-use borrow.Author.Tests.{not-true, not-false}
 use Rattle.device_parameters.specs.Parameters.{word_at, sync_search}
 use Rattle.device_parameters.proofs.Searching.{sync_whole}
-use Rattle.device_replies.specs.Replies.{Reaction}
 use Rattle.device_replies.proofs.Sized.{reacted_of_size, not_reacted, by_entry_lem, left_by_entry}
 use Rattle.device_sync.specs.Sync.{sync_write_by, heard_sync_write}
-use borrow.Author.Rules.{rules}
 use Rattle.device_sync.proofs.heard_sync_write.Goals as goal
 use Rattle.device_sync.proofs.heard_sync_write.Goals.{After-sync_search, In-At}
 

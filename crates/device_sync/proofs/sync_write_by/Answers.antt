@@ -1,7 +1,6 @@
 use mathlib.Core.Path.{ap, ◌∙◌}
 use Rattle.device_replies.specs.Replies.{silent}
 use Rattle.device_replies.specs.Results.{reacted_by}
-use borrow.Author.Rules.{rules}
 use Rattle.device_sync.proofs.sync_write_by.Goals as goal
 
 pub returns : goal.returns

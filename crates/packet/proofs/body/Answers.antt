@@ -3,7 +3,6 @@ use Prim.Native.Nat.{◌-◌}
 use native.Mathlib.Omega.{arith}
 use lib.ListN.{length}
 use Rattle.packet.specs.Packet.{body_of}
-use borrow.Author.Rules.{rules}
 use Rattle.packet.proofs.body.Goals as goal
 
 pub returns-then-packet-lt9 : goal.returns-then-packet-lt9

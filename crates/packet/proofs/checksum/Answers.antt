@@ -1,7 +1,6 @@
 use mathlib.Core.Path.{sym, ◌∙◌}
 use Rattle.crc.specs.Crc.{reduce_if, shift, shifts, crc_byte, crc_from}
 use Rattle.packet_front.specs.Front.{header}
-use borrow.Author.Rules.{rules}
 use Rattle.packet.proofs.checksum.Goals as goal
 
 pub returns : goal.returns

@@ -13,7 +13,6 @@ use Rattle.stuffing.proofs.Answers.{checked_bad, checked_good}
 use Rattle.packet_front.specs.Front.{word, header}
 use Rattle.packet.specs.Packet.{body_of, checksum_right}
 use Rattle.packet.proofs.Header.{headed_length, headed_byte, headed_part}
-use borrow.Author.Rules.{rules}
 use Rattle.packet.proofs.judge_whole.Goals as goal
 use Rattle.packet.proofs.judge_whole.Goals.{After-word}
 

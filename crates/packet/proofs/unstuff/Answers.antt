@@ -2,7 +2,6 @@ use mathlib.Core.Path.{ap, ◌∙◌}
 use mathlib.Core.List.{List}
 use Prim.Native.Nat.{ℕ}
 use Rattle.stuffing.specs.Answers.{removal_answer, removal_out}
-use borrow.Author.Rules.{rules}
 use Rattle.packet.proofs.unstuff.Goals as goal
 
 pub returns : goal.returns

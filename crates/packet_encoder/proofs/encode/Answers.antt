@@ -4,7 +4,7 @@ use mathlib.Core.List.{◌∷◌}
 use Prim.Native.Nat.{◌+◌, ◌≤◌}
 use native.Mathlib.Omega.{arith}
 use lib.ListN.{length, length-take, length-drop}
-use borrow.Author.Tests.{le-leb, lt-leb, not-true, not-false}
+use borrow.Author.Tests.{le-leb, lt-leb}
 use Rattle.lists.proofs.Write.{tail_placed}
 use Rattle.stuffing.specs.Stuffing.{stuff}
 use Rattle.stuffing_writer.proofs.Answers.{is_within, is_past}
@@ -12,7 +12,6 @@ use Rattle.packet_front.specs.Front.{good_id}
 use Rattle.packet_encoder.specs.Writing.{packet_of}
 use Rattle.packet_encoder.specs.Encoding.{encode_refusal}
 use Rattle.packet_encoder.proofs.Writing.{packet_length}
-use borrow.Author.Rules.{rules}
 use Rattle.packet_encoder.proofs.encode.Goals as goal
 use Rattle.packet_encoder.proofs.encode.Goals.{In-Within}
 

@@ -1,6 +1,5 @@
-use mathlib.Core.Path.{◌≡◌, sym, ap, ◌∙◌}
-use mathlib.Core.List.{List, ◌∷◌}
-use Prim.Native.Nat.{ℕ}
+use mathlib.Core.Path.{sym, ap, ◌∙◌}
+use mathlib.Core.List.{◌∷◌}
 use native.Mathlib.Omega.{arith}
 use lib.ListN.{length}
 use lib.Seq.{take_all}
@@ -8,7 +7,6 @@ use Rattle.lists.specs.Write.{overwritten}
 use Rattle.stuffing.specs.Stuffing.{stuff}
 use Rattle.stuffing.proofs.Laws.{stuff_same}
 use Rattle.packet_encoder.proofs.Lists.{first_placed}
-use borrow.Author.Rules.{rules}
 use Rattle.packet_encoder.proofs.write_body.Goals as goal
 
 pub returns-then-n-params : goal.returns-then-n-params

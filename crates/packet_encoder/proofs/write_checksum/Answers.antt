@@ -1,5 +1,5 @@
 use mathlib.Core.Path.{ap, ◌∙◌}
-use mathlib.Core.List.{[], ◌∷◌, ◌++◌}
+use mathlib.Core.List.{◌∷◌, ◌++◌}
 use Prim.Native.Nat.{ℕ}
 use native.Mathlib.Numerals.{add-one}
 use native.Mathlib.Omega.{arith}
@@ -9,7 +9,6 @@ use Rattle.crc.specs.Crc.{crc_from}
 use Rattle.packet.proofs.Header.{after_header}
 use Rattle.packet_encoder.specs.Writing.{with_checksum, low, high}
 use Rattle.packet_encoder.proofs.Lists.{set_two}
-use borrow.Author.Rules.{rules}
 use Rattle.packet_encoder.proofs.write_checksum.Goals as goal
 
 pub bounds-out-end-2 : goal.bounds-out-end-2

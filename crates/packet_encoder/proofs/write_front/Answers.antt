@@ -1,6 +1,5 @@
 use mathlib.Core.Path.{◌∙◌}
 use Rattle.packet_encoder.proofs.Lists.{eight_placed}
-use borrow.Author.Rules.{rules}
 use Rattle.packet_encoder.proofs.write_front.Goals as goal
 
 pub returns : goal.returns

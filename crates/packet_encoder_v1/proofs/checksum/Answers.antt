@@ -1,6 +1,4 @@
-use Prim.Native.Nat.{◌+◌, ◌%◌}
 use native.Mathlib.Omega.{arith}
-use borrow.Author.Rules.{rules}
 use Rattle.packet_v1.specs.Packet.{sum}
 use Rattle.packet_encoder_v1.proofs.checksum.Goals as goal
 

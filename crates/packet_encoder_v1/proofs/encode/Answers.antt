@@ -1,16 +1,15 @@
 use mathlib.Core.Path.{◌≡◌, sym, ◌∙◌}
 use mathlib.Core.Bool.{true, false}
 use mathlib.Core.List.{◌∷◌}
-use Prim.Native.Nat.{◌+◌, ◌≤◌}
+use Prim.Native.Nat.{◌+◌}
 use native.Mathlib.Omega.{arith}
-use lib.ListN.{length, length-take, length-drop}
-use borrow.Author.Tests.{le-leb, lt-leb, not-true, not-false}
+use lib.ListN.{length}
+use borrow.Author.Tests.{le-leb, lt-leb}
 use Rattle.lists.proofs.Write.{tail_placed}
 use Rattle.packet_v1.specs.Packet.{up_to}
 use Rattle.packet_encoder_v1.specs.Writing.{packet_of}
 use Rattle.packet_encoder_v1.specs.Encoding.{encode_refusal}
 use Rattle.packet_encoder_v1.proofs.Writing.{packet_length}
-use borrow.Author.Rules.{rules}
 use Rattle.packet_encoder_v1.proofs.encode.Goals as goal
 use Rattle.packet_encoder_v1.proofs.encode.Goals.{Else-not-good_id}
 

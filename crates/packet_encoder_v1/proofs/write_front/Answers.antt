@@ -1,6 +1,5 @@
 use native.Mathlib.Omega.{arith}
 use lib.ListN.{length-set}
-use borrow.Author.Rules.{rules}
 use Rattle.packet_encoder_v1.proofs.Lists.{set_five}
 use Rattle.packet_encoder_v1.proofs.write_front.Goals as goal
 

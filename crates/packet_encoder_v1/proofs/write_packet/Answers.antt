@@ -1,6 +1,4 @@
-use mathlib.Core.Path.{ap, ◌∙◌}
-use native.Mathlib.Omega.{arith}
-use lib.ListN.{length, length-set}
+use lib.ListN.{length-set}
 use borrow.Author.Rules.{rules}
 use Rattle.packet_encoder_v1.proofs.Writing.{packet_written}
 use Rattle.packet_encoder_v1.proofs.write_packet.Goals as goal

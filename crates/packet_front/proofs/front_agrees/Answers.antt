@@ -1,7 +1,5 @@
-use mathlib.Core.Path.{◌≡◌, sym, ◌∙◌}
-use borrow.Author.Tests.{not-true, not-false}
+use mathlib.Core.Path.{sym, ◌∙◌}
 use Rattle.packet_front.specs.Header.{header_agrees, front_agrees}
-use borrow.Author.Rules.{rules}
 use Rattle.packet_front.proofs.front_agrees.Goals as goal
 
 pub returns-then-not-header_agrees : goal.returns-then-not-header_agrees

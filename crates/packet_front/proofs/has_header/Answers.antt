@@ -1,10 +1,9 @@
-use mathlib.Core.Path.{◌≡◌, sym, ap, ◌∙◌}
+use mathlib.Core.Path.{sym, ap, ◌∙◌}
 use Prim.Native.Nat.{ℕ}
 use native.Mathlib.Omega.{arith}
 use lib.Dec.{eqb}
 use lib.ListN.{get_or}
 use Rattle.packet_front.proofs.Header.{as_number, headed_short, headed_by}
-use borrow.Author.Rules.{rules}
 use Rattle.packet_front.proofs.has_header.Goals as goal
 
 pub returns-then-s-lt4 : goal.returns-then-s-lt4

@@ -1,8 +1,6 @@
-use mathlib.Core.Path.{◌≡◌, sym, ◌∙◌}
+use mathlib.Core.Path.{sym, ◌∙◌}
 use mathlib.Core.Bool.{and-false, and-true}
-use borrow.Author.Tests.{not-true, not-false}
 use Rattle.packet_front.proofs.Header.{agrees_whole, fourth_later}
-use borrow.Author.Rules.{rules}
 use Rattle.packet_front.proofs.header_agrees.Goals as goal
 
 pub returns-then-s-ge4 : goal.returns-then-s-ge4

@@ -1,5 +1,4 @@
-use mathlib.Core.Path.{◌≡◌, sym, ◌∙◌}
-use native.Mathlib.Omega.{arith}
+use mathlib.Core.Path.{sym, ◌∙◌}
 use Rattle.packet_front.proofs.Header.{begin_none, begin_other, begin_cut, begin_by}
 use borrow.Author.Rules.{rules}
 use Rattle.packet_front.proofs.may_begin.Goals as goal

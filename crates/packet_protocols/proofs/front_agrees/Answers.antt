@@ -1,11 +1,8 @@
-use mathlib.Core.Path.{sym, ap, ◌∙◌}
-use mathlib.Core.List.{[], ◌∷◌}
+use mathlib.Core.Path.{ap, ◌∙◌}
 use Prim.Native.Nat.{ℕ}
-use types.Run.{miss}
 use Rattle.packet_v1.specs.Packet.{up_to}
 use Rattle.packet_v1.specs.Verdict.{front_agrees}
 use Rattle.packet_protocols.proofs.Shapes.{old_front}
-use borrow.Author.Rules.{rules}
 use Rattle.packet_protocols.proofs.front_agrees.Goals as goal
 
 pub returns-in-Two : goal.returns-in-Two

@@ -3,7 +3,6 @@ use Prim.Native.Nat.{◌-◌}
 use native.Mathlib.Omega.{arith}
 use lib.ListN.{length, drop, length-drop, drop_of_length-le}
 use lib.Seq.{take_all}
-use borrow.Author.Rules.{rules}
 use Rattle.packet_rules.specs.Answers.{answer_by}
 use Rattle.packet_protocols.specs.Protocols.{rules_of}
 use Rattle.packet_protocols.proofs.judge.Goals as goal

@@ -1,5 +1,4 @@
 use mathlib.Core.Path.{sym, ◌∙◌}
-use borrow.Author.Rules.{rules}
 use Rattle.packet_rules.proofs.Peeks.{peek_nothing, peek_waiting, peek_length}
 use Rattle.packet_protocols.specs.Protocols.{shape_of}
 use Rattle.packet_protocols.proofs.Shapes.{shapes_kept, whole_is}

@@ -1,8 +1,5 @@
 use mathlib.Core.Path.{◌∙◌}
-use mathlib.Core.List.{[], ◌∷◌}
-use types.Run.{miss}
 use Rattle.packet_protocols.proofs.Shapes.{old_whole}
-use borrow.Author.Rules.{rules}
 use Rattle.packet_protocols.proofs.judge_whole.Goals as goal
 
 pub returns-in-Two : goal.returns-in-Two

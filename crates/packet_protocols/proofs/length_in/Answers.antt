@@ -1,13 +1,10 @@
 use mathlib.Core.Path.{◌≡◌, ap}
-use mathlib.Core.List.{[], ◌∷◌}
 use native.Mathlib.Omega.{arith}
-use types.Run.{miss}
 use Rattle.packet_front.specs.Front.{length_of}
 use Rattle.packet_protocols.specs.declared.Protocol.{Protocol}
 use Rattle.packet_protocols.specs.declared.Protocol.TheVariants.{Two}
 use Rattle.packet_protocols.specs.Protocols.{shape_of}
 use Rattle.packet_protocols.proofs.Shapes.{old_long, old_length}
-use borrow.Author.Rules.{rules}
 use Rattle.packet_protocols.proofs.length_in.Goals as goal
 
 front_of : (p : Protocol) → p ≡ Two → (shape_of p).front ≡ 7

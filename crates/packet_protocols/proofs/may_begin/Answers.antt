@@ -1,8 +1,5 @@
 use mathlib.Core.Path.{◌∙◌}
-use mathlib.Core.List.{[], ◌∷◌}
-use types.Run.{miss}
 use Rattle.packet_protocols.proofs.Shapes.{old_begins}
-use borrow.Author.Rules.{rules}
 use Rattle.packet_protocols.proofs.may_begin.Goals as goal
 
 pub returns-in-Two : goal.returns-in-Two

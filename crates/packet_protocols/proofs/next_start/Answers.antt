@@ -1,10 +1,7 @@
-use mathlib.Core.Path.{◌≡◌, refl, ◌∙◌}
-use Prim.Native.Nat.{◌+◌, ◌-◌}
+use mathlib.Core.Path.{refl, ◌∙◌}
+use Prim.Native.Nat.{◌-◌}
 use native.Mathlib.Omega.{arith}
-use lib.ListN.{length, drop}
-use Rattle.packet_rules.specs.Starts.{before_start}
 use Rattle.packet_rules.proofs.Starts.{start_here, start_later, start_past, may_at}
-use borrow.Author.Rules.{rules}
 use Rattle.packet_protocols.specs.Protocols.{may_begin_of}
 use Rattle.packet_protocols.proofs.next_start.Goals as goal
 

@@ -1,14 +1,10 @@
 use mathlib.Core.Path.{◌≡◌, sym, ap, ◌∙◌}
 use mathlib.Core.Bool.{true, false}
-use mathlib.Core.List.{List}
 use Prim.Native.Nat.{ℕ, ◌+◌, ◌-◌, ◌≤◌, ◌<◌}
 use native.Mathlib.Omega.{arith}
 use lib.ListN.{length}
-use borrow.Author.Tests.{not-true, not-false}
-use borrow.Author.Rules.{rules}
 use Rattle.packet_rules.specs.declared.Front.TheVariants.{Waiting, Whole}
 use Rattle.packet_rules.proofs.Peeks.{front_nothing, front_early, front_late, front_whole}
-use Rattle.packet_protocols.specs.declared.Protocol.{Protocol}
 use Rattle.packet_protocols.specs.Protocols.{shape_of, front_agrees_of, length_in, least_length, greatest_length}
 use Rattle.packet_protocols.proofs.Shapes.{front_fails, front_cut, length_short, length_long, length_good, size_is, small}
 use Rattle.packet_protocols.proofs.peek.Goals as goal

@@ -1,5 +1,4 @@
 use borrow.Author.Tests.{le-leb, lt-leb}
-use borrow.Author.Rules.{rules}
 use Rattle.packet_v1.proofs.ff_agrees.Goals as goal
 
 pub returns-then-s-i : goal.returns-then-s-i

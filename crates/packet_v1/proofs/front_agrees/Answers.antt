@@ -1,7 +1,5 @@
 use mathlib.Core.Path.{sym, ◌∙◌}
 use mathlib.Core.Bool.{and-false}
-use borrow.Author.Tests.{not-true, not-false}
-use borrow.Author.Rules.{rules}
 use Rattle.packet_v1.specs.Verdict.{front_agrees}
 use Rattle.packet_v1.proofs.front_agrees.Goals as goal
 

@@ -1,9 +1,7 @@
-use Prim.Native.Nat.{◌+◌, ◌-◌, ◌%◌}
+use Prim.Native.Nat.{◌-◌}
 use native.Mathlib.Omega.{arith}
-use lib.ListN.{length}
 use borrow.Author.Rules.{rules}
-use Rattle.packet_v1.specs.Packet.{sum}
-use Rattle.packet_v1.proofs.Sums.{Summed, sum_byte, sum_end}
+use Rattle.packet_v1.proofs.Sums.{sum_byte, sum_end}
 use Rattle.packet_v1.proofs.sum_from.Goals as goal
 
 pub loop-i-init : goal.loop-i-init

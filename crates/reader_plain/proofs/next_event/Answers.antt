@@ -1,14 +1,10 @@
 use mathlib.Core.Path.{◌≡◌, refl, sym, ◌∙◌}
-use mathlib.Core.List.{List, [], ◌∷◌}
 use Prim.Native.Nat.{ℕ, ◌-◌}
 use native.Mathlib.Omega.{arith}
 use mathlib.Core.Logic.{inl, inr}
-use lib.ListN.{length}
 use Rattle.packet_rules.specs.declared.Verdict.{Verdict}
 use Rattle.packet_rules.specs.declared.Verdict.TheVariants.{Packet}
-use Rattle.reader_plain.specs.Next.{next_event}
 use Rattle.reader_plain.proofs.Rounds.{Turn, turn, passed, next_end}
-use borrow.Author.Rules.{rules}
 use Rattle.reader_plain.proofs.next_event.Goals as goal
 use Rattle.reader_plain.proofs.next_event.Goals.{After-judge}
 

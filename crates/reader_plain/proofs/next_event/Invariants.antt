@@ -1,14 +1,7 @@
-use mathlib.Core.Path.{◌≡◌, refl, sym, ◌∙◌}
-use mathlib.Core.List.{List, [], ◌∷◌}
-use Prim.Native.Nat.{ℕ, ◌-◌}
-use native.Mathlib.Omega.{arith}
-use types.Run.{miss}
+use mathlib.Core.Path.{◌≡◌}
+use Prim.Native.Nat.{◌-◌}
 use lib.ListN.{length}
-use Rattle.packet_rules.specs.declared.Verdict.{Verdict}
-use Rattle.packet_rules.specs.declared.Verdict.TheVariants.{Packet}
 use Rattle.reader_plain.specs.Next.{next_event}
-use Rattle.reader_plain.proofs.Rounds.{Turn, turn, passed, next_end}
-use borrow.Author.Rules.{rules}
 use Rattle.reader_plain.proofs.next_event.Given as goal
 
 abbrev pub invariant-loop-offset : goal.invariant-loop-offset

@@ -14,7 +14,7 @@ use Rattle.reader_scan.proofs.Scans.{scan_packet, scan_bad, scan_nothing, scan_e
 use Rattle.reader_scan.proofs.Peeking.{peek_at, fits_at, none_at, judge_at, nothing_at, start_at}
 use borrow.Author.Rules.{rules}
 use Rattle.reader_scan.proofs.scan.Goals as goal
-use Rattle.reader_scan.proofs.scan.Goals.{in-Whole+in_default-judge_whole, in_default-front, After-judge_whole, After-next_start-at, After-peek-front, In-Whole, Joined-front-2}
+use Rattle.reader_scan.proofs.scan.Goals.{in-Whole+in_default-judge_whole, in_default-front, After-judge_whole, After-next_start-at, After-peek-front, In-Whole}
 
 pub loop-protocol-init : goal.loop-protocol-init
 loop-protocol-init c = (omega arith, search rules, refl)

@@ -14,7 +14,7 @@ use Rattle.packet_protocols.proofs.Shapes.{laws, shapes_kept, some_longest}
 use Rattle.reader_scan.proofs.Scans.{scan_packet, scan_bad, scan_nothing, scan_few, scan_end}
 use Rattle.reader_scan.proofs.Peeking.{peek_at, fits_at, peek_past, judge_at, nothing_at, start_at}
 use Rattle.reader_scan.proofs.scan_closed.Goals as goal
-use Rattle.reader_scan.proofs.scan_closed.Goals.{in-Whole+in_default-judge_whole, in_default, After-judge_whole, After-next_start-at, After-peek, In-Whole, Joined-peek}
+use Rattle.reader_scan.proofs.scan_closed.Goals.{in-Whole+in_default-judge_whole, in_default, After-judge_whole, After-next_start-at, After-peek, In-Whole}
 
 pub loop-protocol-init : goal.loop-protocol-init
 loop-protocol-init c = (omega arith, refl)

@@ -1,12 +1,6 @@
-use mathlib.Core.Path.{◌≡◌}
-use mathlib.Core.List.{List}
-use mathlib.Core.Logic.{⊎_elim}
-use Prim.Native.Nat.{ℕ, ◌+◌, ◌-◌, ◌≤◌, ◌<◌}
-use native.Mathlib.Omega.{arith}
-use lib.ListN.{length, get_or}
+use Prim.Native.Nat.{◌-◌, ◌≤◌}
+use lib.ListN.{length}
 use Rattle.stuffing.specs.Stuffing.{NoFd}
-use Rattle.stuffing.proofs.Plain.{no_fd_next}
-use borrow.Author.Rules.{rules}
 use Rattle.stuffing.proofs.before_fd.Given as goal
 
 abbrev pub invariant-loop-n : goal.invariant-loop-n

@@ -1,14 +1,12 @@
-use mathlib.Core.Path.{◌≡◌, refl, sym, ap, ◌∙◌}
+use mathlib.Core.Path.{◌≡◌, sym, ap, ◌∙◌}
 use mathlib.Core.Bool.{true, false, not}
-use mathlib.Core.Logic.{⊎_elim}
-use Prim.Native.Nat.{◌+◌, ◌-◌, ◌≤◌}
+use Prim.Native.Nat.{◌+◌, ◌-◌}
 use native.Mathlib.Omega.{arith}
 use lib.ListN.{length}
 use Rattle.stuffing.specs.Stuffing.{well_stuffed, unstuff}
-use Rattle.stuffing.proofs.Rounds.{well_at, unstuffed_at, marked, marked_next, well_end, unstuff_end, well_kept, unstuff_kept}
+use Rattle.stuffing.proofs.Rounds.{marked_next, well_end, unstuff_end, well_kept, unstuff_kept}
 use Rattle.stuffing.proofs.Rounds.{free_after, mark_at_end, mark_unstuffed, well_skipped, unstuff_skipped}
 use Rattle.stuffing.proofs.Plain.{begun}
-use borrow.Author.Rules.{rules}
 use Rattle.stuffing.proofs.check.Goals as goal
 use Rattle.stuffing.proofs.check.Goals.{then-ends_mark+else-body-i+else-body-i-2, else-ends_mark}
 

@@ -1,14 +1,9 @@
-use mathlib.Core.Path.{◌≡◌, refl, sym, ap, ◌∙◌}
-use mathlib.Core.Bool.{true, false, not}
-use mathlib.Core.Logic.{⊎_elim}
+use mathlib.Core.Path.{◌≡◌}
+use mathlib.Core.Bool.{false}
 use Prim.Native.Nat.{◌+◌, ◌-◌, ◌≤◌}
-use native.Mathlib.Omega.{arith}
 use lib.ListN.{length}
 use Rattle.stuffing.specs.Stuffing.{well_stuffed, unstuff}
-use Rattle.stuffing.proofs.Rounds.{well_at, unstuffed_at, marked, marked_next, well_end, unstuff_end, well_kept, unstuff_kept}
-use Rattle.stuffing.proofs.Rounds.{free_after, mark_at_end, mark_unstuffed, well_skipped, unstuff_skipped}
-use Rattle.stuffing.proofs.Plain.{begun}
-use borrow.Author.Rules.{rules}
+use Rattle.stuffing.proofs.Rounds.{well_at, unstuffed_at, marked}
 use Rattle.stuffing.proofs.check.Given as goal
 
 abbrev pub invariant-loop-i : goal.invariant-loop-i

@@ -1,4 +1,3 @@
-use borrow.Author.Rules.{rules}
 use Rattle.stuffing.proofs.Mark.{past_end, last_differs, at_start, middle_differs, first_before, first_here}
 use Rattle.stuffing.proofs.ends_mark.Goals as goal
 

@@ -1,10 +1,6 @@
-use mathlib.Core.List.{List}
-use Prim.Native.Nat.{ℕ, ◌+◌, ◌-◌, ◌≤◌}
+use Prim.Native.Nat.{◌-◌}
 use native.Mathlib.Omega.{arith}
-use lib.ListN.{length}
-use Rattle.stuffing.specs.Stuffing.{NoFd}
 use Rattle.stuffing.proofs.Plain.{no_fd_one, no_fd_two, no_fd_three, no_fd_four}
-use borrow.Author.Rules.{rules}
 use Rattle.stuffing.proofs.fours_before_fd.Goals as goal
 
 pub loop-n-init : goal.loop-n-init

@@ -11,7 +11,6 @@ use Rattle.stuffing.specs.Stuffing.{well_stuffed, unstuff}
 use Rattle.stuffing.specs.Answers.{removal_refusal}
 use Rattle.stuffing.proofs.Answers.{checked_bad, checked_good}
 use Rattle.stuffing.proofs.Laws.{unstuff_same}
-use borrow.Author.Rules.{rules}
 use Rattle.stuffing.proofs.unstuff_into.Goals as goal
 use Rattle.stuffing.proofs.unstuff_into.Goals.{In-Good}
 

@@ -1,12 +1,11 @@
 use mathlib.Core.Path.{◌≡◌, refl, sym, ◌∙◌}
 use mathlib.Core.Bool.{true, false}
-use mathlib.Core.Logic.{⊎_elim}
-use Prim.Native.Nat.{◌+◌, ◌-◌, ◌≤◌, ◌<◌}
+use Prim.Native.Nat.{◌+◌, ◌-◌, ◌<◌}
 use native.Mathlib.Omega.{arith}
 use lib.ListN.{length, get_or}
-use Rattle.lists.proofs.Filling.{Filling, fill_start, fill_next, fill_done, fill_length, drop_lt}
+use Rattle.lists.proofs.Filling.{fill_start, fill_next, fill_done, fill_length, drop_lt}
 use Rattle.stuffing.specs.Stuffing.{unstuff}
-use Rattle.stuffing.proofs.Rounds.{well_at, unstuffed_at, marked, marked_next, unstuff_end, well_kept, unstuff_kept}
+use Rattle.stuffing.proofs.Rounds.{marked_next, unstuff_end, well_kept, unstuff_kept}
 use Rattle.stuffing.proofs.Rounds.{free_after, well_next, well_skipped, unstuff_skipped}
 use borrow.Author.Rules.{rules}
 use Rattle.stuffing.proofs.write_unstuffed.Goals as goal

@@ -1,5 +1,4 @@
 use Rattle.stuffing_in_place.proofs.Plain.{plain_whole, plain_0, plain_before}
-use borrow.Author.Rules.{rules}
 use Rattle.stuffing_in_place.proofs.first_read.Goals as goal
 
 pub returns-then-plain-body : goal.returns-then-plain-body

@@ -1,5 +1,4 @@
 use mathlib.Core.Bool.{and-false, and-true}
-use lib.Dec.{eqb}
 use borrow.Author.Tests.{eq-eqb, ne_eqb}
 use Rattle.stuffing_in_place.proofs.is_mark.Goals as goal
 

@@ -1,14 +1,9 @@
-use mathlib.Core.Path.{◌≡◌, sym, ap, ◌∙◌}
-use mathlib.Core.Logic.{⊎_elim}
+use mathlib.Core.Path.{◌≡◌}
 use mathlib.Core.List.{◌∷◌}
 use Prim.Native.Nat.{◌+◌, ◌-◌, ◌≤◌}
-use native.Mathlib.Omega.{arith}
 use lib.ListN.{length}
-use borrow.Author.Tests.{le-leb, lt-leb}
-use Rattle.stuffing.specs.Stuffing.{stuff_after, stuff}
-use Rattle.stuffing.proofs.Laws.{length_stuff}
-use Rattle.stuffing_writer.proofs.Rounds.{stuffed_at, stuff_plain, stuff_marked, stuff_end}
-use borrow.Author.Rules.{rules}
+use Rattle.stuffing.specs.Stuffing.{stuff}
+use Rattle.stuffing_writer.proofs.Rounds.{stuffed_at}
 use Rattle.stuffing_writer.proofs.stuffed_len.Given as goal
 
 abbrev pub invariant-loop-i : goal.invariant-loop-i

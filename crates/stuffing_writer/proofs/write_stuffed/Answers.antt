@@ -1,14 +1,13 @@
 use mathlib.Core.Path.{◌≡◌, refl, sym, ◌∙◌}
-use mathlib.Core.Logic.{⊎_elim}
-use mathlib.Core.List.{List, [], ◌∷◌}
-use Prim.Native.Nat.{ℕ, ◌+◌, ◌-◌, ◌≤◌, ◌<◌, min}
+use mathlib.Core.List.{List, ◌∷◌}
+use Prim.Native.Nat.{ℕ, ◌+◌, ◌-◌, ◌<◌, min}
 use native.Mathlib.Nat.{pos_of_ne-zero}
 use native.Mathlib.Omega.{arith}
 use lib.ListN.{length, take, get_or, set, length-set}
 use Rattle.lists.specs.Write.{overwritten}
-use Rattle.lists.proofs.Filling.{Filling, fill_first, fill_next, fill_length, filled_all, filled_room}
+use Rattle.lists.proofs.Filling.{fill_first, fill_next, fill_length, filled_all, filled_room}
 use Rattle.stuffing.specs.Stuffing.{stuff_after, stuff}
-use Rattle.stuffing_writer.proofs.Rounds.{stuffed_at, stuff_end, put_plain, put_marked}
+use Rattle.stuffing_writer.proofs.Rounds.{stuff_end, put_plain, put_marked}
 use borrow.Author.Rules.{rules}
 use Rattle.stuffing_writer.proofs.write_stuffed.Goals as goal
 use Rattle.stuffing_writer.proofs.write_stuffed.Goals.{then-ends_mark+else-out-j-2, else-ends_mark, At-loop-i}

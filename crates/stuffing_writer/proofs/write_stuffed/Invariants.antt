@@ -1,15 +1,9 @@
-use mathlib.Core.Path.{◌≡◌, refl, sym, ◌∙◌}
-use mathlib.Core.Logic.{⊎_elim}
-use mathlib.Core.List.{List, [], ◌∷◌}
-use Prim.Native.Nat.{ℕ, ◌+◌, ◌-◌, ◌≤◌, ◌<◌, min}
-use native.Mathlib.Nat.{pos_of_ne-zero}
-use native.Mathlib.Omega.{arith}
-use lib.ListN.{length, take, get_or, set, length-set}
-use Rattle.lists.specs.Write.{overwritten}
-use Rattle.lists.proofs.Filling.{Filling, fill_first, fill_next, fill_length, filled_all, filled_room}
-use Rattle.stuffing.specs.Stuffing.{stuff_after, stuff}
-use Rattle.stuffing_writer.proofs.Rounds.{stuffed_at, stuff_end, put_plain, put_marked}
-use borrow.Author.Rules.{rules}
+use mathlib.Core.List.{◌∷◌}
+use Prim.Native.Nat.{◌-◌, ◌≤◌}
+use lib.ListN.{length}
+use Rattle.lists.proofs.Filling.{Filling}
+use Rattle.stuffing.specs.Stuffing.{stuff}
+use Rattle.stuffing_writer.proofs.Rounds.{stuffed_at}
 use Rattle.stuffing_writer.proofs.write_stuffed.Given as goal
 
 abbrev pub invariant-loop-i : goal.invariant-loop-i

@@ -5,7 +5,6 @@ use native.Mathlib.Omega.{arith}
 use lib.ListN.{take, drop, length-take}
 use lib.Seq.{take_all}
 use Rattle.lists.specs.Write.{padded}
-use borrow.Author.Rules.{rules}
 use Rattle.table_access.proofs.bytes_from.Goals as goal
 
 pub returns : goal.returns

@@ -1,14 +1,12 @@
 use mathlib.Core.Path.{◌≡◌, sym, ap, ◌∙◌}
 use mathlib.Core.Option.{Option, none}
 use Prim.Native.Nat.{ℕ}
-use borrow.Author.Tests.{not-true, not-false}
 use Rattle.answers.specs.Refusals.{unless_refused}
 use Rattle.buffers.proofs.Parts.{placed_whole}
 use Rattle.table_rules.specs.Rules.{stored, write_rule}
 use Rattle.table_rules.specs.Outcomes.{in_table}
 use Rattle.table_rules.proofs.WriteStages.{done_none, refused_out}
 use Rattle.table_access.proofs.Theorems.{write_inside}
-use borrow.Author.Rules.{rules}
 use Rattle.table_access.proofs.write.Goals as goal
 use Rattle.table_access.proofs.write.Goals.{Else-not-is_done}
 

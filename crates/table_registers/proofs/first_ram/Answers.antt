@@ -1,6 +1,5 @@
 use mathlib.Core.Path.{◌∙◌}
 use native.Mathlib.Omega.{arith}
-use borrow.Author.Rules.{rules}
 use Rattle.table_registers.specs.Registers.{registers, torque_enable, lamp, status_return_level, registered_instruction, hardware_error}
 use Rattle.table_registers.proofs.Rows.{place_in, mark_of, own_row, none_from}
 use Rattle.table_registers.proofs.first_ram.Goals as goal

@@ -1,6 +1,5 @@
 use mathlib.Core.Path.{◌∙◌}
 use native.Mathlib.Omega.{arith}
-use borrow.Author.Rules.{rules}
 use Rattle.table_registers.specs.Registers.{registers, model_number, firmware_version, device_id, baud_code}
 use Rattle.table_registers.proofs.Rows.{place_in, mark_of, own_row, none_from}
 use Rattle.table_registers.proofs.first_rom.Goals as goal

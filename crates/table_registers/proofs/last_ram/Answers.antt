@@ -1,6 +1,5 @@
 use mathlib.Core.Path.{◌∙◌}
 use native.Mathlib.Omega.{arith}
-use borrow.Author.Rules.{rules}
 use Rattle.table_registers.specs.Registers.{registers, goal_velocity, goal_position, present_position}
 use Rattle.table_registers.proofs.Rows.{place_in, mark_of, own_row, none_from, none_past}
 use Rattle.table_registers.proofs.last_ram.Goals as goal

@@ -3,7 +3,6 @@ use lib.ListN.{length-set}
 use Rattle.lists.specs.Numbers.{bytes_of}
 use Rattle.table_registers.specs.Registers.{registers}
 use Rattle.table_resets.proofs.Resets.{refused, not_refused, reboot_stores}
-use borrow.Author.Rules.{rules}
 use Rattle.table_resets.proofs.reboot.Goals as goal
 
 pub returns-then-table-ne-TABLE_BYTES : goal.returns-then-table-ne-TABLE_BYTES

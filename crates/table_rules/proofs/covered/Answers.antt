@@ -1,5 +1,4 @@
 use borrow.Author.Tests.{le-leb, lt-leb}
-use borrow.Author.Rules.{rules}
 use Rattle.table_rules.proofs.covered.Goals as goal
 
 pub returns-then-address-start : goal.returns-then-address-start

@@ -4,7 +4,6 @@ use mathlib.Core.Option.{none, some}
 use Prim.Native.Nat.{ℕ, ◌+◌, ◌≤◌}
 use native.Mathlib.Omega.{arith}
 use lib.ListN.{length}
-use borrow.Author.Tests.{not-true, not-false}
 use Rattle.table_registers.specs.Registers.{registers, every_byte}
 use Rattle.table_registers.proofs.Permits.{every_inside, every_weaker}
 use Rattle.table_rules.specs.Rules.{covers, every_touched, least_to_write, limits_kept, stored, write_rule}

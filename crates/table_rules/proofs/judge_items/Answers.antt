@@ -8,7 +8,7 @@ use lib.IntN.{ℤ}
 use lib.ListN.{length}
 use lib.Signed.{le_z}
 use borrow.Author.Rules.{rules}
-use borrow.Author.Tests.{leb-true, not-true, not-false}
+use borrow.Author.Tests.{leb-true}
 use Rattle.lists.proofs.Bools.{and_left, and_right}
 use Rattle.table_registers.specs.Registers.{Register, Access, read_only, read_write, Area, registers, end_of, grant, permits}
 use Rattle.table_registers.specs.Rows.{lowest, highest, row_of, one_or_four}
@@ -18,7 +18,7 @@ use Rattle.table_registers.proofs.Permits.{every_at}
 use Rattle.table_items.specs.Items.{value_at, in_range, value_in_range}
 use Rattle.table_rules.specs.Rules.{stored, covers, every_touched}
 use Rattle.table_rules.specs.Stages.{items_rule}
-use Rattle.table_rules.proofs.Walks.{Border, border_done, border, walk_failed, walk_passed}
+use Rattle.table_rules.proofs.Walks.{border_done, border, walk_failed, walk_passed}
 use Rattle.table_rules.proofs.Stored.{value_at_lem}
 use Rattle.table_rules.proofs.judge_items.Goals as goal
 use Rattle.table_rules.proofs.judge_items.Goals.{then-not-in_range, else-not-in_range, After-covered, After-in_range, After-loop-a, Else-not-covered, In-loop-a}

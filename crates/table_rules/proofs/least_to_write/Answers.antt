@@ -1,5 +1,4 @@
 use borrow.Author.Tests.{eq-eqb, ne_eqb}
-use borrow.Author.Rules.{rules}
 use Rattle.table_rules.proofs.least_to_write.Goals as goal
 
 pub returns-then-table-eq0 : goal.returns-then-table-eq0

@@ -5,7 +5,6 @@ use mir.Facts.{to_z-of_z}
 use borrow.Author.Tests.{eq-eqb, ne_eqb}
 use Rattle.table_items.specs.Items.{value_at}
 use Rattle.table_rules.specs.declared.PositionLimits.{PositionLimits}
-use borrow.Author.Rules.{rules}
 use Rattle.table_rules.proofs.limits_in.Goals as goal
 
 limits_with : ℤ → ℤ → PositionLimits

@@ -1,7 +1,6 @@
 use mathlib.Core.Path.{sym, ◌∙◌}
 use mir.Syntax.{w32}
 use mir.Facts.{to_z-of_z}
-use borrow.Author.Tests.{not-true, not-false}
 use native.Mathlib.Omega.{arith}
 use Rattle.table_registers.specs.Registers.{registers, max_position, min_position, goal_position}
 use Rattle.table_registers.proofs.Rows.{place_in, mark_of}

@@ -1,7 +1,6 @@
 use mathlib.Core.Path.{ap, ◌∙◌}
 use mir.Syntax.{w32}
 use mir.Facts.{to_z-of_z}
-use borrow.Author.Rules.{rules}
 use Rattle.table_items.specs.Items.{signed}
 use Rattle.lists.proofs.Numbers.{four_bytes}
 use Rattle.table_rules.proofs.signed_at.Goals as goal

@@ -1,5 +1,4 @@
 use borrow.Author.Tests.{lt-ltb, le-ltb}
-use borrow.Author.Rules.{rules}
 use Rattle.table_rules.proofs.touched.Goals as goal
 
 pub returns-then-start-end : goal.returns-then-start-end

@@ -1,5 +1,4 @@
 use mathlib.Core.Path.{sym, ◌∙◌}
-use borrow.Author.Rules.{rules}
 use Rattle.table_rules.proofs.touches_limits.Goals as goal
 
 pub returns-then-touched : goal.returns-then-touched

@@ -3,7 +3,6 @@ use Prim.Native.Nat.{ℕ, ◌+◌, ◌-◌}
 use mir.Syntax.{w32}
 use mir.Facts.{to_z-of_z}
 use native.Mathlib.Omega.{arith}
-use borrow.Author.Rules.{rules}
 use Rattle.lists.specs.Numbers.{number_at}
 use Rattle.table_items.specs.Items.{signed}
 use Rattle.table_rules.specs.Rules.{stored}

@@ -1,17 +1,16 @@
 -- One round of the loops over the events of a segment, by the plain reader's answer.
 use mathlib.Core.Path.{◌≡◌, refl, sym, ap, subst, ◌∙◌}
-use mathlib.Core.Bool.{true, false, cond}
-use mathlib.Core.List.{List, [], ◌∷◌}
+use mathlib.Core.Bool.{cond}
+use mathlib.Core.List.{List}
 use mathlib.Core.Option.{Option, none, some}
-use Prim.Native.Nat.{ℕ, ◌+◌, ◌-◌, ◌≤◌, ◌<◌}
+use Prim.Native.Nat.{ℕ, ◌-◌, ◌<◌}
 use native.Mathlib.Omega.{arith}
 use lib.Dec.{eqb}
 use lib.ListN.{length, set}
 use borrow.Author.Tests.{eq-eqb, ne_eqb}
-use Rattle.reading.specs.Reading.{EventAt, packet, bad_checksum, reading, read_from}
+use Rattle.reading.specs.Reading.{EventAt, reading}
 use Rattle.packet_front.specs.Front.{id_of}
 use Rattle.packet.specs.Verdict.{protocol2}
-use Rattle.reader_plain.specs.declared.Next.{Next}
 use Rattle.reader_plain.specs.declared.Next.TheVariants.{Packet, BadChecksum, Nothing}
 use Rattle.reader_plain.specs.Next.{next_event}
 use Rattle.reader_plain.specs.Plain.{Within}

@@ -1,12 +1,9 @@
-use mathlib.Core.Path.{◌≡◌, refl, sym, ap, ◌∙◌}
+use mathlib.Core.Path.{◌≡◌}
 use Prim.Native.Nat.{◌-◌}
-use native.Mathlib.Omega.{arith}
 use lib.ListN.{length}
 use Rattle.reader_plain.proofs.Left.{left}
 use Rattle.log_index.specs.Last.{last_packet}
-use Rattle.log_index.specs.Marks.{offset_of}
-use Rattle.log_index.proofs.Rounds.{or_else, last_start, packet_less, last_here, last_other, bad_less, last_bad, last_end}
-use borrow.Author.Rules.{rules}
+use Rattle.log_index.proofs.Rounds.{or_else}
 use Rattle.log_index.proofs.last_in.Given as goal
 
 abbrev pub invariant-loop-offset : goal.invariant-loop-offset

@@ -1,12 +1,8 @@
-use mathlib.Core.Path.{◌≡◌, refl, sym, ap, ◌∙◌}
+use mathlib.Core.Path.{◌≡◌}
 use Prim.Native.Nat.{◌-◌}
-use native.Mathlib.Omega.{arith}
 use lib.ListN.{length}
 use Rattle.reader_plain.proofs.Left.{left}
 use Rattle.log_index.specs.Marks.{marked}
-use Rattle.log_index.proofs.Rounds.{packet_less, mark_packet, bad_less, mark_bad, mark_end, all_left}
-use Rattle.log_index.proofs.Marks.{position_within}
-use borrow.Author.Rules.{rules}
 use Rattle.log_index.proofs.mark.Given as goal
 
 abbrev pub invariant-loop-next : goal.invariant-loop-next

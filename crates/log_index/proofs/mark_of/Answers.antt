@@ -1,6 +1,4 @@
-use mathlib.Core.Path.{sym}
 use borrow.Author.Tests.{lt-ltb, le-ltb}
-use borrow.Author.Rules.{rules}
 use Rattle.log_index.proofs.mark_of.Goals as goal
 
 pub returns-then-id-lt253 : goal.returns-then-id-lt253

@@ -1,5 +1,4 @@
 use mathlib.Core.Path.{◌∙◌}
-use borrow.Author.Rules.{rules}
 use Rattle.log_index.proofs.Starts.{start_same}
 use Rattle.log_index.proofs.next_event.Goals as goal
 

@@ -1,10 +1,10 @@
 -- Numbers laid out as bytes and read again, and the other way round.
 use mathlib.Core.Path.{◌≡◌, refl, sym, ap, ap₂, ◌∙◌}
 use mathlib.Core.List.{List, [], ◌∷◌, ◌++◌}
-use Prim.Native.Nat.{ℕ, zero, suc, ◌+◌, ◌*◌, ◌-◌, ◌≤◌, ◌<◌, ◌^◌, ◌/◌, ◌%◌}
+use Prim.Native.Nat.{ℕ, zero, suc, ◌+◌, ◌*◌, ◌≤◌, ◌<◌, ◌^◌}
 use native.Mathlib.Omega.{arith}
-use lib.ListN.{length, take, drop, get_or, length-drop, take-append-drop}
-use lib.Seq.{drop-drop, get_or-drop, drop-cons}
+use lib.ListN.{length, drop, length-drop, take-append-drop}
+use lib.Seq.{drop-drop, get_or-drop}
 use Rattle.lists.specs.Numbers.{Bytes, number_at, bytes_of}
 use Rattle.lists.proofs.Numbers.{number_drop, bytes_number}
 use Rattle.log_layout.specs.Log.{laid, LogEntry, numbers_of}

@@ -1,16 +1,14 @@
 -- One round of the loops over a directory and over an index.
-use mathlib.Core.Path.{◌≡◌, refl, sym, ap, ap₂, ◌∙◌}
-use mathlib.Core.Bool.{Bool, true, false, ◌&&◌}
-use mathlib.Core.List.{List, [], ◌∷◌}
-use Prim.Native.Nat.{ℕ, zero, suc, ◌+◌, ◌*◌, ◌-◌, ◌≤◌, ◌<◌}
+use mathlib.Core.Path.{◌≡◌, sym, ap, ◌∙◌}
+use mathlib.Core.Bool.{false}
+use mathlib.Core.List.{List, ◌∷◌}
+use Prim.Native.Nat.{ℕ, suc, ◌+◌, ◌-◌, ◌≤◌, ◌<◌}
 use native.Mathlib.Omega.{arith}
-use lib.Dec.{leb, eqb}
 use lib.ListN.{length, take, drop, length-drop, drop_of_length-le}
 use lib.Seq.{drop-drop, take_all}
 use borrow.Author.Tests.{lt-leb, le-leb, eq-eqb, ne_eqb}
 use Rattle.lists.specs.Numbers.{number_at}
 use Rattle.lists.proofs.Numbers.{number_drop}
-use Rattle.log_layout.specs.Log.{LogEntry}
 use Rattle.log_layout.specs.Layout.{u32_at, numbers, entries, chained, none_above}
 
 u32_here : (s : List ℕ) (p : ℕ) → u32_at (drop p s) 0 ≡ u32_at s p

@@ -1,12 +1,11 @@
 -- A log of segments is laid out and says of itself what it was made of; a file that does is such a log.
 use mathlib.Core.Path.{◌≡◌, refl, sym, ap, ap₂, ◌∙◌}
-use mathlib.Core.Bool.{Bool, true, false, ◌&&◌}
+use mathlib.Core.Bool.{true, ◌&&◌}
 use mathlib.Core.List.{List, [], ◌∷◌, ◌++◌}
-use mathlib.Core.Option.{Option, none, some}
-use Prim.Native.Nat.{ℕ, zero, suc, ◌+◌, ◌*◌, ◌-◌, ◌≤◌, ◌<◌, ◌^◌}
+use Prim.Native.Nat.{ℕ, zero, suc, ◌+◌, ◌*◌, ◌≤◌, ◌<◌, ◌^◌}
 use native.Mathlib.Omega.{arith}
 use lib.Dec.{leb, eqb}
-use lib.ListN.{length, take, drop, length-append, length-take, length-drop, take-append-drop, drop_of_length-le}
+use lib.ListN.{length, take, drop, length-append, length-drop, take-append-drop, drop_of_length-le}
 use lib.Seq.{drop-drop, take-append_seam, drop-append_seam, length-take-le}
 use borrow.Author.Tests.{leb-true, eqb-true, le-leb, eq-eqb}
 use Rattle.lists.specs.Numbers.{Bytes, bytes_of, number_at}
@@ -14,7 +13,7 @@ use Rattle.lists.proofs.Numbers.{number_drop}
 use Rattle.lists.proofs.Bools.{and_left, and_right}
 use Rattle.reading.specs.Promise.{joined}
 use Rattle.log_index.proofs.Index.{number_most, index_length}
-use Rattle.log_index.specs.Last.{Last, at, nowhere, or_in, last_in, last_from, last_of, id_at, index_number, index_size, index_from, index}
+use Rattle.log_index.specs.Last.{last_of, id_at, index_number, index_size, index_from, index}
 use Rattle.log_layout.specs.Log.{laid, LogEntry, numbers_of, header, directory_offset, index_offset, segments_offset, directory, log_of, longest_file}
 use Rattle.log_layout.specs.Layout.{u32_at, numbers, entries, count_in, directory_in, index_in, segments_by, segments_in, chained, none_above, header_right, laid_out}
 use Rattle.log_layout.proofs.Laid.{Fit, u32_laid, numbers_laid, entries_laid, length_laid, length_numbers_of, drop_laid, bytes_tail, numbers_back, entries_back}

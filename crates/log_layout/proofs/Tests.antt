@@ -5,7 +5,7 @@ use mathlib.Core.List.{List}
 use Prim.Native.Nat.{ℕ, ◌≤◌, ◌<◌}
 use lib.Dec.{eqb}
 use lib.ListN.{length}
-use borrow.Author.Tests.{lt-leb, le-leb, eq-eqb, ne_eqb}
+use borrow.Author.Tests.{lt-leb, le-leb, ne_eqb}
 use Rattle.log_index.specs.Last.{index_size}
 use Rattle.log_layout.specs.Log.{directory_offset, index_offset, segments_offset, longest_file}
 use Rattle.log_layout.specs.Layout.{u32_at, count_in, directory_in, index_in, chained, none_above, header_right, laid_out}

@@ -1,7 +1,5 @@
-use borrow.Author.Rules.{rules}
 use mathlib.Core.Path.{sym}
 use lib.ListN.{get_or-eq_default}
-use borrow.Author.Rules.{rules}
 use Rattle.log_layout.proofs.byte_at.Goals as goal
 
 pub returns-else-i-s : goal.returns-else-i-s

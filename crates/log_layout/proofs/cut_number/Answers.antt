@@ -1,6 +1,5 @@
 use native.Mathlib.Omega.{arith}
 use Rattle.lists.specs.Numbers.{number_at}
-use borrow.Author.Rules.{rules}
 use Rattle.log_layout.proofs.cut_number.Goals as goal
 
 pub returns : goal.returns

@@ -3,7 +3,6 @@ use Prim.Native.Nat.{ℕ, ◌+◌, ◌*◌}
 use native.Mathlib.Omega.{arith}
 use lib.Dec.{eqb}
 use Rattle.log_layout.proofs.Tests.{too_long, too_short, directory_elsewhere, another_count, index_decides}
-use borrow.Author.Rules.{rules}
 use Rattle.log_layout.proofs.header_right.Goals as goal
 
 pub returns-then-file-gt-LONGEST_FILE : goal.returns-then-file-gt-LONGEST_FILE

@@ -1,11 +1,8 @@
 use borrow.Author.Rules.{rules}
-use mathlib.Core.Path.{◌≡◌, refl, sym, ◌∙◌}
-use Prim.Native.Nat.{◌+◌, ◌*◌, ◌-◌}
+use mathlib.Core.Path.{◌≡◌, sym, ◌∙◌}
+use Prim.Native.Nat.{◌-◌}
 use native.Mathlib.Omega.{arith}
-use lib.ListN.{length, drop}
-use Rattle.log_index.specs.Last.{index_size}
-use Rattle.log_layout.specs.Log.{index_offset}
-use Rattle.log_layout.specs.Layout.{u32_at, numbers, none_above}
+use Rattle.log_layout.specs.Layout.{numbers, none_above}
 use Rattle.log_layout.proofs.Rounds.{above_here, within_here}
 use Rattle.log_layout.proofs.index_within.Goals as goal
 
@@ -15,8 +12,7 @@ returns-then-count-number_at c =
     sym (l.invariant.1 ∙ above_here c.args.file.now l.offset l.left (l.left - 1) (search rules) c.args.count (omega (arith, c.if-count-number_at.true, c.number_at.ensures)))
 
 pub loop-left-preserved : goal.loop-left-preserved
-loop-left-preserved c =
-    (
+loop-left-preserved c = (
   search rules,
   let l = c.loop-left in
       l.invariant.1 ∙ within_here c.args.file.now l.offset l.left (l.left - 1) (search rules) c.args.count (omega (arith, c.if-count-number_at.false, c.number_at.ensures)),

@@ -1,12 +1,9 @@
-use borrow.Author.Rules.{rules}
-use mathlib.Core.Path.{◌≡◌, refl, sym, ◌∙◌}
-use Prim.Native.Nat.{◌+◌, ◌*◌, ◌-◌}
-use native.Mathlib.Omega.{arith}
-use lib.ListN.{length, drop}
+use mathlib.Core.Path.{◌≡◌}
+use Prim.Native.Nat.{◌+◌, ◌*◌}
+use lib.ListN.{drop}
 use Rattle.log_index.specs.Last.{index_size}
 use Rattle.log_layout.specs.Log.{index_offset}
-use Rattle.log_layout.specs.Layout.{u32_at, numbers, none_above}
-use Rattle.log_layout.proofs.Rounds.{above_here, within_here}
+use Rattle.log_layout.specs.Layout.{numbers, none_above}
 use Rattle.log_layout.proofs.index_within.Given as goal
 
 abbrev pub invariant-loop-left : goal.invariant-loop-left

@@ -1,9 +1,5 @@
-use mathlib.Core.Path.{ap, ap₂}
-use mathlib.Core.Bool.{true, false}
-use mathlib.Core.List.{List}
 use mathlib.Core.Path.{sym, ◌∙◌}
 use Rattle.log_layout.proofs.Tests.{header_wrong, chain_broken, numbers_decide}
-use borrow.Author.Rules.{rules}
 use Rattle.log_layout.proofs.laid_out.Goals as goal
 
 pub returns-then-not-header_right : goal.returns-then-not-header_right

@@ -1,8 +1,7 @@
-use mathlib.Core.Path.{sym, ap, ◌∙◌}
+use mathlib.Core.Path.{sym, ◌∙◌}
 use native.Mathlib.Omega.{arith}
 use Rattle.lists.proofs.Numbers.{four_bytes}
 use Rattle.log_layout.proofs.Rounds.{u32_behind, u32_tail}
-use borrow.Author.Rules.{rules}
 use Rattle.log_layout.proofs.number_at.Goals as goal
 
 pub returns-then-file-offset : goal.returns-then-file-offset

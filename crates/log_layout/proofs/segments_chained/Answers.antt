@@ -1,10 +1,7 @@
 use borrow.Author.Rules.{rules}
-use mathlib.Core.Path.{◌≡◌, refl, sym, ◌∙◌}
-use Prim.Native.Nat.{◌+◌, ◌*◌, ◌-◌}
-use native.Mathlib.Omega.{arith}
-use lib.ListN.{length, drop}
-use Rattle.log_layout.specs.Log.{segments_offset}
-use Rattle.log_layout.specs.Layout.{u32_at, entries, chained}
+use mathlib.Core.Path.{◌≡◌, sym, ◌∙◌}
+use Prim.Native.Nat.{◌-◌}
+use Rattle.log_layout.specs.Layout.{entries, chained}
 use Rattle.log_layout.proofs.Rounds.{chained_apart, chained_next}
 use Rattle.log_layout.proofs.segments_chained.Goals as goal
 
@@ -14,8 +11,7 @@ returns-then-number_at-start c =
     sym (l.invariant.1 ∙ chained_apart _ _ l.left (l.left - 1) (search rules) _ _ (λ e. c.if-number_at-start.true (c.number_at.ensures ∙ e)))
 
 pub loop-left-preserved : goal.loop-left-preserved
-loop-left-preserved c =
-    (
+loop-left-preserved c = (
   search rules,
   let l = c.loop-left in
       l.invariant.1 ∙ chained_next _ _ l.left (l.left - 1) (search rules) _ _ (sym c.number_at.ensures ∙ c.if-number_at-start.false)

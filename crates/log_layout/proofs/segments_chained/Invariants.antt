@@ -1,11 +1,8 @@
-use borrow.Author.Rules.{rules}
-use mathlib.Core.Path.{◌≡◌, refl, sym, ◌∙◌}
-use Prim.Native.Nat.{◌+◌, ◌*◌, ◌-◌}
-use native.Mathlib.Omega.{arith}
+use mathlib.Core.Path.{◌≡◌}
+use Prim.Native.Nat.{◌+◌, ◌*◌}
 use lib.ListN.{length, drop}
 use Rattle.log_layout.specs.Log.{segments_offset}
-use Rattle.log_layout.specs.Layout.{u32_at, entries, chained}
-use Rattle.log_layout.proofs.Rounds.{chained_apart, chained_next}
+use Rattle.log_layout.specs.Layout.{entries, chained}
 use Rattle.log_layout.proofs.segments_chained.Given as goal
 
 abbrev pub invariant-loop-left : goal.invariant-loop-left

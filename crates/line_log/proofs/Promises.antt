@@ -10,13 +10,12 @@ use lib.Seq.{get_or-take}
 use Rattle.answers.specs.Refusals.{first_failing}
 use Rattle.answers.specs.declared.Refusal.TheVariants.{BadLog, BadLogId, WrongIndex}
 use Rattle.answers.proofs.Laws.{passed}
-use Rattle.lists.specs.Numbers.{Bytes}
 use Rattle.lists.proofs.Numbers.{same_number}
 use Rattle.packet_front.specs.Front.{good_id}
-use Rattle.log_index.specs.Last.{Last, at, nowhere, or_in, last_in, last_from, last_of, index_number, index_size, index, id_at, mark_of}
-use Rattle.log_layout.specs.Log.{LogEntry, index_offset, Sound, log_of, directory_offset}
-use Rattle.log_layout.specs.Layout.{u32_at, numbers, entries, count_in, entry_of, index_in, directory_in, segment_by, segments_by, segments_in, laid_out, none_above}
-use Rattle.log_layout.proofs.Sound.{LaidOut, is_laid_out, laid_out_log, index_log, segments_log, log_back}
+use Rattle.log_index.specs.Last.{Last, at, nowhere, or_in, last_in, last_from, last_of, index_number, index_size, index, mark_of}
+use Rattle.log_layout.specs.Log.{LogEntry, index_offset, log_of, directory_offset}
+use Rattle.log_layout.specs.Layout.{u32_at, count_in, entry_of, index_in, segment_by, segments_in, laid_out}
+use Rattle.log_layout.proofs.Sound.{is_laid_out, laid_out_log, index_log, segments_log, log_back}
 use Rattle.log_index.proofs.Marks.{position_within, at_position, index_is}
 use Rattle.line_log.specs.Soundness.{same_numbers, check_refusal, SoundExactly}
 use Rattle.line_log.specs.Question.{named, last_answer, last_refusal, found, found_unless, question, index_number_of, LogPromises}

@@ -1,19 +1,18 @@
 -- One round of the loops over a directory and an index, and what stands at an offset of them.
-use mathlib.Core.Path.{◌≡◌, refl, sym, ap, ap₂, ◌∙◌}
-use mathlib.Core.Bool.{Bool, true, false, ◌&&◌}
+use mathlib.Core.Path.{◌≡◌, refl, ap, ap₂, ◌∙◌}
+use mathlib.Core.Bool.{true, false, ◌&&◌}
 use mathlib.Core.List.{List, [], ◌∷◌}
 use mathlib.Core.Option.{Option, none, some}
-use Prim.Native.Nat.{ℕ, zero, suc, ◌+◌, ◌*◌, ◌-◌, ◌≤◌, ◌<◌}
+use Prim.Native.Nat.{ℕ, zero, suc, ◌+◌, ◌*◌, ◌≤◌, ◌<◌}
 use native.Mathlib.Numerals.{add-one}
 use native.Mathlib.Omega.{arith}
 use lib.Dec.{eqb, leb}
-use lib.ListN.{length, take, drop, get_or, drop_of_length-le}
+use lib.ListN.{length, drop, get_or, drop_of_length-le}
 use lib.Seq.{drop-cons}
 use borrow.Author.Tests.{eq-eqb, ne_eqb, eqb-true, leb-true}
 use Rattle.lists.proofs.Bools.{and_left, and_right}
 use Rattle.reading.specs.Reading.{reading}
 use Rattle.packet.specs.Verdict.{protocol2}
-use Rattle.log_layout.specs.Log.{LogEntry}
 use Rattle.log_layout.specs.Layout.{u32_at, numbers, entries, segment_by, segments_by, none_above}
 use Rattle.log_layout.proofs.Rounds.{numbers_turn, entries_turn}
 use Rattle.log_index.specs.Marks.{marked}

@@ -1,10 +1,7 @@
-use mathlib.Core.List.{List}
-use Prim.Native.Nat.{ℕ}
 use Rattle.log_layout.specs.Layout.{index_in}
 use Rattle.line_log.specs.Soundness.{same_numbers}
-use mathlib.Core.Path.{◌≡◌, sym, ap, ◌∙◌}
+use mathlib.Core.Path.{sym, ap, ◌∙◌}
 use Rattle.line_log.proofs.Promises.{wrong_layout, wrong_index, right_index}
-use borrow.Author.Rules.{rules}
 use Rattle.line_log.proofs.check.Goals as goal
 
 pub returns-then-not-laid_out : goal.returns-then-not-laid_out

@@ -1,16 +1,8 @@
-use mathlib.Core.Path.{◌≡◌, refl, sym, ap, ap₂, ◌∙◌}
-use mathlib.Core.List.{List}
-use Prim.Native.Nat.{ℕ, suc, ◌+◌, ◌*◌, ◌-◌, ◌≤◌}
-use native.Mathlib.Omega.{arith}
-use lib.ListN.{length, take, drop, replicate}
-use Rattle.reading.specs.Reading.{reading}
-use Rattle.packet.specs.Verdict.{protocol2}
-use Rattle.log_index.specs.Last.{index}
-use Rattle.log_layout.specs.Layout.{u32_at, entries, segments_by, segments_in}
-use Rattle.log_index.specs.Marks.{marked}
-use Rattle.log_index.proofs.Marks.{marked_all, all_marked}
-use Rattle.line_log.proofs.Rounds.{marked_turn, marked_end}
-use borrow.Author.Rules.{rules}
+use mathlib.Core.Path.{◌≡◌}
+use Prim.Native.Nat.{◌+◌, ◌*◌, ◌-◌, ◌≤◌}
+use lib.ListN.{drop, replicate}
+use Rattle.log_layout.specs.Layout.{entries, segments_by}
+use Rattle.log_index.proofs.Marks.{marked_all}
 use Rattle.line_log.proofs.index_of.Given as goal
 
 abbrev pub invariant-loop-i : goal.invariant-loop-i

@@ -1,10 +1,9 @@
 use Rattle.log_layout.specs.Log.{index_offset}
-use mathlib.Core.Path.{◌≡◌, refl, sym, ap, ap₂, ◌∙◌}
-use mathlib.Core.List.{List}
-use Prim.Native.Nat.{ℕ, suc, ◌+◌, ◌*◌, ◌-◌, ◌≤◌}
+use mathlib.Core.Path.{◌≡◌, refl, sym, ap, ◌∙◌}
+use Prim.Native.Nat.{ℕ, ◌+◌, ◌*◌, ◌-◌}
 use native.Mathlib.Omega.{arith}
-use lib.ListN.{length, take, drop, get_or}
-use Rattle.log_layout.specs.Layout.{u32_at, numbers, index_in}
+use lib.ListN.{length, drop}
+use Rattle.log_layout.specs.Layout.{numbers}
 use Rattle.line_log.specs.Soundness.{same_numbers}
 use Rattle.line_log.proofs.Rounds.{same_apart, same_next, same_end}
 use borrow.Author.Rules.{rules}

@@ -1,13 +1,8 @@
-use Rattle.log_layout.specs.Log.{index_offset}
-use mathlib.Core.Path.{◌≡◌, refl, sym, ap, ap₂, ◌∙◌}
-use mathlib.Core.List.{List}
-use Prim.Native.Nat.{ℕ, suc, ◌+◌, ◌*◌, ◌-◌, ◌≤◌}
-use native.Mathlib.Omega.{arith}
-use lib.ListN.{length, take, drop, get_or}
-use Rattle.log_layout.specs.Layout.{u32_at, numbers, index_in}
+use mathlib.Core.Path.{◌≡◌}
+use Prim.Native.Nat.{◌+◌, ◌*◌, ◌-◌, ◌≤◌}
+use lib.ListN.{drop}
+use Rattle.log_layout.specs.Layout.{numbers}
 use Rattle.line_log.specs.Soundness.{same_numbers}
-use Rattle.line_log.proofs.Rounds.{same_apart, same_next, same_end}
-use borrow.Author.Rules.{rules}
 use Rattle.line_log.proofs.index_right.Given as goal
 
 abbrev pub invariant-loop-i : goal.invariant-loop-i

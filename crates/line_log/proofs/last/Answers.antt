@@ -4,13 +4,11 @@ use Rattle.log_layout.specs.Layout.{u32_at, laid_out}
 use Rattle.packet_front.specs.Front.{good_id}
 use Rattle.line_log.specs.Question.{index_number_of}
 use mathlib.Core.Path.{◌≡◌, sym, ap, ◌∙◌}
-use mathlib.Core.List.{List}
 use Prim.Native.Nat.{ℕ, suc, ◌+◌, ◌*◌, ◌-◌}
 use native.Mathlib.Omega.{arith}
 use Rattle.log_index.proofs.Marks.{position_within}
 use Rattle.line_log.specs.Question.{found}
 use Rattle.line_log.proofs.Promises.{bad_layout, bad_id, answered_by_lem, none_named, one_named}
-use borrow.Author.Rules.{rules}
 use Rattle.line_log.proofs.last.Goals as goal
 use Rattle.line_log.proofs.last.Goals.{After-number_at-number}
 

@@ -7,7 +7,6 @@ use Rattle.log_index.specs.Last.{last_in}
 use Rattle.log_layout.specs.Layout.{segment_by, entry_of}
 use Rattle.log_index.specs.Marks.{offset_of}
 use Rattle.line_log.proofs.Rounds.{found_in, found_in_lem}
-use borrow.Author.Rules.{rules}
 use Rattle.line_log.proofs.last_named.Goals as goal
 use Rattle.line_log.proofs.last_named.Goals.{After-last_in}
 

@@ -1,4 +1,4 @@
-use mathlib.Core.List.{◌∷◌}
+use mathlib.Core.List.{[], ◌∷◌}
 use native.Mathlib.Omega.{arith}
 use Rattle.crc16_fold.proofs.Words.{before_lt, makes_joined}
 use Rattle.crc16_fold.proofs.four.Goals as goal

@@ -1,3 +1,4 @@
+use mathlib.Core.List.{[]}
 use mathlib.Core.Path.{refl, ap, ◌∙◌}
 use Rattle.table_rules.proofs.Size.{on_table_lem}
 use Rattle.device_instructions.specs.declared.RegisteredWrite.{RegisteredWrite}

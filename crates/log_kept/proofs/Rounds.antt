@@ -3,7 +3,7 @@ use mathlib.Core.Path.{◌≡◌, refl, sym, ap, ap₂, subst, ◌∙◌}
 use mathlib.Core.Bool.{Bool, true, false}
 use mathlib.Core.List.{List, [], ◌∷◌}
 use mathlib.Core.Option.{Option, none, some}
-use Prim.Native.Nat.{ℕ, zero, suc, ◌+◌, ◌*◌, ◌-◌, ◌/◌, ◌≤◌, ◌<◌}
+use Prim.Native.Nat.{ℕ, suc, ◌+◌, ◌*◌, ◌-◌, ◌/◌, ◌≤◌, ◌<◌}
 use native.Mathlib.Numerals.{add-one}
 use native.Mathlib.Omega.{arith}
 use lib.ListN.{length, drop, set}
@@ -12,16 +12,14 @@ use borrow.Author.Tests.{le-leb, lt-leb, leb-true, leb-false}
 use Rattle.answers.specs.Refusals.{first_failing}
 use Rattle.answers.specs.declared.Refusal.TheVariants.{NoRoom as Refusal-as-NoRoom}
 use Rattle.lists.specs.Write.{overwritten}
-use Rattle.lists.proofs.Filling.{Filling, fill_start, fill_next, fill_done, drop_lt}
+use Rattle.lists.proofs.Filling.{Filling, fill_start, fill_next, fill_done}
 use Rattle.log_layout.specs.Log.{LogEntry, numbers_of, segments_offset}
 use Rattle.log_layout.specs.Layout.{entries, entry_of}
 use Rattle.log_layout.proofs.Rounds.{entries_turn}
-use Rattle.log_layout.proofs.Laid.{length_numbers_of}
 use Rattle.log_layout.proofs.Sound.{entries_count}
 use Rattle.log_kept.specs.Kept.{entry_count, fault, kept, Dropped, dropped, kept_of, dropped_of, dropped_in}
 use Rattle.log_kept.specs.Sorting.{judged, counts, sort_refusal, sorted, sort_answer, sort_report}
 use Rattle.log_kept.specs.declared.Counts.{Counts}
-use Rattle.log_kept.specs.declared.Sorted.{Sorted}
 use Rattle.log_kept.specs.declared.Sorted.TheVariants.{Listed, NoRoom}
 use Rattle.log_kept.specs.declared.KeptOrDropped.{KeptOrDropped}
 use Rattle.log_kept.specs.declared.KeptOrDropped.TheVariants.{Kept, Dropped as KeptOrDropped-as-Dropped}

@@ -1,15 +1,13 @@
-use mathlib.Core.Path.{◌≡◌, refl, sym, ap, ap₂, ◌∙◌}
+use mathlib.Core.Path.{sym, ap, ap₂, ◌∙◌}
 use mathlib.Core.Option.{Option}
-use Prim.Native.Nat.{ℕ, ◌+◌, ◌*◌}
+use Prim.Native.Nat.{ℕ}
 use native.Mathlib.Omega.{arith}
 use lib.ListN.{length}
-use Rattle.log_layout.specs.Log.{LogEntry}
 use Rattle.log_layout.specs.Layout.{entry_of}
 use Rattle.log_kept.specs.Sorting.{judged}
 use Rattle.log_kept.specs.declared.KeptOrDropped.{KeptOrDropped}
 use Rattle.log_kept.specs.declared.KeptOrDropped.TheVariants.{Kept}
 use Rattle.log_kept.proofs.Kept.{starts_early, ends_late, no_fault}
-use borrow.Author.Rules.{rules}
 use Rattle.log_kept.proofs.judge.Goals as goal
 
 pub returns-then-start-limit : goal.returns-then-start-limit

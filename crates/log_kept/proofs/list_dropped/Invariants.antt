@@ -1,10 +1,7 @@
-use mathlib.Core.Path.{◌≡◌, refl, sym, ◌∙◌}
-use Prim.Native.Nat.{ℕ, ◌+◌, ◌*◌, ◌-◌, ◌≤◌}
-use native.Mathlib.Omega.{arith}
-use lib.ListN.{length, length-set}
-use Rattle.lists.proofs.Filling.{fill_length}
-use Rattle.log_kept.proofs.Rounds.{kept_within, counts_of, Listing, listing_start, listing_bytes, listing_kept, listing_room, listing_dropped, listing_count, listing_counts, listing_done}
-use borrow.Author.Rules.{rules}
+use mathlib.Core.Path.{◌≡◌}
+use Prim.Native.Nat.{◌-◌}
+use lib.ListN.{length}
+use Rattle.log_kept.proofs.Rounds.{Listing}
 use Rattle.log_kept.proofs.list_dropped.Given as goal
 
 abbrev pub invariant-loop-i : goal.invariant-loop-i

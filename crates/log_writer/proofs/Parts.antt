@@ -3,12 +3,12 @@ use mathlib.Core.Path.{◌≡◌, refl, sym, ap, ap₂, ◌∙◌}
 use mathlib.Core.Bool.{true, false}
 use mathlib.Core.List.{List, [], ◌∷◌, ◌++◌}
 use mathlib.Core.Option.{none, some}
-use Prim.Native.Nat.{ℕ, zero, suc, ◌+◌, ◌*◌, ◌-◌, ◌≤◌, ◌<◌}
+use Prim.Native.Nat.{ℕ, suc, ◌+◌, ◌≤◌, ◌<◌}
 use native.Mathlib.Omega.{arith}
 use lib.Dec.{eqb}
-use lib.ListN.{length, take, drop, length-take, length-drop, take-append-drop}
-use lib.Seq.{take_all, length-take-le}
-use borrow.Author.Tests.{leb-true, eqb-true, eq-eqb, le-leb, lt-leb, ne_eqb}
+use lib.ListN.{length, take, drop, length-drop, take-append-drop}
+use lib.Seq.{length-take-le}
+use borrow.Author.Tests.{leb-true, eqb-true, le-leb, lt-leb}
 use Rattle.answers.specs.declared.Refusal.{Refusal}
 use Rattle.answers.specs.declared.Refusal.TheVariants.{BadLog, NoRoom}
 use Rattle.answers.specs.declared.Answer.TheVariants.{Count, Refused}
@@ -17,7 +17,7 @@ use Rattle.lists.specs.Write.{overwritten, placed}
 use Rattle.lists.proofs.Write.{overwritten_take}
 use Rattle.reading.specs.Promise.{joined}
 use Rattle.log_index.specs.Last.{index}
-use Rattle.log_layout.specs.Log.{LogEntry, laid, numbers_of, header, index_offset, segments_offset, directory, log_of, longest_file, Sound}
+use Rattle.log_layout.specs.Log.{LogEntry, laid, numbers_of, header, index_offset, segments_offset, directory, longest_file}
 use Rattle.log_layout.proofs.Sound.{log_length}
 use Rattle.log_parts.proofs.Parts.{parts_put}
 use Rattle.log_writer.specs.Writing.{sum, cut, directory_by, written, write_refusal, write_answer, write_out, WritesSound}

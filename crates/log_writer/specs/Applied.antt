@@ -1,5 +1,5 @@
 -- What is promised of the writer of logs, applied to two Pings and a buffer that just suffices.
-use Rattle.std.specs.Prelude.{List, [], ◌∷◌, ◌++◌, ℕ, take, replicate}
+use Rattle.std.specs.Prelude.{[], ◌∷◌, ◌++◌, take, replicate}
 use Rattle.log_layout.specs.Log.{Sound}
 use Rattle.log_layout.specs.Samples.{ping_to_1, ping_to_2}
 use Rattle.log_writer.specs.Writing.{write_out, WritesSound}

@@ -1,12 +1,8 @@
-use mathlib.Core.Path.{◌≡◌, refl, sym, ap, ◌∙◌}
-use Prim.Native.Nat.{ℕ, ◌+◌, ◌-◌, ◌≤◌}
-use native.Mathlib.Omega.{arith}
+use mathlib.Core.Path.{◌≡◌}
+use Prim.Native.Nat.{◌-◌, ◌≤◌}
 use lib.Dec.{eqb}
-use lib.ListN.{length, drop, get_or}
-use borrow.Author.Tests.{ne_eqb}
+use lib.ListN.{length, drop}
 use Rattle.log_writer.specs.Writing.{sum}
-use Rattle.log_writer.proofs.Rounds.{sum_turn, sum_end, less_both, zero_left}
-use borrow.Author.Rules.{rules}
 use Rattle.log_writer.proofs.adds_up.Given as goal
 
 abbrev pub invariant-loop-i : goal.invariant-loop-i

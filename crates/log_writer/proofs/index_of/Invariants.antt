@@ -1,16 +1,8 @@
-use mathlib.Core.Path.{◌≡◌, refl, sym, ap₂, ◌∙◌}
-use mathlib.Core.List.{List, [], ◌∷◌, ◌++◌}
-use Prim.Native.Nat.{ℕ, suc, ◌+◌, ◌-◌, ◌≤◌}
-use native.Mathlib.Omega.{arith}
-use lib.ListN.{length, take, drop, get_or, replicate}
-use Rattle.reading.specs.Reading.{reading}
-use Rattle.packet.specs.Verdict.{protocol2}
-use Rattle.log_index.specs.Marks.{marked}
-use Rattle.log_index.specs.Last.{index}
-use Rattle.log_index.proofs.Marks.{marked_all, all_marked}
+use mathlib.Core.Path.{◌≡◌}
+use Prim.Native.Nat.{◌+◌, ◌-◌, ◌≤◌}
+use lib.ListN.{length, drop, replicate}
+use Rattle.log_index.proofs.Marks.{marked_all}
 use Rattle.log_writer.specs.Writing.{sum, cut}
-use Rattle.log_writer.proofs.Rounds.{sum_turn, marked_turn, marked_end}
-use borrow.Author.Rules.{rules}
 use Rattle.log_writer.proofs.index_of.Given as goal
 
 abbrev pub invariant-loop-i : goal.invariant-loop-i

@@ -1,11 +1,6 @@
-use mathlib.Core.Path.{◌≡◌, refl, sym, ap, subst, ◌∙◌}
-use mathlib.Core.List.{List, [], ◌∷◌, ◌++◌}
-use Prim.Native.Nat.{ℕ, ◌+◌, ◌*◌, ◌-◌, ◌≤◌}
+use mathlib.Core.Path.{refl, ◌∙◌}
 use native.Mathlib.Omega.{arith}
-use lib.ListN.{length, take, drop, get_or}
-use Rattle.lists.proofs.Filling.{Filling, fill_from, fill_length}
-use Rattle.log_layout.specs.Log.{LogEntry, laid, numbers_of, segments_offset}
-use Rattle.log_writer.specs.Writing.{sum, directory_by}
+use Rattle.lists.proofs.Filling.{fill_from, fill_length}
 use Rattle.log_writer.proofs.Rounds.{sum_turn, directory_end, fill_entry}
 use Rattle.log_parts.proofs.Numbers.{put_fits, filled_end}
 use borrow.Author.Rules.{rules}

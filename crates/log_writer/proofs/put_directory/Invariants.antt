@@ -1,14 +1,10 @@
-use mathlib.Core.Path.{◌≡◌, refl, sym, ap, subst, ◌∙◌}
-use mathlib.Core.List.{List, [], ◌∷◌, ◌++◌}
-use Prim.Native.Nat.{ℕ, ◌+◌, ◌*◌, ◌-◌, ◌≤◌}
-use native.Mathlib.Omega.{arith}
-use lib.ListN.{length, take, drop, get_or}
-use Rattle.lists.proofs.Filling.{Filling, fill_from, fill_length}
-use Rattle.log_layout.specs.Log.{LogEntry, laid, numbers_of, segments_offset}
+use mathlib.Core.Path.{◌≡◌}
+use mathlib.Core.List.{[], ◌++◌}
+use Prim.Native.Nat.{◌+◌, ◌*◌, ◌-◌, ◌≤◌}
+use lib.ListN.{length, take, drop}
+use Rattle.lists.proofs.Filling.{Filling}
+use Rattle.log_layout.specs.Log.{laid, numbers_of, segments_offset}
 use Rattle.log_writer.specs.Writing.{sum, directory_by}
-use Rattle.log_writer.proofs.Rounds.{sum_turn, directory_end, fill_entry}
-use Rattle.log_parts.proofs.Numbers.{put_fits, filled_end}
-use borrow.Author.Rules.{rules}
 use Rattle.log_writer.proofs.put_directory.Given as goal
 
 abbrev pub invariant-loop-i : goal.invariant-loop-i

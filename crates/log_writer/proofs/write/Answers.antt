@@ -1,9 +1,8 @@
-use mathlib.Core.Path.{◌≡◌, refl, sym, ◌∙◌}
+use mathlib.Core.Path.{sym, ◌∙◌}
 use native.Mathlib.Omega.{arith}
 use borrow.Author.Tests.{eqb-true}
 use Rattle.answers.specs.declared.Refusal.TheVariants.{BadLog, NoRoom}
 use Rattle.log_writer.proofs.Parts.{refused_sum, refused_long, refused_room, not_refused, refusing, writing, written_length}
-use borrow.Author.Rules.{rules}
 use Rattle.log_writer.proofs.write.Goals as goal
 
 pub returns-then-not-adds_up : goal.returns-then-not-adds_up

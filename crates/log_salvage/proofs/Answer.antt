@@ -1,9 +1,9 @@
 -- The refusals in their order, and what a call that is not refused has written and reported.
 use mathlib.Core.Path.{◌≡◌, refl, sym, ap, ap₂, ◌∙◌}
 use mathlib.Core.Bool.{Bool, not}
-use mathlib.Core.List.{List, ◌++◌}
-use mathlib.Core.Option.{Option, none, some}
-use Prim.Native.Nat.{ℕ, ◌+◌, ◌*◌, ◌-◌, ◌/◌, ◌≤◌, ◌<◌, min}
+use mathlib.Core.List.{List}
+use mathlib.Core.Option.{none, some}
+use Prim.Native.Nat.{ℕ, ◌+◌, ◌*◌, ◌-◌, ◌/◌, ◌≤◌, ◌<◌}
 use native.Mathlib.Omega.{arith}
 use lib.Dec.{leb}
 use lib.ListN.{length, take, drop}
@@ -13,10 +13,9 @@ use Rattle.answers.specs.declared.Refusal.{Refusal}
 use Rattle.answers.specs.declared.Refusal.TheVariants.{NoRoom, BadLogSize}
 use Rattle.answers.proofs.Laws.{passed}
 use Rattle.lists.specs.Write.{overwritten}
-use Rattle.reading.specs.Promise.{joined}
 use Rattle.log_index.specs.Last.{index_size, index}
 use Rattle.log_layout.specs.Log.{numbers_of, index_offset, segments_offset, log_of, longest_file}
-use Rattle.log_layout.specs.Layout.{count_in, numbers, segments_by}
+use Rattle.log_layout.specs.Layout.{numbers, segments_by}
 use Rattle.log_layout.proofs.Sound.{log_length, segments_count}
 use Rattle.line_log.specs.Soundness.{same_numbers}
 use Rattle.log_kept.specs.Kept.{entry_count, kept_of, dropped_in, kept_segments}
@@ -24,7 +23,7 @@ use Rattle.log_kept.specs.Sorting.{counts}
 use Rattle.log_kept.specs.declared.Counts.{Counts}
 use Rattle.log_kept.proofs.Kept.{bytes_by}
 use Rattle.log_kept.proofs.Rounds.{counts_of, bytes_of_lem}
-use Rattle.log_salvage.specs.Report.{salvaged, differing, Report, report_of}
+use Rattle.log_salvage.specs.Report.{salvaged, differing, report_of}
 use Rattle.log_salvage.specs.Salvage.{salvage_refusal, figures, salvage_answer, salvage_out, salvage_report}
 use Rattle.log_salvage.specs.declared.Figures.{Figures}
 use Rattle.log_salvage.specs.declared.Salvaged.TheVariants.{Written, Refused}

@@ -1,26 +1,24 @@
 -- What is written is sound and no longer than the file; a sound log comes out as it was, with an empty report.
 use mathlib.Core.Path.{◌≡◌, refl, sym, ap, ap₂, subst, ◌∙◌}
-use mathlib.Core.Bool.{Bool, true, false, not}
+use mathlib.Core.Bool.{false, not}
 use mathlib.Core.List.{List, [], ◌∷◌}
 use mathlib.Core.Option.{Option, none, some}
-use Prim.Native.Nat.{ℕ, suc, ◌+◌, ◌*◌, ◌-◌, ◌/◌, ◌≤◌, min}
+use Prim.Native.Nat.{ℕ, ◌+◌, ◌-◌, ◌≤◌}
 use native.Mathlib.Omega.{arith}
-use lib.Dec.{eqb}
 use lib.ListN.{length, take, drop}
 use borrow.Author.Tests.{eq-eqb}
-use Rattle.lists.specs.Write.{overwritten}
 use Rattle.lists.proofs.Write.{overwritten_take}
 use Rattle.reading.specs.Promise.{joined}
 use Rattle.log_index.specs.Last.{index_size, index}
 use Rattle.log_layout.specs.Log.{LogEntry, directory, directory_offset, index_offset, segments_offset, log_of, longest_file, Sound}
-use Rattle.log_layout.specs.Layout.{count_in, entries, numbers, segments_by, segments_in, directory_in, index_in}
+use Rattle.log_layout.specs.Layout.{entries, numbers, segments_by, directory_in}
 use Rattle.log_layout.proofs.Sound.{log_length, count_log, directory_log, index_log, segments_log, segments_count}
 use Rattle.line_log.specs.Soundness.{same_numbers}
 use Rattle.line_log.proofs.Rounds.{same_self}
-use Rattle.log_kept.specs.Kept.{entry_count, fault, kept, dropped, kept_of, dropped_of, dropped_in, kept_segments}
-use Rattle.log_kept.proofs.Kept.{bytes_by, fault_none, kept_here, kept_not, all_kept}
+use Rattle.log_kept.specs.Kept.{entry_count, fault, kept, dropped, kept_of, dropped_in, kept_segments}
+use Rattle.log_kept.proofs.Kept.{fault_none, kept_here, kept_not, all_kept}
 use Rattle.log_kept.proofs.Rounds.{counts_of}
-use Rattle.log_salvage.specs.Report.{salvaged, differing, Report, report_of, empty_report}
+use Rattle.log_salvage.specs.Report.{salvaged, differing, report_of, empty_report}
 use Rattle.log_salvage.specs.Salvage.{salvage_refusal, salvage_out, Apart, Salvage}
 use Rattle.log_salvage.proofs.Answer.{no_longer, sized, passes}
 use Rattle.log_salvage.proofs.LeftOver.{left_over}

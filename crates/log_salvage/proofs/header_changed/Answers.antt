@@ -1,10 +1,6 @@
-use mathlib.Core.Path.{◌≡◌, refl, sym, ap, ◌∙◌}
+use mathlib.Core.Path.{refl, sym, ap, ◌∙◌}
 use mathlib.Core.Bool.{not}
-use Prim.Native.Nat.{ℕ, ◌+◌, ◌-◌, ◌≤◌}
-use native.Mathlib.Omega.{arith}
-use lib.ListN.{length, take}
-use Rattle.line_log.specs.Soundness.{same_numbers}
-use Rattle.log_salvage.proofs.Rounds.{left_same, same_next, same_not, same_end}
+use Rattle.log_salvage.proofs.Rounds.{same_next, same_not, same_end}
 use borrow.Author.Rules.{rules}
 use Rattle.log_salvage.proofs.header_changed.Goals as goal
 

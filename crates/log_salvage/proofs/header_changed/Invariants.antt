@@ -1,11 +1,8 @@
-use mathlib.Core.Path.{◌≡◌, refl, sym, ap, ◌∙◌}
-use mathlib.Core.Bool.{not}
-use Prim.Native.Nat.{ℕ, ◌+◌, ◌-◌, ◌≤◌}
-use native.Mathlib.Omega.{arith}
-use lib.ListN.{length, take}
+use mathlib.Core.Path.{◌≡◌}
+use Prim.Native.Nat.{◌-◌, ◌≤◌}
+use lib.ListN.{take}
 use Rattle.line_log.specs.Soundness.{same_numbers}
-use Rattle.log_salvage.proofs.Rounds.{left_same, same_next, same_not, same_end}
-use borrow.Author.Rules.{rules}
+use Rattle.log_salvage.proofs.Rounds.{left_same}
 use Rattle.log_salvage.proofs.header_changed.Given as goal
 
 abbrev pub invariant-loop-i : goal.invariant-loop-i

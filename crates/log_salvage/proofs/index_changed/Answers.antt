@@ -1,10 +1,7 @@
-use mathlib.Core.Path.{◌≡◌, refl, sym, ap, ap₂, ◌∙◌}
-use mathlib.Core.List.{List}
-use Prim.Native.Nat.{ℕ, suc, ◌+◌, ◌*◌, ◌-◌, ◌≤◌}
+use mathlib.Core.Path.{◌≡◌, sym, ◌∙◌}
+use Prim.Native.Nat.{◌+◌, ◌*◌, ◌-◌}
 use native.Mathlib.Omega.{arith}
-use lib.ListN.{length, drop, get_or}
-use Rattle.log_layout.specs.Layout.{u32_at, numbers}
-use Rattle.log_salvage.specs.Report.{differing}
+use lib.ListN.{length, drop}
 use Rattle.log_salvage.proofs.Rounds.{differing_same, differing_one, differing_end}
 use borrow.Author.Rules.{rules}
 use Rattle.log_salvage.proofs.index_changed.Goals as goal

@@ -1,12 +1,8 @@
-use mathlib.Core.Path.{◌≡◌, refl, sym, ap, ap₂, ◌∙◌}
-use mathlib.Core.List.{List}
-use Prim.Native.Nat.{ℕ, suc, ◌+◌, ◌*◌, ◌-◌, ◌≤◌}
-use native.Mathlib.Omega.{arith}
-use lib.ListN.{length, drop, get_or}
-use Rattle.log_layout.specs.Layout.{u32_at, numbers}
+use mathlib.Core.Path.{◌≡◌}
+use Prim.Native.Nat.{◌+◌, ◌*◌, ◌-◌, ◌≤◌}
+use lib.ListN.{drop}
+use Rattle.log_layout.specs.Layout.{numbers}
 use Rattle.log_salvage.specs.Report.{differing}
-use Rattle.log_salvage.proofs.Rounds.{differing_same, differing_one, differing_end}
-use borrow.Author.Rules.{rules}
 use Rattle.log_salvage.proofs.index_changed.Given as goal
 
 abbrev pub invariant-loop-i : goal.invariant-loop-i

@@ -1,6 +1,6 @@
 use mathlib.Core.Path.{◌≡◌, refl, sym, ap, ◌∙◌}
 use mathlib.Core.List.{List}
-use Prim.Native.Nat.{ℕ, ◌+◌, ◌*◌, ◌-◌, ◌≤◌}
+use Prim.Native.Nat.{ℕ, ◌+◌, ◌-◌}
 use native.Mathlib.Omega.{arith}
 use lib.ListN.{length, take}
 use Rattle.lists.specs.Write.{placed}
@@ -10,7 +10,7 @@ use Rattle.buffers.proofs.Parts.{placed_whole}
 use Rattle.log_index.specs.Marks.{marked}
 use Rattle.log_parts.proofs.Numbers.{put_fits}
 use Rattle.log_kept.proofs.Rounds.{kept_within}
-use Rattle.log_salvage.proofs.Packing.{Packing, packing_start, packing_room, whole, packing_kept, packing_dropped, packing_marks, packing_done}
+use Rattle.log_salvage.proofs.Packing.{packing_start, packing_room, whole, packing_kept, packing_dropped, packing_marks, packing_done}
 use borrow.Author.Rules.{rules}
 use Rattle.log_salvage.proofs.pack.Goals as goal
 

@@ -1,8 +1,6 @@
-use mathlib.Core.Path.{◌≡◌, refl, sym, ap, ap₂, ◌∙◌}
+use mathlib.Core.Path.{sym, ap, ap₂, ◌∙◌}
 use mathlib.Core.List.{List, []}
-use Prim.Native.Nat.{ℕ, ◌+◌, ◌≤◌}
-use native.Mathlib.Omega.{arith}
-use lib.ListN.{length}
+use Prim.Native.Nat.{ℕ}
 use Rattle.lists.specs.Write.{placed}
 use Rattle.log_layout.specs.Log.{laid, index_offset, segments_offset}
 use Rattle.log_layout.specs.Layout.{segments_by}
@@ -20,9 +18,9 @@ returns c =
     let ss = segments_by a.file.now es in record {
       value = c.pack-index.ensures.value;
       out_after = c.put_index.ensures ∙ put_fits _ _ _ _ (search rules)
-      ∙ ap₂ (λ (b x : List ℕ). placed b (index_offset a.kept) (laid x []))
-      (c.pack-index.ensures.out_after
-      ∙ ap (λ (b : List ℕ). packed b 0 (segments_offset a.kept) ss) (c.put_header.ensures ∙ put_fits _ _ _ _ (search rules)))
-      c.pack-index.ensures.value
-      ∙ log_put a.out.now ss a.kept (search rules ∙ sym (segments_count a.file.now es)) (search rules);
+          ∙ ap₂ (λ (b x : List ℕ). placed b (index_offset a.kept) (laid x []))
+          (c.pack-index.ensures.out_after
+          ∙ ap (λ (b : List ℕ). packed b 0 (segments_offset a.kept) ss) (c.put_header.ensures ∙ put_fits _ _ _ _ (search rules)))
+          c.pack-index.ensures.value
+          ∙ log_put a.out.now ss a.kept (search rules ∙ sym (segments_count a.file.now es)) (search rules);
     }

@@ -1,5 +1,4 @@
-use mathlib.Core.Path.{◌≡◌, refl, sym, ap, ◌∙◌}
-use native.Mathlib.Omega.{arith}
+use mathlib.Core.Path.{sym, ◌∙◌}
 use Rattle.answers.specs.declared.Refusal.TheVariants.{NoRoom, BadLogSize}
 use Rattle.log_kept.proofs.Rounds.{was_listed, was_refused}
 use Rattle.log_salvage.proofs.Answer.{too_small, too_large, no_room, no_places, passes, refusing, writing}

@@ -1,9 +1,8 @@
-use mathlib.Core.Path.{◌≡◌, ap, ◌∙◌}
+use mathlib.Core.Path.{ap, ◌∙◌}
 use mathlib.Core.List.{List}
 use Prim.Native.Nat.{ℕ, ◌+◌, ◌*◌}
 use Rattle.lists.specs.Numbers.{bytes_of}
 use Rattle.lists.specs.Write.{placed}
-use native.Mathlib.Omega.{arith}
 use Rattle.log_parts.proofs.Numbers.{header_put}
 use borrow.Author.Rules.{rules}
 use Rattle.log_parts.proofs.header_in.Goals as goal

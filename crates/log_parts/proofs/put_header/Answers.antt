@@ -1,7 +1,6 @@
-use mathlib.Core.Path.{◌≡◌, sym, ◌∙◌}
+use mathlib.Core.Path.{sym, ◌∙◌}
 use borrow.Author.Tests.{leb-true}
 use Rattle.log_parts.proofs.Numbers.{put_fits, put_not}
-use borrow.Author.Rules.{rules}
 use Rattle.log_parts.proofs.put_header.Goals as goal
 
 pub header_in-requires : goal.header_in-requires

@@ -1,11 +1,10 @@
-use mathlib.Core.Path.{◌≡◌, refl, sym, ap, subst, ◌∙◌}
-use mathlib.Core.List.{List, [], ◌∷◌, ◌++◌}
-use Prim.Native.Nat.{ℕ, ◌+◌, ◌*◌, ◌-◌, ◌≤◌}
+use mathlib.Core.Path.{◌≡◌, refl, sym, ◌∙◌}
+use Prim.Native.Nat.{◌+◌, ◌*◌, ◌≤◌}
 use native.Mathlib.Omega.{arith}
-use lib.ListN.{length, take, drop, get_or}
+use lib.ListN.{length}
 use borrow.Author.Tests.{leb-true}
-use Rattle.lists.proofs.Filling.{Filling, fill_from, fill_length}
-use Rattle.log_layout.specs.Log.{laid, segments_offset}
+use Rattle.lists.proofs.Filling.{fill_from, fill_length}
+use Rattle.log_layout.specs.Log.{segments_offset}
 use Rattle.log_parts.proofs.Numbers.{numbers_end, fill_index, filled_end, put_fits, put_not}
 use borrow.Author.Rules.{rules}
 use Rattle.log_parts.proofs.put_index.Goals as goal

@@ -1,13 +1,9 @@
-use mathlib.Core.Path.{◌≡◌, refl, sym, ap, subst, ◌∙◌}
-use mathlib.Core.List.{List, [], ◌∷◌, ◌++◌}
-use Prim.Native.Nat.{ℕ, ◌+◌, ◌*◌, ◌-◌, ◌≤◌}
-use native.Mathlib.Omega.{arith}
-use lib.ListN.{length, take, drop, get_or}
-use borrow.Author.Tests.{leb-true}
-use Rattle.lists.proofs.Filling.{Filling, fill_from, fill_length}
+use mathlib.Core.Path.{◌≡◌}
+use mathlib.Core.List.{[], ◌++◌}
+use Prim.Native.Nat.{◌+◌, ◌*◌, ◌-◌, ◌≤◌}
+use lib.ListN.{length, take, drop}
+use Rattle.lists.proofs.Filling.{Filling}
 use Rattle.log_layout.specs.Log.{laid, segments_offset}
-use Rattle.log_parts.proofs.Numbers.{numbers_end, fill_index, filled_end, put_fits, put_not}
-use borrow.Author.Rules.{rules}
 use Rattle.log_parts.proofs.put_index.Given as goal
 
 abbrev pub invariant-loop-i : goal.invariant-loop-i

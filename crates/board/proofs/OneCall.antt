@@ -1,9 +1,9 @@
 -- What a call on a board comes to: where it is refused, and where the reader's event is carried out.
-use mathlib.Core.Path.{◌≡◌, refl, sym, ap, subst, ◌∙◌}
-use mathlib.Core.List.{List, [], ◌∷◌, ◌++◌}
+use mathlib.Core.Path.{◌≡◌, refl, ap, ◌∙◌}
+use mathlib.Core.List.{List}
 use mathlib.Core.Option.{Option, none, some}
 use mathlib.Core.Bool.{cond}
-use Prim.Native.Nat.{ℕ, ◌+◌, ◌-◌, ◌≤◌}
+use Prim.Native.Nat.{ℕ, ◌+◌}
 use lib.Dec.{leb}
 use native.Mathlib.Omega.{arith}
 use lib.ListN.{length, take, drop, replicate, length-append}
@@ -15,22 +15,19 @@ use Rattle.lists.specs.Write.{overwritten, placed}
 use Rattle.stuffing.specs.Stuffing.{unstuff}
 use Rattle.reading.specs.Reading.{Event, packet, bad_checksum}
 use Rattle.reading.specs.Calls.{CallResult, Call, call}
-use Rattle.packet_front.specs.Front.{id_of}
 use Rattle.packet.specs.Packet.{WellFormed, body_of}
 use Rattle.packet.specs.Verdict.{protocol2}
 use Rattle.packet.proofs.Laws.{laws}
 use Rattle.packet_protocols.specs.declared.Protocol.TheVariants.{Two}
 use Rattle.reader_core.specs.declared.Step.{Step}
-use Rattle.reader_core.specs.declared.StepEvent.{StepEvent}
 use Rattle.reader_core.specs.Results.{event_for, packet_bytes, step_for, lean_held, lean_packet, lean_held_for, lean_packet_for}
 use Rattle.reader_records.specs.declared.Reader.{Reader}
 use Rattle.reader_records.specs.Records.{held_in, lent}
-use Rattle.device_instructions.specs.declared.RegisteredWrite.{RegisteredWrite}
 use Rattle.board.specs.declared.BoardStep.{BoardStep}
-use Rattle.board.specs.Board.{Board, Outcome, reader_left, carried_if_any, report_of, board_refusal, outcome_unless, outcome}
-use Rattle.board.specs.Numbers.{step_with, refused_step, step_unless, board_step, buffer_for, buffer_unless, buffer_left}
+use Rattle.board.specs.Board.{Board, reader_left, carried_if_any, report_of, board_refusal, outcome}
+use Rattle.board.specs.Numbers.{step_with, refused_step, step_unless, board_step, buffer_for, buffer_left}
 use Rattle.board.specs.Inside.{number_if_any, event_by, Fits, buffer_by}
-use Rattle.board.proofs.Refusals.{accepted, never_0}
+use Rattle.board.proofs.Refusals.{accepted}
 use Rattle.board.proofs.ByAnswer.{Left}
 use Rattle.board.proofs.Sound.{call_good}
 

@@ -13,6 +13,7 @@ import unittest
 from pathlib import Path
 
 import suite
+from archives import dependencies
 
 CC, ARCHIVE = sys.argv[1:] if len(sys.argv) == 3 else ("", "")
 PAGES = [Path("README.md"), Path("CHANGELOG.md"), *sorted(Path("docs").glob("*.md"))]
@@ -51,9 +52,10 @@ class Documents(unittest.TestCase):
 
     def test_crates(self):
         """crates.txt lists for each crate those that it names; the kit refuses one that is named and not listed."""
-        for crate, listed in re.findall(r"^(\w+):(.*)$", text(Path("crates.txt")), flags=re.M):
-            sources = "".join(text(path) for kind in ("*.rt", "*.antt") for path in Path("crates", crate).rglob(kind))
-            self.assertEqual([name for name in listed.split() if not re.search(rf"Rattle·{name}\b|\b{name}::", sources)], [], crate)
+        for crate, listed in dependencies(text(Path("crates.txt"))).items():
+            paths = [path for part in ("src", "specs", "proofs") for path in Path("crates", crate, part).rglob("*.*t")]
+            sources = "".join(text(path) for path in paths if path.suffix in (".rt", ".antt"))
+            self.assertEqual([name for name in listed if not re.search(rf"Rattle\.{name}\b|\b{name}::", sources)], [], crate)
 
     def test_code_of_integrating(self):
         sources = [text(path) for path in SHOWN]

@@ -15,7 +15,7 @@ that in the code are refused for shape only, such as a sum made a difference.
 
 With --since only lines are changed that are new since that commit, so that after a change a crate need not be gone through again.
 
-Each change is checked in a copy under target/mutants/, by the quick check; an accepted one is checked again from nothing.
+Each change is checked in a copy outside the repository, over what earlier checks have kept.
 """
 import argparse
 import os
@@ -25,11 +25,13 @@ import shutil
 import signal
 import subprocess
 import sys
+import tempfile
 import time
 from pathlib import Path
 
 ROOT = Path(__file__).resolve().parent.parent
-PLACE = ROOT / "target" / "mutants"  # rt looks for stray sources everywhere but under target/
+sys.path.append(str(ROOT / "tests"))
+from archives import dependencies
 
 # a comparison or sum between spaces, as the formatter lays it out
 SWAPS = [(" < ", " <= "), (" <= ", " < "), (" == ", " != "), (" != ", " == "), (" + ", " - "), (" - ", " + "), (" && ", " || "),
@@ -40,9 +42,9 @@ NUMBER = re.compile(r"(?<![\w.])(0x[0-9A-Fa-f]+|\d+)(?![\w.])")
 # the same in a definition, where tests are functions
 DEFINITION_SWAPS = [(" + ", " - "), (" - ", " + "), (" * ", " + "), (" / ", " % "), (" % ", " / "), (" && ", " || "), (" || ", " && "),
                     ("leb ", "ltb "), ("ltb ", "leb "), ("take ", "drop "), ("drop ", "take "), (" < ", " ≤ "), (" ≤ ", " < ")]
-HOMES = {"leb": "lib.Dec", "ltb": "lib.Dec", "take": "lib.ListN", "drop": "lib.ListN", "+": "Prim.Native.Nat", "-": "Prim.Native.Nat",
-         "%": "Prim.Native.Nat", "/": "Prim.Native.Nat", "<": "Prim.Native.Nat", "≤": "Prim.Native.Nat", "&&": "mathlib.Core.Bool",
-         "||": "mathlib.Core.Bool", "true": "mathlib.Core.Bool", "false": "mathlib.Core.Bool"}
+HOME = "Rattle.std.specs.Prelude"  # of all these words
+# an error that only says that a proof file no longer fits: a name that the change took away, and what cites that proof
+NO_LONGER_FITS = re.compile(r"(note: )?(\./)?proofs/.*(has no field|is not in scope|has no `|was not admitted|was not checked)|.*no proof:")
 # what says nothing of numbers; a field of a record is a statement, and is changed
 NO_DEFINITION = re.compile(r"^\s*(--|use |pub mod |mod |module |unfolding |$)")
 PASSED_OVER = re.compile(r"^\s*(//|ghost |use |mod |pub use |requires|ensures|#\[|pub struct|pub enum|\}|\{|$)")
@@ -96,8 +98,8 @@ def mutants(text):
 
 def brought(text, word):
     """The text with the word in its `use` lines, or nothing where its module is not used at all."""
-    name = word if word.isalpha() else f"_{word}_"
-    uses = re.search(rf"^use {re.escape(HOMES[word])}\.\{{(.*)\}}$", text, flags=re.M)
+    name = word if word.isalpha() else f"◌{word}◌"
+    uses = re.search(rf"^use {re.escape(HOME)}\.\{{(.*)\}}$", text, flags=re.M)
     if not uses:
         return None
     if name in uses.group(1).split(", "):
@@ -143,10 +145,10 @@ def new_lines(path, since):
     return {first - 1 + k for first, count in parts for k in range(count)}
 
 
-def check(command, crate, until=None):
+def check(place, crate, until=None):
     """The exit status and the words of rt; a run that is not over in time is ended, with all that it started."""
-    run = subprocess.Popen(["rt", command, crate], cwd=PLACE, stdout=subprocess.PIPE, stderr=subprocess.STDOUT, text=True,
-                           start_new_session=True)
+    run = subprocess.Popen(["rt", "check"], cwd=place / "crates" / crate, stdout=subprocess.PIPE, stderr=subprocess.STDOUT, text=True,
+                           errors="replace", start_new_session=True)
     try:
         said, _ = run.communicate(timeout=until and max(until - time.monotonic(), 1))
     except subprocess.TimeoutExpired:
@@ -158,39 +160,36 @@ def check(command, crate, until=None):
 
 def users(crate):
     """The crates that stand on the crate, in the order of crates.txt."""
-    listed = (re.match(r"(\w+): (.*)", line) for line in (ROOT / "crates.txt").read_text().split("\n"))
-    return [line.group(1) for line in listed if line and crate in line.group(2).split()]
+    return [name for name, below in dependencies((ROOT / "crates.txt").read_text()).items() if crate in below]
 
 
-def verdict(crate, definitions, limit):
+def verdict(place, crate, definitions, limit):
     until = time.monotonic() + limit
     try:
-        return verdict_until(crate, definitions, until)
+        return verdict_until(place, crate, definitions, until)
     except subprocess.TimeoutExpired:
         return "no verdict", ""
 
 
-def verdict_until(crate, definitions, until):
-    code, said = check("dev", crate, until)
-    if code == 0 and "logic=proved" in said:
-        asked = [crate, *(users(crate) if definitions else [])]
-        refusing = next((name for name in asked if check("check", name, until)[0] != 0), None)
+def verdict_until(place, crate, definitions, until):
+    code, said = check(place, crate, until)
+    if code == 0:
+        asked = users(crate) if definitions else []
+        refusing = next((name for name in asked if check(place, name, until)[0] != 0), None)
         return ("fact", f"noticed by {refusing}") if refusing else ("accepted", "")
     errors = [line for line in said.split("\n") if ": error" in line or "it is not proved that" in line or "no proof:" in line]
-    if "logic=not-proved" not in said:
-        return "no program", errors[0] if errors else ""
     first = errors[0] if errors else ""
+    if "logic=not-proved" not in said or re.search(r"\berror\[[\w-]+\]", said):
+        return "no program", first
     if definitions:
-        return "no program" if f"crates/{crate}/specs/" in first else "fact", first
-    by_shape = "`Need-" in first or "tie.Need-" in first or ("no proof: expected" in first and "does not close" not in first)
-    return "shape" if by_shape else "fact", first
+        return "no program" if re.match(r"(\./)?specs/", first) else "fact", first
+    return "shape" if all(NO_LONGER_FITS.match(line) for line in errors) else "fact", first
 
 
-def copy():
-    shutil.rmtree(PLACE / "crates", ignore_errors=True)
-    PLACE.mkdir(parents=True, exist_ok=True)
-    shutil.copytree(ROOT / "crates", PLACE / "crates")
-    shutil.copy(ROOT / "crates.txt", PLACE / "crates.txt")
+def copy(place):
+    shutil.copytree(ROOT / "crates", place / "crates", ignore=shutil.ignore_patterns("out", "must-fail"))
+    shutil.copy(ROOT / "crates.txt", place / "crates.txt")
+    (place / ".git").mkdir()
 
 
 def main():
@@ -214,28 +213,36 @@ def main():
     if asked.most and asked.most < len(found):
         picked = sorted(random.Random(asked.seed).sample(range(len(found)), asked.most))
         found = [found[k] for k in picked]
-    if not asked.list:
-        copy()
-        if check("check", asked.crate)[0] != 0:
-            sys.exit(f"mutants: {asked.crate} is not proved as it stands")
+    if asked.list:
+        for path, number, new in found:
+            print(shown(path, number, new))
+        return
+    with tempfile.TemporaryDirectory(prefix="mednukals-") as folder:
+        try_all(Path(folder).resolve(), asked, found)
+
+
+def shown(path, number, new):
+    """Where a change is, and what it is."""
+    old = path.read_text().split("\n")[number].strip()
+    after = new.split("\n")[number].strip() if number < len(new.split("\n")) else ""
+    return f"{path.relative_to(ROOT)}:{number + 1}: {old}  =>  {after}"
+
+
+def try_all(place, asked, found):
+    copy(place)
+    if check(place, asked.crate)[0] != 0:
+        sys.exit(f"mutants: {asked.crate} is not proved as it stands")
     counts, began = {}, time.time()
     for k, (path, number, new) in enumerate(found, 1):
-        old = path.read_text().split("\n")[number].strip()
-        place = f"{path.relative_to(ROOT)}:{number + 1}"
-        after = new.split("\n")[number].strip() if number < len(new.split("\n")) else ""
-        if asked.list:
-            print(f"{place}: {old}  =>  {after}")
-            continue
-        target = PLACE / path.relative_to(ROOT)
+        target = place / path.relative_to(ROOT)
         target.write_text(new)
-        kind, why = verdict(asked.crate, asked.definitions, asked.limit)
+        kind, why = verdict(place, asked.crate, asked.definitions, asked.limit)
         target.write_text(path.read_text())
         counts[kind] = counts.get(kind, 0) + 1
-        print(f"[{k}/{len(found)}, {time.time() - began:.0f} s] {kind}: {place}: {old}  =>  {after}", flush=True)
+        print(f"[{k}/{len(found)}, {time.time() - began:.0f} s] {kind}: {shown(path, number, new)}", flush=True)
         if kind == "shape" or why.startswith("noticed by"):
             print(f"    {why[:160]}", flush=True)
-    if not asked.list:
-        print(", ".join(f"{counts.get(kind, 0)} {kind}" for kind in ("accepted", "fact", "shape", "no program", "no verdict")))
+    print(", ".join(f"{counts.get(kind, 0)} {kind}" for kind in ("accepted", "fact", "shape", "no program", "no verdict")))
 
 
 if __name__ == "__main__":

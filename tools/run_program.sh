@@ -1,7 +1,7 @@
 #!/bin/sh
 # Runs a proved program over a capture: run_program.sh PROGRAM LAST WHAT FILE
-# FILE - is standard input. A Rattle program has no exit status: it has gone well where its last line is LAST, an extended
-# regular expression. Otherwise this fails, and the program has said why.
+# FILE - is standard input. The proved programs end with status 0 in any case: one has gone well where its last line is LAST, an
+# extended regular expression. Otherwise this fails, and the program has said why.
 set -u
 
 fail() {

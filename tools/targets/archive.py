@@ -23,9 +23,11 @@ TARGETS = {
 }
 X86_64 = ["--target=x86_64-unknown-linux-gnu", "-march=x86-64"]  # that of the modules
 LEVEL = "-O2"
-# As the kit compiles for x86-64: a section for each function, and no code where none can be reached.
+# As the kit compiles for x86-64: a section for each function, no code where none can be reached, and none of the steps of LLVM that the
+# kit leaves out.
+LEFT_OUT = ["-no-x86-call-frame-opt", "-disable-machine-licm", "-disable-postra-machine-licm", "-sink-common-insts=false"]
 CODE = ["-ffunction-sections", "-fdata-sections", "-fno-unwind-tables", "-fno-asynchronous-unwind-tables", "-Wno-override-module",
-        "-mllvm", "-trap-unreachable", "-mllvm", "-no-trap-after-noreturn"]
+        *(word for step in ("-trap-unreachable", "-no-trap-after-noreturn", *LEFT_OUT) for word in ("-mllvm", step))]
 OF_C = ["-std=c99", "-ffreestanding", "-Wall", "-Wextra", "-Werror", "-Wno-c11-extensions", f"-I{HERE / 'freestanding'}", f"-I{HEADER.parent}"]
 
 

@@ -26,8 +26,8 @@ FITS = {
     "struct dxl_step": {"taken": "StepFits.taken", "count": "StepFits.count", LENT: "StepFits.held"},
     "struct dxl_board_step": {
         "taken": "BoardFits.taken", "count": "BoardFits.count", "reply.slot": "BoardFits.slot", LENT: "BoardFits.held"},
-    "struct dxl_answer": {"slot": "DeviceFits.slot DeviceFits.packet-slot"},
-    "struct dxl_carried": {"reply.slot": "DeviceFits.waiting-slot DeviceFits.waiting-packet-slot"},
+    "struct dxl_answer": {"slot": "DeviceFits.slot DeviceFits.packet_slot"},
+    "struct dxl_carried": {"reply.slot": "DeviceFits.waiting_slot DeviceFits.waiting_packet_slot"},
     "struct dxl_event": {"offset": "EventFits.offset", "count": "EventFits.count", "next": "EventFits.next"},
     "struct dxl_found": {"segment": "FoundFits.segment", "offset": "FoundFits.offset"},
     "struct dxl_salvaged": {

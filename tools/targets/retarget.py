@@ -44,7 +44,7 @@ def of_module(module):
     if found := re.search(rf"\b(?:{'|'.join(BOUND)})\b|^@.*", code, flags=re.M):
         stop(found[0])
     module = re.sub(r"^(?:target|source_filename) .*\n", "", module, flags=re.M)
-    module = re.sub(r' "(?:target-cpu|probe-stack)"="[^"]*"', "", module)
+    module = re.sub(r' "(?:target-cpu|probe-stack|stack-probe-size)"="[^"]*"', "", module)
     module = re.sub(r"^define (?=[^\n\"]*@dxl_)", "define internal ", module, flags=re.M)
     module = re.sub(r" byval\(\[\d+ x i8\]\) align \d+", "", module.replace("@dxl_", "@raw_dxl_"))
     for left in ("byval", "sret", "x86", "target-features"):

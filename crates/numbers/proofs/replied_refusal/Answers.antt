@@ -1,0 +1,17 @@
+use mathlib.Core.Path.{◌≡◌, sym, ap, ◌∙◌}
+use mir.Facts.{to_z-of_z}
+use mir.Syntax.{w64}
+use Rattle.device.specs.declared.Replied.{Replied}
+use Rattle.numbers.specs.Exported.{refusal_number}
+use Rattle.numbers.proofs.replied_refusal.Goals as goal
+
+by_case : (r s : Replied) → r ≡ s → refusal_number s ≡ refusal_number r
+by_case r s e = ap refusal_number (sym e)
+
+pub returns-in-Sent : goal.returns-in-Sent
+returns-in-Sent c = by_case _ _ c.in-Sent.is
+
+pub returns-in-Refused : goal.returns-in-Refused
+returns-in-Refused c =
+    let r = c.exported_refusal in
+    to_z-of_z {w = w64} (record { sfits = r.type_inv }) ∙ r.ensures ∙ by_case _ _ c.in-Refused.is

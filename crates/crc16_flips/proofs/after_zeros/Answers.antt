@@ -15,7 +15,7 @@ summed : (c : After-times-power)
 summed c =
     let t = c.loop-left.invariant in
     elim c.if-left-eq1.branch [
-      then-left-eq1 w ↦ (w.sum-is ∙ w.times-sum.ensures ∙ odd t w.if-left-eq1.true, rw w.sum-is w.times-sum.type_inv)
+      | then-left-eq1 w ↦ (w.sum-is ∙ w.times-sum.ensures ∙ odd t w.if-left-eq1.true, rw w.sum-is w.times-sum.type_inv)
       | else-left-eq1 w ↦ (w.sum-is ∙ even t (omega (arith, w.if-left-eq1.false)), rw w.sum-is t.small)
     ]
 

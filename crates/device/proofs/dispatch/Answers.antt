@@ -24,7 +24,7 @@ returns c =
     let a = c.args in
     let e = to_device a.table.now a.registered a.heard a.id a.body.now _ refl
     (λ n. elim c.if-not-own.branch [
-      then-not-own+else-id-ne-BROADCAST_ID w ↦ w.if-id-ne-BROADCAST_ID.false
+      | then-not-own+else-id-ne-BROADCAST_ID w ↦ w.if-id-ne-BROADCAST_ID.false
       | else-not-own w ↦ both_ways _ (eq-eqb _ _ w.if-not-own.false) n
     ]) in
     record {

@@ -35,10 +35,10 @@ returns c =
     let own = get_or a.table.now 7 0 in
     let level = get_or a.table.now 68 0 in record {
       value = ap (λ (x : Reply). record { refused = Sent 0 0; reply = x; registered = c.reaction-reacted.result.done.registered; error = c.reaction-reacted.result.done.error })
-      (c.reply_to.ensures
-      ∙ ap (λ (t : List ℕ). reply_to t own level c.reaction-reacted.result) left
-      ∙ ap (reply_to q.effect.table own level) reacted
-      ∙ reply_of a.table.now q)
-      ∙ ap (λ (x : Done). record { refused = Sent 0 0; reply = reply_by q.replying a.table.now q.effect; registered = x.registered; error = x.error }) (ap (λ (x : Reacted). x.done) reacted ∙ reacted_done q);
+          (c.reply_to.ensures
+          ∙ ap (λ (t : List ℕ). reply_to t own level c.reaction-reacted.result) left
+          ∙ ap (reply_to q.effect.table own level) reacted
+          ∙ reply_of a.table.now q)
+          ∙ ap (λ (x : Done). record { refused = Sent 0 0; reply = reply_by q.replying a.table.now q.effect; registered = x.registered; error = x.error }) (ap (λ (x : Reacted). x.done) reacted ∙ reacted_done q);
       table_after = left;
     }

@@ -20,8 +20,8 @@ pub returns-then-not-is_done : goal.returns-then-not-is_done
 returns-then-not-is_done c =
     let bad = sym c.is_done.ensures ∙ c.if-not-is_done.true in record {
       value = c.without_data.ensures
-      ∙ ap (λ (error : ℕ). done_with error [] c.args.registered) c.error_of.ensures
-      ∙ reg_write_refused c.args.table.now c.args.registered c.args.address c.args.bytes.now c.judge-outcome.result c.judge-outcome.ensures bad;
+          ∙ ap (λ (error : ℕ). done_with error [] c.args.registered) c.error_of.ensures
+          ∙ reg_write_refused c.args.table.now c.args.registered c.args.address c.args.bytes.now c.judge-outcome.result c.judge-outcome.ensures bad;
       table_after = reg_write_stays c.args.table.now c.args.registered c.args.address c.args.bytes.now c.judge-outcome.result c.judge-outcome.ensures bad;
     }
 

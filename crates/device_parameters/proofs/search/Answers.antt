@@ -57,7 +57,7 @@ loop-at-preserved c =
     let size = size_is a.kind a.params.now h.at c.entry_size-size.result (omega arith) c.entry_size-size.ensures n in
     let known = c.if-id-gt-MAX_ID.false in
     rw size (elim c.if-marks-k-ne0.branch [
-      then-marks-k-ne0+else-marks-k-eq-PASSED w ↦
+      | then-marks-k-ne0+else-marks-k-eq-PASSED w ↦
           rw (w.own_slot-is, w.own_at-is)
           (own_next (entry_of a.kind) a.own a.params.now a.from h.marks h.at h.slot _ h.invariant c.loop-at-test.true ok whole known w.if-marks-k-eq-PASSED.false (some_bytes a.kind (drop h.at a.params.now)) w.if-marks-k-ne0.true)
       | else-marks-k-ne0 w ↦

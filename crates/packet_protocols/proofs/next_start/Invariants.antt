@@ -6,7 +6,7 @@ use Rattle.packet_protocols.specs.Protocols.{may_begin_of}
 use Rattle.packet_protocols.proofs.next_start.Given as goal
 
 abbrev pub invariant-loop-at : goal.invariant-loop-at
-invariant-loop-at l =     l.from + before_start (may_begin_of l.protocol) (drop l.from l.segment) ≡ l.at + before_start (may_begin_of l.protocol) (drop l.at l.segment)
+invariant-loop-at l = l.from + before_start (may_begin_of l.protocol) (drop l.from l.segment) ≡ l.at + before_start (may_begin_of l.protocol) (drop l.at l.segment)
 
 abbrev pub decreases-loop-at : goal.decreases-loop-at
 decreases-loop-at l = length l.segment - l.at

@@ -29,8 +29,9 @@ pub loop-id-preserved : goal.loop-id-preserved
 loop-id-preserved c =
     below_next (λ k. past c.args.goals.now c.args.stood.now k ≡ wanted c.args.goals.now k) c.loop-id.id c.loop-id.invariant
     (elim c.if-goals-id-ge0.branch [
-      then-goals-id-ge0+else-stood-id-eq0 w ↦ needed_stood c.args.goals.now c.args.stood.now c.loop-id.id (omega arith) w.if-stood-id-eq0.false
-    | else-goals-id-ge0 w ↦ none_needed c.args.goals.now c.args.stood.now c.loop-id.id (omega arith) (simp (element (goal.at.loop-id-preserved c).After-t7-1) at w.if-goals-id-ge0.false) ])
+      | then-goals-id-ge0+else-stood-id-eq0 w ↦ needed_stood c.args.goals.now c.args.stood.now c.loop-id.id (omega arith) w.if-stood-id-eq0.false
+      | else-goals-id-ge0 w ↦ none_needed c.args.goals.now c.args.stood.now c.loop-id.id (omega arith) (simp (element (goal.at.loop-id-preserved c).After-t7-1) at w.if-goals-id-ge0.false)
+    ])
 
 pub returns : goal.returns
 returns c = λ id h. c.loop-id.invariant id (omega arith)

@@ -23,8 +23,9 @@ loop-id-preserved c =
     let i = c.loop-id.invariant in
     let t = c.loop-id-test.true in
     elim c.if-goals-id-ge0.branch [
-      then-goals-id-ge0 w ↦ (omega (arith, w.n-is, i.0), omega (arith, w.n-is, i.1, ap length (at_wanted a.goals.now c.loop-id.id t (simp (element (goal.at.loop-id-preserved c).After-t7-1) at w.if-goals-id-ge0.true))))
-    | else-goals-id-ge0 w ↦ (omega (arith, w.n-is, i.0), omega (arith, w.n-is, i.1, ap length (at_unwanted a.goals.now c.loop-id.id t (simp (element (goal.at.loop-id-preserved c).After-t7-1) at w.if-goals-id-ge0.false)))) ]
+      | then-goals-id-ge0 w ↦ (omega (arith, w.n-is, i.0), omega (arith, w.n-is, i.1, ap length (at_wanted a.goals.now c.loop-id.id t (simp (element (goal.at.loop-id-preserved c).After-t7-1) at w.if-goals-id-ge0.true))))
+      | else-goals-id-ge0 w ↦ (omega (arith, w.n-is, i.0), omega (arith, w.n-is, i.1, ap length (at_unwanted a.goals.now c.loop-id.id t (simp (element (goal.at.loop-id-preserved c).After-t7-1) at w.if-goals-id-ge0.false))))
+    ]
 
 pub returns : goal.returns
 returns c = let i = c.loop-id.invariant in omega (arith, i.1, ap length (at_end c.args.goals.now c.loop-id.id c.loop-id-test.false))

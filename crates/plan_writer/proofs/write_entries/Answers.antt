@@ -82,15 +82,16 @@ loop-i-preserved c =
     let g = get_or c.args.goals.now h.id (pos 0) in
     let r = room (goal.at.loop-i-preserved c).In-loop-i in
     elim c.if-goals-id-ge0.branch [
-      then-goals-id-ge0 w ↦
-        rw w.i-is
-        (filling_next c.args.goals.now c.args.from c.args.k c.args.out.now h.out h.id h.i h.invariant c.if-goals-id-ge0.out c.requires.1 c.loop-i-test.true (more (goal.at.loop-i-preserved c).In-loop-i)
-        (simp (element (goal.at.loop-i-preserved c).After-t10-1) at w.if-goals-id-ge0.true)
-        (w.out-is ∙ tail_placed (5 * h.i) h.out _ (entry_bytes (h.id, unsigned g)) (omega arith)
-        (w.write_entry.ensures ∙ ap (λ (v : ℤ). overwritten (mid_of (5 * h.i) (length h.out - 5 * h.i) h.out) (entry_bytes (h.id, unsigned v))) (element (goal.at.loop-i-preserved c).After-t10-1))))
-    | else-goals-id-ge0 w ↦
-        rw (w.out-is, w.i-is)
-        (filling_skip c.args.goals.now c.args.from c.args.k c.args.out.now h.out h.id h.i h.invariant (more (goal.at.loop-i-preserved c).In-loop-i) (simp (element (goal.at.loop-i-preserved c).After-t10-1) at w.if-goals-id-ge0.false)) ]
+      | then-goals-id-ge0 w ↦
+          rw w.i-is
+          (filling_next c.args.goals.now c.args.from c.args.k c.args.out.now h.out h.id h.i h.invariant c.if-goals-id-ge0.out c.requires.1 c.loop-i-test.true (more (goal.at.loop-i-preserved c).In-loop-i)
+          (simp (element (goal.at.loop-i-preserved c).After-t10-1) at w.if-goals-id-ge0.true)
+          (w.out-is ∙ tail_placed (5 * h.i) h.out _ (entry_bytes (h.id, unsigned g)) (omega arith)
+          (w.write_entry.ensures ∙ ap (λ (v : ℤ). overwritten (mid_of (5 * h.i) (length h.out - 5 * h.i) h.out) (entry_bytes (h.id, unsigned v))) (element (goal.at.loop-i-preserved c).After-t10-1))))
+      | else-goals-id-ge0 w ↦
+          rw (w.out-is, w.i-is)
+          (filling_skip c.args.goals.now c.args.from c.args.k c.args.out.now h.out h.id h.i h.invariant (more (goal.at.loop-i-preserved c).In-loop-i) (simp (element (goal.at.loop-i-preserved c).After-t10-1) at w.if-goals-id-ge0.false))
+    ]
 
 pub shape_of-out : goal.shape_of-out
 shape_of-out c =

@@ -29,5 +29,5 @@ returns c =
     record {
       result_value = c.write_params-next.ensures.result_value;
       out_after = c.encode.ensures.out_after
-      ∙ packet_placed (entries_at c.args.goals.now c.args.from) c.args.k c.requires.2 c.args.out.now c.args.at c.requires.3 c.requires.1 c.requires.4 _ (filled (goal.at.returns c).After-write_params-next).1;
+          ∙ packet_placed (entries_at c.args.goals.now c.args.from) c.args.k c.requires.2 c.args.out.now c.args.at c.requires.3 c.requires.1 c.requires.4 _ (filled (goal.at.returns c).After-write_params-next).1;
     }

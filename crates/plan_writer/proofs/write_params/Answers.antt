@@ -24,5 +24,5 @@ returns c =
     let y = list_bytes (take c.args.k (entries_at c.args.goals.now c.args.from)) in record {
       result_value = c.write_entries.ensures.result_value;
       out_after = tail_placed 4 c.write_head.new.out _ y (omega (arith, long (goal.at.returns c).After-write_head, c.requires.2)) c.write_entries.ensures.out_after
-      ∙ ap (λ (o : List ℕ). placed o 4 y) c.write_head.ensures ∙ placed_next c.args.out.now (116 ∷ 0 ∷ 4 ∷ 0 ∷ []) y;
+          ∙ ap (λ (o : List ℕ). placed o 4 y) c.write_head.ensures ∙ placed_next c.args.out.now (116 ∷ 0 ∷ 4 ∷ 0 ∷ []) y;
     }

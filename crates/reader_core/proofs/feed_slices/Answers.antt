@@ -225,7 +225,7 @@ returns-in-Packet c =
     let held_are = c.judge_longest.ensures.packet_after.1 ∙ ap (drop 1) (lent g) in
     record {
       delivered = full_packet c.args.protocol _ _ _ (window g) _ _ _ c.loop-seen.invariant.3 full.4 size _ _ _ _ _
-      (was_packet _ _ _ (sym answer ∙ c.in-Packet.is)) c.stepped.ensures c.id_in-id.ensures bytes_are;
+          (was_packet _ _ _ (sym answer ∙ c.in-Packet.is)) c.stepped.ensures c.id_in-id.ensures bytes_are;
       spared = to_spared_full g same' full _ _ _ (ap (λ (x : Step). x.taken) c.stepped.ensures) held_are;
     }
 
@@ -240,7 +240,7 @@ returns-in-BadChecksum c =
     let held_are = c.judge_longest.ensures.packet_after.1 ∙ ap (drop 1) (lent g) in
     record {
       delivered = full_bad c.args.protocol _ _ _ (window g) _ _ _ c.loop-seen.invariant.3 full.4 size _ _ room held_are _ _ _
-      (was_bad _ _ _ (sym answer ∙ c.in-BadChecksum.is)) c.stepped-in-BadChecksum.ensures;
+          (was_bad _ _ _ (sym answer ∙ c.in-BadChecksum.is)) c.stepped-in-BadChecksum.ensures;
       spared = to_spared_full g same' full _ _ _ (ap (λ (x : Step). x.taken) c.stepped-in-BadChecksum.ensures) held_are;
     }
 

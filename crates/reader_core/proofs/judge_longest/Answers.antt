@@ -33,8 +33,8 @@ returns c =
     record {
       value = c.judge.ensures ∙ ap (answer_by (rules_of c.args.protocol)) (whole (goal.at.returns c).After-place-2);
       packet_after = (
-      whole (goal.at.returns c).After-place-2,
-      longest_held c.args.held.now c.args.more.now c.args.packet.now c.args.at c.args.end c.requires.0 c.requires.1 c.requires.2 c.requires.3 _ _ (whole (goal.at.returns c).After-place-2)
-      c.place-3.ensures,
+        whole (goal.at.returns c).After-place-2,
+        longest_held c.args.held.now c.args.more.now c.args.packet.now c.args.at c.args.end c.requires.0 c.requires.1 c.requires.2 c.requires.3 _ _ (whole (goal.at.returns c).After-place-2)
+            c.place-3.ensures,
       );
     }

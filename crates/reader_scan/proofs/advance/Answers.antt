@@ -62,16 +62,16 @@ module _ (k : Joined-front) where
     settling : (n : ℕ) → k.match-front.front ≡ Whole n
         → (k.loop-protocol.end ≤ k.match-front.end) × (k.next_start-at.result + settled ≤ k.match-front.end) × ((k.match-front.end ≡ k.loop-protocol.end) ⊎ (k.match-front.end ≡ k.next_start-at.result + settled))
     settling n e = elim k.match-front.branch [
-          in-Nothing w ↦ let z = sym w.in-Nothing.is ∙ sym same ∙ e in cc
-          | in-Whole w ↦ let z : settled ≡ w.in-Whole.size = told (Whole _) w.in-Whole.is in rw (w.end-is, z) w.greatest-end.ensures
-        ]
+      | in-Nothing w ↦ let z = sym w.in-Nothing.is ∙ sym same ∙ e in cc
+      | in-Whole w ↦ let z : settled ≡ w.in-Whole.size = told (Whole _) w.in-Whole.is in rw (w.end-is, z) w.greatest-end.ensures
+    ]
 
     unsettled : ((n : ℕ) → k.match-front.front ≡ Whole n → ⊥)
         → (k.match-front.end ≡ k.loop-protocol.end) × Peeked (rules_of k.args.protocol) (settled_by (shape_of k.args.protocol)) (drop k.next_start-at.result k.args.chunk.now) Nothing
     unsettled e = elim k.match-front.branch [
-          in-Nothing w ↦ (w.end-is, told Nothing w.in-Nothing.is)
-          | in-Whole w ↦ absurd (e _ (same ∙ w.in-Whole.is))
-        ]
+      | in-Nothing w ↦ (w.end-is, told Nothing w.in-Nothing.is)
+      | in-Whole w ↦ absurd (e _ (same ∙ w.in-Whole.is))
+    ]
 
 pub overflow_add-at-in-Whole-front : goal.overflow_add-at-in-Whole-front
 overflow_add-at-in-Whole-front c =
@@ -121,7 +121,7 @@ loop-protocol-preserved c =
     let by = settled_by (shape_of c.args.protocol) in
     let S = settles c.args.protocol in
     elim c.match-front-2.branch [
-      in-Whole-front+in_default-judge_whole w ↦
+      | in-Whole-front+in_default-judge_whole w ↦
           let b = settling k told _ w.in-Whole-front.is in
           sought_next R L by S c.args.chunk.now c.next_start-at.result c.loop-protocol.end so_far c.match-front.end there b.0 b.1 b.2
           (nothing_at c.args.protocol c.args.chunk.now c.next_start-at.result _ c.peek-front.ensures _ (sym (same k) ∙ w.in-Whole-front.is) w.judge_whole.result w.judge_whole.ensures

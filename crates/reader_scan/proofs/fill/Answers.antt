@@ -32,6 +32,6 @@ returns c =
     let g = c.fill_from.ensures in record {
       filled = before_filled R _ s.held.now c.take_few-first.new.held s.count _ _ l c.take_few-first.auto.held t.3 c.fill_from.new.held c.fill_from.result g.filled;
       held_unchanged = before_stays R _ s.held.now c.take_few-first.new.held s.count _ _ l c.take_few-first.auto.held t.3 _
-      (few_reached R (laws s.protocol) _ (length s.held.now) (shape_of s.protocol).shortest
-      (undecided (shape_of s.protocol) (shapes_kept s.protocol)) _ _ _ (length-take-le _ _ (omega (arith, l, c.take_few-first.auto.held))) t.0 t.2) t.4 g.held_unchanged;
+          (few_reached R (laws s.protocol) _ (length s.held.now) (shape_of s.protocol).shortest
+          (undecided (shape_of s.protocol) (shapes_kept s.protocol)) _ _ _ (length-take-le _ _ (omega (arith, l, c.take_few-first.auto.held))) t.0 t.2) t.4 g.held_unchanged;
     }

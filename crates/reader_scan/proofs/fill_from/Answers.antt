@@ -50,11 +50,11 @@ pub returns-in_default : goal.returns-in_default
 returns-in_default c =
     let w = c.loop-start.invariant.0 in record {
       filled = (
-      w.size,
-      w.taken_within,
-      filling_fits (rules_of c.args.protocol) (laws c.args.protocol) _ _ _ _ _ _ _ w,
-      filling_decided (rules_of c.args.protocol) (laws c.args.protocol) _ _ _ _ _ _ _ w c.scan-live.result.seen
-      c.in_default.not-Waiting c.scan-live.ensures.0,
+        w.size,
+        w.taken_within,
+        filling_fits (rules_of c.args.protocol) (laws c.args.protocol) _ _ _ _ _ _ _ w,
+        filling_decided (rules_of c.args.protocol) (laws c.args.protocol) _ _ _ _ _ _ _ w c.scan-live.result.seen
+            c.in_default.not-Waiting c.scan-live.ensures.0,
       );
       held_unchanged = stays (goal.at.returns-in_default c).At-loop-start;
     }
@@ -94,10 +94,10 @@ returns-then-back_in_chunk c =
     let ws = waits (goal.at.returns-then-back_in_chunk c).In-Waiting in
     let w = c.loop-start.invariant.0 in record {
       filled = (
-      w.size,
-      omega (arith, w.taken_within),
-      (window_back (rules_of c.args.protocol) (laws c.args.protocol) _ _ _ _ _ _ _ w _ ws (shape_of c.args.protocol).shortest
-      (undecided (shape_of c.args.protocol) (shapes_kept c.args.protocol)) (sym c.back_in_chunk.ensures ∙ c.if-back_in_chunk.true)).1,
+        w.size,
+        omega (arith, w.taken_within),
+        (window_back (rules_of c.args.protocol) (laws c.args.protocol) _ _ _ _ _ _ _ w _ ws (shape_of c.args.protocol).shortest
+            (undecided (shape_of c.args.protocol) (shapes_kept c.args.protocol)) (sym c.back_in_chunk.ensures ∙ c.if-back_in_chunk.true)).1,
       );
       held_unchanged = stays (goal.at.returns-then-back_in_chunk c).At-loop-start;
     }
@@ -106,8 +106,8 @@ returns-then-back_in_chunk c =
 module _ (l : After-least-more)
     (ws : Waits (rules_of l.args.protocol) open' (take l.loop-start.end l.loop-start.held) l.loop-start.at l.in-Waiting.start)
     (wt : l.in-Waiting.start < length (take l.loop-start.end l.loop-start.held)
-      → ((rules_of l.args.protocol).verdict (drop l.in-Waiting.start (take l.loop-start.end l.loop-start.held)) ≡ is_waiting)
-      × ((rules_of l.args.protocol).lacks (drop l.in-Waiting.start (take l.loop-start.end l.loop-start.held)) ≡ l.scan-live.result.lacks)) where
+    → ((rules_of l.args.protocol).verdict (drop l.in-Waiting.start (take l.loop-start.end l.loop-start.held)) ≡ is_waiting)
+    × ((rules_of l.args.protocol).lacks (drop l.in-Waiting.start (take l.loop-start.end l.loop-start.held)) ≡ l.scan-live.result.lacks)) where
   wanted : ((rules_of l.args.protocol).verdict (drop l.in-Waiting.start (take l.loop-start.end l.loop-start.held)) ≡ is_waiting)
       × ((rules_of l.args.protocol).lacks (drop l.in-Waiting.start (take l.loop-start.end l.loop-start.held)) ≡ l.scan-live.result.lacks)
   wanted = wt (window_waits (rules_of l.args.protocol) (laws l.args.protocol) _ _ _ _ _ _ _ l.loop-start.invariant.0 _ ws

@@ -6,7 +6,7 @@ use lib.ListN.{length, take, drop}
 use Rattle.reader_scan.proofs.fill_from.Given as goal
 
 abbrev pub invariant-loop-start : goal.invariant-loop-start
-invariant-loop-start l =     Filling (rules_of l.protocol) (take l.count l.initial.held) l.chunk (length l.initial.held) l.held l.taken l.at l.end × (l.end ≤ l.count + l.taken)
+invariant-loop-start l = Filling (rules_of l.protocol) (take l.count l.initial.held) l.chunk (length l.initial.held) l.held l.taken l.at l.end × (l.end ≤ l.count + l.taken)
     × (drop (l.count + l.taken) l.held ≡ drop (l.count + l.taken) l.initial.held)
 
 abbrev pub decreases-loop-start : goal.decreases-loop-start

@@ -86,11 +86,14 @@ loop-protocol-smaller c = let i = start (goal.at.loop-protocol-smaller c).After-
 pub loop-protocol-preserved : goal.loop-protocol-preserved
 loop-protocol-preserved c =
     let i = start (goal.at.loop-protocol-preserved c).After-next_start-at in
-    let h = c.if-s-at.false in
-    (omega (arith, i.0), omega arith, scan_nothing (rules_of c.args.protocol) (laws c.args.protocol) open' c.args.s.now _ (c.next_start-at.result) i.0 i.3 h (elim c.match-front-2.branch [
-        in-Whole+in_default-judge_whole w ↦
+    let h = c.if-s-at.false in (
+      omega (arith, i.0),
+      omega arith,
+      scan_nothing (rules_of c.args.protocol) (laws c.args.protocol) open' c.args.s.now _ (c.next_start-at.result) i.0 i.3 h (elim c.match-front-2.branch [
+        | in-Whole+in_default-judge_whole w ↦
             nothing_at c.args.protocol c.args.s.now c.next_start-at.result _ c.peek-front.ensures _ w.in-Whole.is w.judge_whole.result w.judge_whole.ensures
             w.in_default-judge_whole.not-Packet w.in_default-judge_whole.not-BadChecksum
         | in_default-front w ↦
             (none_at c.args.protocol c.args.s.now c.next_start-at.result _ c.peek-front.ensures c.in_default.not-Waiting w.in_default-front.not-Whole).0
-      ]))
+      ]),
+    )

@@ -82,11 +82,11 @@ loop-protocol-preserved c =
     let R = rules_of c.args.protocol in
     let L = laws c.args.protocol in
     let passed : first R closed (drop c.next_start-at.result c.args.segment.now) ≡ first R closed (drop (c.next_start-at.result + 1) c.args.segment.now) = elim c.match-peek.branch [
-        in-Whole+in_default-judge_whole w ↦
-            scan_nothing R L closed c.args.segment.now c.next_start-at.result c.next_start-at.result (omega arith) refl there
-            (nothing_at c.args.protocol c.args.segment.now c.next_start-at.result _ c.peek.ensures _ w.in-Whole.is w.judge_whole.result w.judge_whole.ensures
-            w.in_default-judge_whole.not-Packet w.in_default-judge_whole.not-BadChecksum)
-        | in_default w ↦
-            peek_past R L (settled_by (shape_of c.args.protocol)) c.args.segment.now c.next_start-at.result there c.peek.result told w.in_default.not-Whole
-      ] in
+      | in-Whole+in_default-judge_whole w ↦
+          scan_nothing R L closed c.args.segment.now c.next_start-at.result c.next_start-at.result (omega arith) refl there
+          (nothing_at c.args.protocol c.args.segment.now c.next_start-at.result _ c.peek.ensures _ w.in-Whole.is w.judge_whole.result w.judge_whole.ensures
+          w.in_default-judge_whole.not-Packet w.in_default-judge_whole.not-BadChecksum)
+      | in_default w ↦
+          peek_past R L (settled_by (shape_of c.args.protocol)) c.args.segment.now c.next_start-at.result there c.peek.result told w.in_default.not-Whole
+    ] in
     (omega (arith, there), before ∙ passed)

@@ -43,7 +43,7 @@ loop-i-preserved c =
     let t = c.loop-i-test.true in
     let m = c.ends_mark.ensures in
     elim c.if-ends_mark.branch [
-      then-ends_mark+else-body-i+else-body-i-2 w ↦
+      | then-ends_mark+else-body-i+else-body-i-2 w ↦
           let e = sym m ∙ w.if-ends_mark.true in
           let next = w.if-body-i.false in
           rw w.i-is (

@@ -7,7 +7,7 @@ use Rattle.stuffing.proofs.Rounds.{well_at, unstuffed_at, marked}
 use Rattle.stuffing.proofs.check.Given as goal
 
 abbrev pub invariant-loop-i : goal.invariant-loop-i
-invariant-loop-i l =     (l.i ≤ length l.body) × (l.n ≤ l.i) × (marked l.body l.i ≡ false) × (well_at l.body l.i ≡ well_stuffed l.body)
+invariant-loop-i l = (l.i ≤ length l.body) × (l.n ≤ l.i) × (marked l.body l.i ≡ false) × (well_at l.body l.i ≡ well_stuffed l.body)
     × (l.n + length (unstuffed_at l.body l.i) ≡ length (unstuff l.body))
 
 abbrev pub decreases-loop-i : goal.decreases-loop-i

@@ -47,7 +47,7 @@ loop-i-preserved c =
     let m = c.ends_mark.ensures in
     let r = room (goal.at.loop-i-preserved c).After-shared_slice_known-in-loop-i-1 in
     elim c.if-ends_mark.branch [
-      then-ends_mark w ↦
+      | then-ends_mark w ↦
           let e = sym m ∙ w.if-ends_mark.true in
           let n = next c w.if-ends_mark.true in
           rw w.i-is (

@@ -34,7 +34,7 @@ loop-i-preserved c =
     let t = c.loop-i-test.true in
     let m = c.ends_mark.ensures in
     elim c.if-ends_mark.branch [
-      then-ends_mark w ↦ (search rules, omega arith, omega (arith, ap length (stuff_marked a.first a.rest.now h.i (sym m ∙ w.if-ends_mark.true) t)))
+      | then-ends_mark w ↦ (search rules, omega arith, omega (arith, ap length (stuff_marked a.first a.rest.now h.i (sym m ∙ w.if-ends_mark.true) t)))
       | else-ends_mark w ↦ (search rules, omega arith, omega (arith, ap length (stuff_plain a.first a.rest.now h.i (sym m ∙ w.if-ends_mark.false) t)))
     ]
 

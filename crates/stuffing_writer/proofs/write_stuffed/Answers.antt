@@ -92,7 +92,7 @@ loop-i-preserved c =
     let m = c.ends_mark.ensures in
     let room : h.j < length (set a.out.now 0 a.first) = simp length-set (omega (arith, kept (goal.at.loop-i-preserved c).At-loop-i, c.if-out-j.false)) in
     elim c.if-ends_mark.branch [
-      then-ends_mark+else-out-j-2 w ↦ (
+      | then-ends_mark+else-out-j-2 w ↦ (
         search rules,
         rw (w.out-is, w.j-is)
             (fill_next _ _ _ (h.j + 1) 0xFD _

@@ -7,7 +7,7 @@ use Rattle.stuffing_writer.proofs.Rounds.{stuffed_at}
 use Rattle.stuffing_writer.proofs.write_stuffed.Given as goal
 
 abbrev pub invariant-loop-i : goal.invariant-loop-i
-invariant-loop-i l =     (l.i ≤ length l.rest) × Filling (stuff (l.first ∷ l.rest)) l.initial.out l.out l.j (stuffed_at l.first l.rest l.i)
+invariant-loop-i l = (l.i ≤ length l.rest) × Filling (stuff (l.first ∷ l.rest)) l.initial.out l.out l.j (stuffed_at l.first l.rest l.i)
 
 abbrev pub decreases-loop-i : goal.decreases-loop-i
 decreases-loop-i l = length l.rest - l.i

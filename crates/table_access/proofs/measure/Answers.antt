@@ -29,5 +29,5 @@ returns c =
     let a = c.args in record {
       value = rw e;
       table_after = rw e (measured_sets a.table.now c.bytes_of-bytes.result a.position a.error l (search rules)
-      (c.bytes_of-bytes.ensures ∙ ap (bytes_of 4) (c.unsigned_of.ensures ∙ ap unsigned (to_z-of_z c.ranges.position))));
+          (c.bytes_of-bytes.ensures ∙ ap (bytes_of 4) (c.unsigned_of.ensures ∙ ap unsigned (to_z-of_z c.ranges.position))));
     }

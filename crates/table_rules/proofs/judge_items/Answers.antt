@@ -154,7 +154,7 @@ loop-a-preserved c =
       inr (border h.a (omega arith)),
       walk_passed h.a (omega arith) (covers _ _) _ c.loop-a-test.true e b.1 ∙ h.invariant.3,
       elim c.if-not-in_range.branch [
-        then-not-in_range v ↦
+        | then-not-in_range v ↦
             let bad = walk_failed h.a (omega arith) (value_in_range _) _ c.loop-a-test.true (sym (in_range_is (goal.at.loop-a-preserved c).After-in_range w b row) ∙ v.if-not-in_range.true) in
             rw v.good-is (sym (sym h.invariant.4 ∙ ap (λ (t : Bool). h.good && t) bad ∙ and-false h.good))
         | else-not-in_range v ↦

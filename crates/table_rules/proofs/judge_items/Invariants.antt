@@ -10,7 +10,7 @@ use Rattle.table_rules.proofs.Walks.{Border}
 use Rattle.table_rules.proofs.judge_items.Given as goal
 
 abbrev pub invariant-loop-a : goal.invariant-loop-a
-invariant-loop-a l =     let n = length l.bytes in
+invariant-loop-a l = let n = length l.bytes in
     let test = value_in_range (stored l.table l.address l.bytes) in
     (l.address ≤ l.a) × (l.a ≤ l.end) × ((l.a ≡ l.address) ⊎ Border l.a)
     × (every_touched l.a (l.end - l.a) (covers l.address n) registers ≡ every_touched l.address n (covers l.address n) registers)

@@ -1,6 +1,6 @@
 #!/bin/sh
-# Prints the folder for temporary files, where TMPDIR names none. The check of a crate copies what it rests on there, some thousand
-# small files of up to 330 MB, and creating them takes seconds on a disk: so it is a folder in memory where several checks find room.
+# Prints the folder for temporary files, where TMPDIR names none. Each try of a must-fail edit gets a copy of its crate and of what is
+# proved of it there, hundreds of small files: so it is a folder in memory where several checks find room.
 set -u
 
 room() { # FOLDER: kilobytes that are free in it

@@ -22,7 +22,7 @@ use Rattle.device_status.specs.declared.Reply.{Reply}
 use Rattle.device_status.specs.Status.{silence}
 use Rattle.device.specs.Device.{Carried, carried, executed, carry_out}
 use Rattle.device.proofs.Replies.{to_another, to_whomever}
-use Rattle.board.specs.Board.{Board, Outcome, carried_out, carried_if_any, board_refusal, outcome_unless, outcome}
+use Rattle.board.specs.Board.{Board, Outcome, carried_out, carried_if_any, board_refusal, outcome}
 use Rattle.board_in_step.specs.InStep.{Shown, spoken, hearing, boards, replies_of, shown_after, NotFor, NoneFor, NoPacketFor, SameState}
 use Rattle.board_in_step.proofs.OneCall.{outcome_is, next_accepted}
 

@@ -13,14 +13,13 @@ use Rattle.reading.proofs.Follows.{follows_given, follows_took}
 use Rattle.packet.specs.Verdict.{protocol2}
 use Rattle.reader_records.specs.Records.{held_in}
 use Rattle.device_instructions.specs.declared.RegisteredWrite.{RegisteredWrite}
-use Rattle.device_status.specs.declared.Reply.{Reply}
 use Rattle.device_calls.specs.Calls.{measurement, lend, state_of}
 use Rattle.device_calls.proofs.Stays.{stays_accepted}
-use Rattle.board.specs.Board.{board_of, Board, Outcome, carried_if_any, reader_left, board_refusal, outcome}
+use Rattle.board.specs.Board.{Board, Outcome, carried_if_any, reader_left, board_refusal, outcome}
 use Rattle.reader_records.specs.declared.Reader.{Reader}
 use Rattle.board.proofs.Refusals.{accepted, accepts}
-use Rattle.board_in_step.specs.InStep.{Shown, spoken, boards}
-use Rattle.board_in_step.specs.Measured.{LoopStep, line, measured, calls_in, Job, hears, measures, events_in, doing, measuring, board_after, taken_in, replies_in, jobs_of, shown_in, InStepMeasured}
+use Rattle.board_in_step.specs.InStep.{spoken, boards}
+use Rattle.board_in_step.specs.Measured.{LoopStep, line, measured, calls_in, Job, hears, events_in, doing, measuring, board_after, taken_in, replies_in, jobs_of, shown_in, InStepMeasured}
 use Rattle.board_in_step.proofs.OneCall.{outcome_is, next_accepted, follows}
 use Rattle.board_in_step.proofs.Hearing.{owing}
 
@@ -28,6 +27,7 @@ use Rattle.board_in_step.proofs.Hearing.{owing}
 
 none_lent : (position : ℤ) (error : ℕ) (v : RegisteredWrite) → Memᴰ (lend v) (measurement position error ∷ []) → v.count ≤ 8
 none_lent position error v (Memᴰ.head i) = let z : ◌≡◌ {A = ℕ} 0 1 = cc in absurd (omega arith)
+none_lent position error v (Memᴰ.tail t) = elim t [ ]
 
 measuring_accepted : (b : Board) → board_refusal b ≡ none → (position : ℤ) (error : ℕ) → board_refusal (measuring b position error) ≡ none
 measuring_accepted b e position error =

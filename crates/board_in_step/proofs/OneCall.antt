@@ -1,5 +1,5 @@
 -- One call on a board that is not refused: it goes by the packet rules, and leaves a board that is not refused.
-use mathlib.Core.Path.{◌≡◌, refl, sym, ap, ◌∙◌}
+use mathlib.Core.Path.{◌≡◌, refl, ap, ◌∙◌}
 use mathlib.Core.List.{List, [], ◌∷◌}
 use mathlib.Core.Option.{Option, none, some}
 use Rattle.answers.specs.declared.Refusal.{Refusal}

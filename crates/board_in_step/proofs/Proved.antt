@@ -8,7 +8,7 @@ use lib.ListN.{length}
 use Rattle.reading.specs.Reading.{Event, packet, EventAt, reading}
 use Rattle.reading.specs.Calls.{Call}
 use Rattle.reading.specs.Lists.{model, after, took, given}
-use Rattle.reading.specs.Promise.{what, joined, packets_at, AllOut, since, AtStart, AllWellFormed, NoneAcross, given_at}
+use Rattle.reading.specs.Promise.{what, joined, packets_at, AllOut, since, AllWellFormed, NoneAcross, given_at}
 use Rattle.reading.proofs.Demand.{fresh, demand_3}
 use Rattle.reading.proofs.Clean.{call_promises}
 use Rattle.reading.proofs.Follows.{follows_after, follows_took, follows_given}

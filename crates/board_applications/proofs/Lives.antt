@@ -5,7 +5,7 @@ use mathlib.Core.List.Memᴰ
 use mathlib.Core.List.{List, [], ◌∷◌, ◌++◌, map, Memᴰ}
 use mathlib.Core.Logic.{◌⊎◌, ⊎_elim, inl, inr}
 use mathlib.Core.Option.{none}
-use Prim.Native.Nat.{ℕ, ◌+◌, ◌-◌, ◌≤◌, ◌<◌}
+use Prim.Native.Nat.{ℕ, ◌-◌}
 use native.Mathlib.Omega.{arith}
 use lib.IntN.{pos, negsuc}
 use lib.ListN.{length, take, drop, replicate}
@@ -16,7 +16,7 @@ use Rattle.stuffing.specs.Stuffing.{well_after, unstuff_after}
 use Rattle.reading.specs.Reading.{Event, packet, bad_checksum, EventAt, read_fuel, read_from, reading}
 use Rattle.reading.specs.Calls.{feed, gap, first, fed, call}
 use Rattle.reading.specs.Lists.{model, feeds, after, took, given}
-use Rattle.reading.specs.Promise.{what, joined, packets_at, since, EndsSilent, AtStart, Finished, AllWellFormed, NoneAcross, given_at, AllOut}
+use Rattle.reading.specs.Promise.{what, joined, packets_at, since, EndsSilent, AtStart, Finished, AllWellFormed, NoneAcross, AllOut}
 use Rattle.reading.specs.Across.{reaches_across}
 use Rattle.reading.proofs.Across.{across_decided}
 use Rattle.reading.proofs.Decided.{EachPacket, all_well}
@@ -26,7 +26,6 @@ use Rattle.packet.specs.Packet.{body_of, checksum_right}
 use Rattle.packet.specs.Verdict.{protocol2}
 use Rattle.packet.proofs.Laws.{laws}
 use Rattle.packet_rules.specs.Shape.{verdict as shapeVerdict}
-use Rattle.reader_records.specs.Records.{lent, left_in, step_in}
 use Rattle.table_registers.specs.Registers.{device_id, goal_position, registers, permits_by, every_byte}
 use Rattle.table_items.specs.Items.{value_at, put}
 use Rattle.table_access.specs.Fresh.{freshened, fresh_table, measured}
@@ -39,11 +38,11 @@ use Rattle.device_status.specs.Status.{status}
 use Rattle.device.specs.Device.{executed}
 use Rattle.device.specs.Answers.{state_refusal}
 use Rattle.board.specs.Board.{Board, reader_left, lent_refusal, board_refusal, outcome}
-use Rattle.board_in_step.specs.InStep.{Shown, hearing, boards, replies_of, shown_after, NotFor, NoneFor, NoPacketFor, CaughtUp, NotBehind, InStep}
+use Rattle.board_in_step.specs.InStep.{Shown, hearing, boards, shown_after, NotFor, NoneFor, NoPacketFor, CaughtUp, NotBehind, InStep}
 use Rattle.board_in_step.specs.Measured.{LoopStep, calls_in, Job, hears, measures, events_in, doing, taken_in, jobs_of, InStepMeasured}
 use Rattle.board_in_step.proofs.Proved.{parts}
 use Rattle.reader_applications.specs.Demand3.{earlier, bad_ping, ping_to_1, long_front, cut, followed}
-use Rattle.board_applications.specs.Lives.{write_goal, bad_ping_to_2, bad_ping_to_all, rest, longest, fresh, after_earlier, chunks, answers, found, Noisy, ForAnother, ninth, ping_to_2, write_id, ping_to_9, filled, cuts, clean_cuts, Renamed, holding, full, ByFeed, AsReader, Lives, InStepApplied, steps, full_steps, Measuring, InStepMeasuredApplied}
+use Rattle.board_applications.specs.Lives.{write_goal, bad_ping_to_2, bad_ping_to_all, rest, longest, fresh, after_earlier, chunks, answers, found, Noisy, ForAnother, ninth, ping_to_2, write_id, ping_to_9, filled, cuts, clean_cuts, Renamed, holding, full, ByFeed, AsReader, InStepApplied, steps, full_steps, Measuring, InStepMeasuredApplied}
 
 -- ---- what is asked
 

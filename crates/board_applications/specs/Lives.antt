@@ -1,6 +1,6 @@
 -- What is promised of boards, applied: a damaged Ping, directly followed by a Write of the goal position and a good Ping, and the
 -- beginning of one more packet, cut into five chunks.
-use Rattle.std.specs.Prelude.{◌≡◌, ℕ, ◌+◌, ◌-◌, ◌≤◌, ◌<◌, pos, negsuc, length, take, drop, replicate}
+use Rattle.std.specs.Prelude.{◌≡◌, ℕ, ◌-◌, ◌≤◌, ◌<◌, pos, negsuc, take, drop, replicate}
 use mathlib.Core.List.{List, [], ◌∷◌, ◌++◌, Memᴰ}
 use Rattle.std.proofs.Math.Option.{none}
 use Rattle.reading.specs.Reading.{Event, packet, bad_checksum, EventAt, reading}
@@ -17,8 +17,8 @@ use Rattle.device_instructions.specs.declared.RegisteredWrite.{RegisteredWrite}
 use Rattle.device_status.specs.declared.Reply.{Reply}
 use Rattle.device_status.specs.Status.{status}
 use Rattle.board.specs.Board.{Board, board_of, board_refusal, outcome}
-use Rattle.board_in_step.specs.InStep.{boards, replies_of, hearing, shown_after, InStep}
-use Rattle.board_in_step.specs.Measured.{LoopStep, line, measured as loop_step_measured, hears, measures, events_in, board_after, replies_in, jobs_of, InStepMeasured}
+use Rattle.board_in_step.specs.InStep.{boards, hearing, shown_after, InStep}
+use Rattle.board_in_step.specs.Measured.{LoopStep, line, measured as loop_step_measured, board_after, replies_in, InStepMeasured}
 use Rattle.reader_applications.specs.Demand3.{earlier, bad_ping, ping_to_1, long_front, cut, followed}
 
 -- Write of 512 at 116, and Pings to 2 and to all with a wrong checksum

@@ -1,2 +1,1 @@
-mod Field
 mod Carried

@@ -1,6 +1,5 @@
 -- What the device hears, by the kind that C gives.
-use Rattle.core.specs.Prelude.{◌==◌}
-use Rattle.std.specs.Prelude.{cond, ◌||◌, ℕ, eqb}
+use Rattle.std.specs.Prelude.{◌==◌, cond, ◌||◌, ℕ}
 use Rattle.device_dispatch.specs.declared.Heard.{Heard}
 use Rattle.device_dispatch.specs.declared.Heard.TheVariants.{Packet, BadChecksum}
 

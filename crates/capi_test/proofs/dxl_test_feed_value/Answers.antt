@@ -1,6 +1,5 @@
 use mathlib.Core.Path.{◌∙◌, ap}
 use Rattle.numbers.specs.Exported.{step_numbers}
-use borrow.Author.Rules.{rules}
 use Rattle.capi_test.proofs.dxl_test_feed_value.Goals as goal
 
 pub returns : goal.returns

@@ -1,4 +1,3 @@
-use borrow.Author.Rules.{rules}
 use Rattle.packet_v1.specs.Packet.{last_of_p1}
 use Rattle.packet_v1.proofs.Kept.{rules_kept}
 use Rattle.capi_test.proofs.dxl_test_p1_verdict.Goals as goal

@@ -1,4 +1,3 @@
-use borrow.Author.Rules.{rules}
 use Rattle.packet.proofs.Laws.{settles}
 use Rattle.capi_test.proofs.dxl_test_verdict.Goals as goal
 

@@ -1,6 +1,5 @@
 use mathlib.Core.Path.{sym, ap, ◌∙◌}
 use Rattle.capi_test.specs.Numbers.{test_number}
-use borrow.Author.Rules.{rules}
 use Rattle.capi_test.proofs.dxl_test_well_stuffed.Goals as goal
 
 pub returns-in-Good : goal.returns-in-Good

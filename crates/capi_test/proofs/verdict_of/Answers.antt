@@ -1,6 +1,5 @@
 use mathlib.Core.Path.{sym, ap, ◌∙◌}
 use Rattle.capi_test.specs.Numbers.{verdict_numbers}
-use borrow.Author.Rules.{rules}
 use Rattle.capi_test.proofs.verdict_of.Goals as goal
 
 pub returns-in-Nothing : goal.returns-in-Nothing

@@ -1,0 +1,21 @@
+use mathlib.Core.Path.{sym, ap₂, ◌∙◌}
+use Rattle.device_calls.specs.Calls.{state_of}
+use Rattle.device.proofs.Promises.{device_promises}
+use Rattle.table_rules.proofs.LimitTests.{limit_tests}
+use Rattle.device_calls.proofs.Stays.{stays_accepted}
+use Rattle.device_calls.proofs.GoalWithinLimits.{goal_within_limits}
+use Rattle.numbers.specs.Exported.{device_numbers}
+use Rattle.capi.proofs.Carried.{its_registered}
+use Rattle.fits.proofs.Slots.{device_fits}
+use Rattle.capi.proofs.dxl_device.Goals as goal
+
+pub returns : goal.returns
+returns c =
+    let e = c.receive.ensures in
+    let q = c.response.ensures ∙ ap₂ device_numbers e.replied_value e.registered_value in
+    rw (sym c.heard_by-heard.ensures, sym c.id_of_kind-heard_id.ensures) record {
+      value = q;
+      table_after = (e.table_after, e.out_after);
+      device_promises = (device_promises, stays_accepted, goal_within_limits, limit_tests, device_fits);
+      registered_after = ap₂ state_of e.table_after (its_registered _ e.replied_value e.registered_value c.response.ensures);
+    }

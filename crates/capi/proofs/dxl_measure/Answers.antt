@@ -1,0 +1,22 @@
+use mathlib.Core.Path.{ap, ◌∙◌}
+use mir.Facts.{to_z-of_z}
+use mir.Syntax.{w32, w64}
+use lib.IntN.{ℤ}
+use Rattle.table_access.specs.Answers.{measure_out}
+use mathlib.Core.List.{List}
+use Prim.Native.Nat.{ℕ}
+use Rattle.device_calls.specs.Calls.{state_of}
+use Rattle.device_calls.proofs.Stays.{stays_accepted}
+use Rattle.device_calls.proofs.GoalWithinLimits.{goal_within_limits}
+use Rattle.answers.specs.Answers.{exported}
+use Rattle.capi.proofs.dxl_measure.Goals as goal
+
+pub returns : goal.returns
+returns c =
+    let e = c.measure in
+    let left = e.ensures.table_after ∙ ap (λ (z : ℤ). measure_out c.args.table.now z c.args.hardware_error) (to_z-of_z {w = w32} c.ranges.position) in record {
+      value = to_z-of_z {w = w64} (record { sfits = c.exported.type_inv }) ∙ c.exported.ensures ∙ ap exported e.ensures.value;
+      table_after = left;
+      w_after = (λ w. ap (λ (t : List ℕ). state_of t w) left);
+      stays_accepted = (stays_accepted, goal_within_limits);
+    }

@@ -1,0 +1,17 @@
+use mathlib.Core.Path.{ap, ◌∙◌}
+use Rattle.numbers.specs.Exported.{step_numbers}
+use Rattle.packet_protocols.specs.declared.Protocol.TheVariants.{One}
+use Rattle.reader_records.specs.Records.{step_in, packet_in}
+use Rattle.reader_records.proofs.Records.{record_left, every_protocol}
+use Rattle.fits.proofs.Steps.{steps_fit}
+use Rattle.capi_v1.proofs.dxl_p1_feed.Goals as goal
+
+pub returns : goal.returns
+unfolding step_in packet_in
+returns c =
+    let e = c.feed_p1-step.ensures in record {
+      value = c.step.ensures ∙ ap step_numbers e.0;
+      count_after = record_left One c.feed_p1-step.result _ _ _ e.0 e.1;
+      packet_after = e.2;
+      every_protocol = (every_protocol, steps_fit);
+    }

@@ -316,7 +316,7 @@ pub extern "C" fn dxl_device(
 {
     let heard = heard_by(kind);
     let heard_id = id_of_kind(kind, id);
-    numbers::response(device::receive(table, registered, heard, heard_id, body, reply))
+    numbers::response(device::hear(table, registered, heard, heard_id, body, reply))
 }
 
 // The device call on a packet as received; its body is written to `body` without its stuffing. What is no well-formed packet is

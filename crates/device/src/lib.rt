@@ -208,7 +208,7 @@ pub fn send(reply: Reply, out: &mut [u8]) -> Replied
 
 // The device call: the test of the reply buffer, the first call and the second. Faults of the caller come first, whatever was heard,
 // and change nothing. [D28-D30 D32 D33 D35-D37 D48 D49 G4 M4 N10-N12 N14]
-pub fn receive(
+pub fn hear(
     table: &mut [u8],
     registered: RegisteredWrite,
     heard: Heard,

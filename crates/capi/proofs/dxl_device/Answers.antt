@@ -11,7 +11,7 @@ use Rattle.capi.proofs.dxl_device.Goals as goal
 
 pub returns : goal.returns
 returns c =
-    let e = c.receive.ensures in
+    let e = c.hear.ensures in
     let q = c.response.ensures ∙ ap₂ device_numbers e.replied_value e.registered_value in
     rw (sym c.heard_by-heard.ensures, sym c.id_of_kind-heard_id.ensures) record {
       value = q;

@@ -6,8 +6,8 @@ use Rattle.device.specs.Answers.{with_slot, state_refusal}
 use Rattle.device.specs.Split.{SameAsOne}
 use Rattle.device.proofs.Calls.{fault_answered, no_fault, short_refused}
 use Rattle.device.proofs.Split.{with_room}
-use Rattle.device.proofs.receive.Goals as goal
-use Rattle.device.proofs.receive.Goals.{After-carry_out-carried}
+use Rattle.device.proofs.hear.Goals as goal
+use Rattle.device.proofs.hear.Goals.{After-carry_out-carried}
 
 pub returns-then-out-lt-MIN_REPLY : goal.returns-then-out-lt-MIN_REPLY
 returns-then-out-lt-MIN_REPLY c =

@@ -37,12 +37,13 @@ use Rattle.device_dispatch.specs.Reactions.{own_id, heard_instruction}
 use Rattle.device_status.specs.Status.{status}
 use Rattle.device.specs.Device.{executed}
 use Rattle.device.specs.Answers.{state_refusal}
-use Rattle.board.specs.Board.{Board, reader_left, lent_refusal, board_refusal, outcome}
+use Rattle.reader_records.specs.Records.{lent}
+use Rattle.board.specs.Board.{Board, board_of, reader_left, lent_refusal, board_refusal, outcome}
 use Rattle.board_in_step.specs.InStep.{Shown, hearing, boards, shown_after, NotFor, NoneFor, NoPacketFor, CaughtUp, NotBehind, InStep}
 use Rattle.board_in_step.specs.Measured.{LoopStep, calls_in, Job, hears, measures, events_in, doing, taken_in, jobs_of, InStepMeasured}
 use Rattle.board_in_step.proofs.Proved.{parts}
 use Rattle.reader_applications.specs.Demand3.{earlier, bad_ping, ping_to_1, long_front, cut, followed}
-use Rattle.board_applications.specs.Lives.{write_goal, bad_ping_to_2, bad_ping_to_all, rest, longest, fresh, after_earlier, chunks, answers, found, Noisy, ForAnother, ninth, ping_to_2, write_id, ping_to_9, filled, cuts, clean_cuts, Renamed, holding, full, ByFeed, AsReader, InStepApplied, steps, full_steps, Measuring, InStepMeasuredApplied}
+use Rattle.board_applications.specs.Lives.{write_goal, bad_ping_to_2, bad_ping_to_all, rest, longest, fresh, after_earlier, chunks, answers, found, Noisy, ForAnother, ForAnotherBefore, ninth, ping_to_2, write_id, ping_to_9, filled, unregistered, cuts, clean_cuts, Renamed, RenamedUnregistered, holding, full, ByFeed, AsReader, InStepApplied, steps, full_steps, MeasuringOn, InStepMeasuredApplied}
 
 -- ---- what is asked
 
@@ -93,13 +94,21 @@ read_of_2 : reading protocol2 (bad_ping_to_2 ++ (joined (write_goal ∷ ping_to_
 unfolding read_fuel read_from reading reduce_if shift shifts crc_byte crc_from well_after length_of body_of checksum_right front_agrees length_agrees shapeVerdict
 read_of_2 = refl
 
-asked_of_all : Asked bad_ping_to_all []
+asked_of_all : Asked bad_ping_to_all rest
 unfolding after took first fed call reaches_across reduce_if shift shifts crc_byte crc_from well_after length_of body_of checksum_right front_agrees length_agrees shapeVerdict
 asked_of_all = record { taken = refl; finished = (0, omega arith, refl); apart = refl }
 
-read_of_all : reading protocol2 (bad_ping_to_all ++ (joined (write_goal ∷ ping_to_1 ∷ []) ++ [])) ≡ (0, bad_checksum 254) ∷ found
+read_of_all : reading protocol2 (bad_ping_to_all ++ (joined (write_goal ∷ ping_to_1 ∷ []) ++ rest)) ≡ (0, bad_checksum 254) ∷ found
 unfolding read_fuel read_from reading reduce_if shift shifts crc_byte crc_from well_after length_of body_of checksum_right front_agrees length_agrees shapeVerdict
 read_of_all = refl
+
+asked_of_all_alone : Asked bad_ping_to_all []
+unfolding after took first fed call reaches_across reduce_if shift shifts crc_byte crc_from well_after length_of body_of checksum_right front_agrees length_agrees shapeVerdict
+asked_of_all_alone = record { taken = refl; finished = (0, omega arith, refl); apart = refl }
+
+read_of_all_alone : reading protocol2 (bad_ping_to_all ++ (joined (write_goal ∷ ping_to_1 ∷ []) ++ [])) ≡ (0, bad_checksum 254) ∷ found
+unfolding read_fuel read_from reading reduce_if shift shifts crc_byte crc_from well_after length_of body_of checksum_right front_agrees length_agrees shapeVerdict
+read_of_all_alone = refl
 
 -- what is promised between this noise and these bytes
 between : InStep → (noise behind : List ℕ) → Asked noise behind
@@ -207,10 +216,10 @@ noisy t =
     two_registered : (hearing fresh_table longest (packet write_goal ∷ packet ping_to_1 ∷ [])).registered ≡ longest
     two_registered = ap (λ (x : Shown). x.registered) two_heard
 
-for_another : InStep → (noise behind : List ℕ) (id : ℕ) → ¬ (id ≡ 1) → Asked noise behind
+for_another_before : InStep → (noise behind : List ℕ) (id : ℕ) → ¬ (id ≡ 1) → Asked noise behind
     → reading protocol2 (noise ++ (joined (write_goal ∷ ping_to_1 ∷ []) ++ behind)) ≡ (0, bad_checksum id) ∷ found → length noise ≡ 10
-    → ForAnother noise behind
-for_another t noise behind id other a are ten =
+    → ForAnotherBefore noise behind
+for_another_before t noise behind id other a are ten =
     let up = (between t noise behind a).by_gap a.finished in
     let events = reading protocol2 (noise ++ (joined (write_goal ∷ ping_to_1 ∷ []) ++ behind)) in
     let n = none_for events id are (length noise) ten up.out (own_id after_earlier.table) (λ z. other (z ∙ own_id_lem)) in
@@ -222,6 +231,9 @@ for_another t noise behind id other a are ten =
           fresh_board earlier at_start (write_goal ∷ ping_to_1 ∷ []) 1 clean_taken clean_finished refl refl;
     }
 
+for_another : (noise : List ℕ) → ForAnotherBefore noise rest → ForAnother noise
+for_another noise f = record { only_packets = f.only_packets; alike = f.alike }
+
 -- ---- another ID
 
 renamed_are : EachPacket protocol2 (write_id ∷ ping_to_9 ∷ [])
@@ -231,9 +243,13 @@ renamed_are = (refl, (refl, tt))
 renamed_good : AllWellFormed protocol2 (write_id ∷ ping_to_9 ∷ [])
 renamed_good = all_well protocol2 laws (write_id ∷ ping_to_9 ∷ []) renamed_are
 
-filled_board : (filler : ℕ) → boards.Fresh (filled filler)
+filled_board : boards.Fresh filled
 unfolding lent_refusal state_refusal registers freshened put bytes_of
-filled_board filler = (refl, refl)
+filled_board = (refl, refl)
+
+unregistered_board : (filler : ℕ) → boards.Fresh (unregistered filler)
+unfolding lent_refusal state_refusal registers freshened put bytes_of
+unregistered_board filler = (refl, refl)
 
 cuts_taken : took (model protocol2) [] (since cuts 6) ≡ (long_front ++ ping_to_2) ++ (joined (write_id ∷ ping_to_9 ∷ []) ++ ping_to_1)
 unfolding after took first fed call reduce_if shift shifts crc_byte crc_from well_after length_of body_of checksum_right front_agrees length_agrees shapeVerdict
@@ -260,10 +276,15 @@ clean_cuts_finished : Finished (model protocol2) [] clean_cuts 2
 unfolding after first fed call reduce_if shift shifts crc_byte crc_from well_after length_of body_of checksum_right front_agrees length_agrees shapeVerdict
 clean_cuts_finished = (1, omega arith, refl)
 
-renamed_heard : hearing fresh_table dropped (packet write_id ∷ packet ping_to_9 ∷ [])
-    ≡ record { table = put fresh_table device_id 9; registered = dropped; replies = status 1 0x00 [] 0 ∷ status 9 0x00 (0x06 ∷ 0x04 ∷ 0x26 ∷ []) 0 ∷ [] }
+renamed_heard : hearing fresh_table longest (packet write_id ∷ packet ping_to_9 ∷ [])
+    ≡ record { table = put fresh_table device_id 9; registered = longest; replies = status 1 0x00 [] 0 ∷ status 9 0x00 (0x06 ∷ 0x04 ∷ 0x26 ∷ []) 0 ∷ [] }
 unfolding hearing unstuff_after registers permits_by number_at value_at bytes_of put freshened every_byte every_touched goal_inside limits_kept write_rule write heard_instruction executed reduce_if shift shifts crc_byte crc_from well_after length_of body_of checksum_right front_agrees length_agrees shapeVerdict
 renamed_heard = refl
+
+unregistered_heard : hearing fresh_table dropped (packet write_id ∷ packet ping_to_9 ∷ [])
+    ≡ record { table = put fresh_table device_id 9; registered = dropped; replies = status 1 0x00 [] 0 ∷ status 9 0x00 (0x06 ∷ 0x04 ∷ 0x26 ∷ []) 0 ∷ [] }
+unfolding hearing unstuff_after registers permits_by number_at value_at bytes_of put freshened every_byte every_touched goal_inside limits_kept write_rule write heard_instruction executed reduce_if shift shifts crc_byte crc_from well_after length_of body_of checksum_right front_agrees length_agrees shapeVerdict
+unregistered_heard = refl
 
 ids : (own_id fresh_table ≡ 1) × (own_id (put fresh_table device_id 9) ≡ 9) × (id_of ping_to_2 ≡ 2) × (id_of ping_to_1 ≡ 1)
 unfolding registers freshened put bytes_of
@@ -296,30 +317,56 @@ module _ (events : List EventAt) (are : events ≡ (7, packet ping_to_2) ∷ (17
       (which_piece p e (subst (λ (l : List EventAt). Memᴰ {A = EventAt} (p, e) l) (sym out.are)
       (Memᴰ.append_right out.sooner (Memᴰ.append_right ((17, packet write_id) ∷ (30, packet ping_to_9) ∷ []) m))))
 
-new_id : own_id (hearing fresh_table dropped (packet write_id ∷ packet ping_to_9 ∷ [])).table ≡ 9
-new_id = ap (λ (x : Shown). own_id x.table) renamed_heard ∙ ids.1
+-- of a fresh board and of one on a clean line, with this registered write
+pub record RenamedFrom (b clean : Board) (w : RegisteredWrite) : Type 0 where
+  pub only_packets : shown_after b (since cuts 6) ≡ hearing fresh_table w (packet write_id ∷ packet ping_to_9 ∷ [])
+  pub same_table : (shown_after b (since cuts 6)).table ≡ (hearing fresh_table w (packet write_id ∷ packet ping_to_9 ∷ [])).table
+  pub alike : shown_after b (since cuts 6) ≡ shown_after clean (since clean_cuts 2)
 
-renamed : InStep → Renamed
+renamed_from : InStep → (bytes clean : List ℕ) (w : RegisteredWrite)
+    → boards.Fresh (board_of (lent bytes 0) fresh_table w) → boards.Fresh (board_of (lent clean 0) fresh_table w)
+    → own_id (hearing fresh_table w (packet write_id ∷ packet ping_to_9 ∷ [])).table ≡ 9
+    → RenamedFrom (board_of (lent bytes 0) fresh_table w) (board_of (lent clean 0) fresh_table w) w
 unfolding after
-renamed t =
+renamed_from t bytes clean w begun clean_begun new_id =
     let across = (across_decided protocol2 laws (long_front ++ ping_to_2) (joined (write_id ∷ ping_to_9 ∷ []) ++ ping_to_1)).0 cuts_apart in
-    let up = (t.in_step (filled 0xAA) (filled_board 0xAA) [] (inl refl) cuts 6 (long_front ++ ping_to_2) (write_id ∷ ping_to_9 ∷ []) ping_to_1 cuts_taken renamed_good across
+    let up = (t.in_step (board_of (lent bytes 0) fresh_table w) begun [] (inl refl) cuts 6 (long_front ++ ping_to_2) (write_id ∷ ping_to_9 ∷ []) ping_to_1 cuts_taken renamed_good across
     ).by_gap cuts_finished in
     let events = reading protocol2 ((long_front ++ ping_to_2) ++ (joined (write_id ∷ ping_to_9 ∷ []) ++ ping_to_1)) in
     let sooner : NoneFor (own_id fresh_table) up.out.sooner = λ p e m.
     let i = sooner_to_2 events cuts_read up.out p e m in
     not_for _ e (λ z. absurd (omega (arith, i, z, ids.0))) (λ z. absurd (omega (arith, i, z))) in
-    let later : NoneFor (own_id (hearing fresh_table dropped (packet write_id ∷ packet ping_to_9 ∷ [])).table) up.out.later = λ p e m.
+    let later : NoneFor (own_id (hearing fresh_table w (packet write_id ∷ packet ping_to_9 ∷ [])).table) up.out.later = λ p e m.
     let i = later_to_1 events cuts_read up.out p e m in
     not_for _ e (λ z. absurd (omega (arith, i, z, new_id))) (λ z. absurd (omega (arith, i, z))) in
-    let only = up.only_packets sooner later in
     record {
-      only_packets = only;
-      table = ap (λ (x : Shown). x.table) (only ∙ renamed_heard);
+      only_packets = up.only_packets sooner later;
       same_table = (up.same_state (λ p w m. sooner p (packet w) m) (λ p w m. later p (packet w) m)).table;
-      replies = ap (λ (x : Shown). x.replies) (only ∙ renamed_heard);
-      alike = t.alike (filled 0xAA) (filled 0) (since cuts 6) events (long_front ++ ping_to_2) (write_id ∷ ping_to_9 ∷ []) renamed_good up sooner later (filled_board 0) [] (inl refl) clean_cuts 2
-          clean_cuts_taken clean_cuts_finished refl refl;
+      alike = t.alike (board_of (lent bytes 0) fresh_table w) (board_of (lent clean 0) fresh_table w) (since cuts 6) events (long_front ++ ping_to_2) (write_id ∷ ping_to_9 ∷ []) renamed_good up sooner later
+          clean_begun [] (inl refl) clean_cuts 2 clean_cuts_taken clean_cuts_finished refl refl;
+    }
+
+renamed : InStep → Renamed
+renamed t =
+    let r = renamed_from t (replicate 1030 0xAA) (replicate 1030 0) longest filled_board fresh_board (ap (λ (x : Shown). own_id x.table) renamed_heard ∙ ids.1) in
+    record {
+      only_packets = r.only_packets;
+      table = ap (λ (x : Shown). x.table) (r.only_packets ∙ renamed_heard);
+      same_table = r.same_table;
+      replies = ap (λ (x : Shown). x.replies) (r.only_packets ∙ renamed_heard);
+      alike = r.alike;
+    }
+
+renamed_unregistered : InStep → RenamedUnregistered
+renamed_unregistered t =
+    let r = renamed_from t (replicate 1030 0xAA) (replicate 1030 0) dropped (unregistered_board 0xAA) (unregistered_board 0)
+    (ap (λ (x : Shown). own_id x.table) unregistered_heard ∙ ids.1) in
+    record {
+      only_packets = r.only_packets;
+      table = ap (λ (x : Shown). x.table) (r.only_packets ∙ unregistered_heard);
+      same_table = r.same_table;
+      replies = ap (λ (x : Shown). x.replies) (r.only_packets ∙ unregistered_heard);
+      alike = r.alike;
     }
 
 -- ---- an idle line
@@ -340,22 +387,22 @@ none_across : NoneAcross protocol2 [] []
 unfolding reaches_across
 none_across = (across_decided protocol2 laws [] []).0 refl
 
-idle_board_finished : Finished boards (filled 0xAA) [] 1
+idle_board_finished : Finished boards (unregistered 0xAA) [] 1
 unfolding after outcome lent_refusal state_refusal first fed call registers freshened put bytes_of
 idle_board_finished = (0, omega arith, refl)
 
-idle_behind : InStep → NotBehind (filled 0xAA) [] 1 [] [] []
+idle_behind : InStep → NotBehind (unregistered 0xAA) [] 1 [] [] []
 unfolding after
-idle_behind t = t.in_step (filled 0xAA) (filled_board 0xAA) [] (inl refl) [] 1 [] [] [] idle_taken (all_well protocol2 laws [] tt) none_across
+idle_behind t = t.in_step (unregistered 0xAA) (unregistered_board 0xAA) [] (inl refl) [] 1 [] [] [] idle_taken (all_well protocol2 laws [] tt) none_across
 
-idle_events : InStep → given boards (filled 0xAA) (since [] 1) ≡ []
+idle_events : InStep → given boards (unregistered 0xAA) (since [] 1) ≡ []
 unfolding after
 idle_events t =
     let taken = (idle_behind t).all_taken in
-    let promise = t.demand_3 (filled 0xAA) (filled_board 0xAA) [] (inl refl) [] 1 [] [] [] taken (all_well protocol2 laws [] tt) none_across in
+    let promise = t.demand_3 (unregistered 0xAA) (unregistered_board 0xAA) [] (inl refl) [] 1 [] [] [] taken (all_well protocol2 laws [] tt) none_across in
     sym promise.firsts ∙ ap (map what) (promise.all idle_board_finished ∙ ap (reading protocol2) taken ∙ read_none)
 
-idle : InStep → shown_after (filled 0xAA) (since [] 1) ≡ hearing fresh_table dropped []
+idle : InStep → shown_after (unregistered 0xAA) (since [] 1) ≡ hearing fresh_table dropped []
 idle t =
     let up = (idle_behind t).by_gap idle_finished in
     up.carried_out_lem
@@ -470,16 +517,19 @@ pub in_step_applied : InStepApplied
 in_step_applied t =
     record {
       noisy = noisy t;
-      for_another = for_another t bad_ping_to_2 rest 2 (λ z. absurd (omega (arith, z))) asked_of_2 read_of_2 refl;
-      for_all = for_another t bad_ping_to_all [] 254 (λ z. absurd (omega (arith, z))) asked_of_all read_of_all refl;
+      for_another = for_another bad_ping_to_2 (for_another_before t bad_ping_to_2 rest 2 (λ z. absurd (omega (arith, z))) asked_of_2 read_of_2 refl);
+      for_all = for_another bad_ping_to_all (for_another_before t bad_ping_to_all rest 254 (λ z. absurd (omega (arith, z))) asked_of_all read_of_all refl);
+      for_all_alone = for_another_before t bad_ping_to_all [] 254 (λ z. absurd (omega (arith, z))) asked_of_all_alone read_of_all_alone refl;
       idle = idle t;
       idle_events = idle_events t;
       renamed = renamed t;
+      renamed_unregistered = renamed_unregistered t;
       by_feed = by_feed t;
       as_reader = as_reader t;
       each_once = t.each_once fresh fresh_board.1 (feed (take 7 ping_to_1) ∷ gap ∷ []) ∙ ap (λ (l : List Event). hearing fresh_table longest l) nothing_given;
       each_once_held = t.each_once (holding 0xAA) (holding_board 0xAA) (feed (drop 7 ping_to_1) ∷ gap ∷ feed write_goal ∷ [])
           ∙ ap (λ (l : List Event). hearing fresh_table longest l) held_given;
+      never_refused_held = t.never_refused (holding 0xAA) (holding_board 0xAA) (gap ∷ feed write_id ∷ gap ∷ feed ping_to_9 ∷ []);
       each_once_full = t.each_once full full_board (gap ∷ []) ∙ ap (λ (l : List Event). hearing fresh_table dropped l) full_given;
       never_refused_full = t.never_refused full full_board (gap ∷ feed write_id ∷ gap ∷ feed ping_to_9 ∷ []);
       never_refused = t.never_refused fresh fresh_board.1 (since (chunks bad_ping) 1);
@@ -522,7 +572,7 @@ full_done = refl
 
 measuring : InStepMeasured → (b : Board) → board_refusal b ≡ none → (steps : List LoopStep) (jobs : List Job) → jobs_of b steps ≡ jobs
     → (bytes : List ℕ) → taken_in b steps ≡ bytes → (shown : Shown) → doing b.table b.registered jobs ≡ shown
-    → Measuring b steps (calls_in steps) shown.table shown.replies (events_in jobs) bytes
+    → MeasuringOn b steps (calls_in steps) shown.table shown.replies (events_in jobs) bytes
 measuring t b accepted steps jobs are bytes took-are shown done =
     let e = t.each_once b accepted steps ∙ ap (doing b.table b.registered) are ∙ done in
     record {
@@ -535,7 +585,15 @@ measuring t b accepted steps jobs are bytes took-are shown done =
     }
 
 pub in_step_measured_applied : InStepMeasuredApplied
-in_step_measured_applied t = (
-  measuring t fresh fresh_board.1 steps _ jobs_are _ taken_are _ done,
-  measuring t full full_board full_steps _ full_jobs _ full_taken _ full_done,
-)
+in_step_measured_applied t =
+    let m = measuring t fresh fresh_board.1 steps _ jobs_are _ taken_are _ done in (
+      record {
+        table = m.table_after;
+        replies = m.replies_owed;
+        heard = m.heard;
+        taken = m.taken;
+        reader = m.reader;
+        never_refused = m.never_refused;
+      },
+      measuring t full full_board full_steps _ full_jobs _ full_taken _ full_done,
+    )

@@ -74,7 +74,12 @@ pub record Noisy : Type 0 where
   pub same_registered_lem : (shown_after after_earlier (since (chunks bad_ping) 1)).registered ≡ longest
 
 -- with one to another or to all: only the packets are answered, and a board on a clean line ends alike
-pub record ForAnother (noise behind : List ℕ) : Type 0 where
+pub record ForAnother (noise : List ℕ) : Type 0 where
+  pub only_packets : shown_after after_earlier (since (chunks noise) 1) ≡ hearing fresh_table longest (packet write_goal ∷ packet ping_to_1 ∷ [])
+  pub alike : shown_after after_earlier (since (chunks noise) 1) ≡ shown_after after_earlier (since (write_goal ∷ ping_to_1 ∷ []) 1)
+
+-- the same with these bytes behind the packets
+pub record ForAnotherBefore (noise behind : List ℕ) : Type 0 where
   pub only_packets : shown_after after_earlier (since (cut noise write_goal ping_to_1 behind) 1)
       ≡ hearing fresh_table longest (packet write_goal ∷ packet ping_to_1 ∷ [])
   pub alike : shown_after after_earlier (since (cut noise write_goal ping_to_1 behind) 1) ≡ shown_after after_earlier (since (write_goal ∷ ping_to_1 ∷ []) 1)
@@ -104,9 +109,13 @@ write_id = 0xFF ∷ 0xFF ∷ 0xFD ∷ 0x00 ∷ 0x01 ∷ 0x06 ∷ 0x00 ∷ 0x03 �
 abbrev pub ping_to_9 : List ℕ
 ping_to_9 = 0xFF ∷ 0xFF ∷ 0xFD ∷ 0x00 ∷ 0x09 ∷ 0x03 ∷ 0x00 ∷ 0x01 ∷ 0x1A ∷ 0x6E ∷ []
 
--- a fresh board with nothing registered, and this in all bytes of its reader
-abbrev pub filled : ℕ → Board
-filled filler = board_of (lent (replicate 1030 filler) 0) fresh_table dropped
+-- a fresh board whose bytes are not 0
+abbrev pub filled : Board
+filled = board_of (lent (replicate 1030 0xAA) 0) fresh_table longest
+
+-- one with nothing registered, and this in all bytes of its reader
+abbrev pub unregistered : ℕ → Board
+unregistered filler = board_of (lent (replicate 1030 filler) 0) fresh_table dropped
 
 -- a front that promises the longest packet, and a Ping to 2; then the packets; then a Ping to 1, which is another device by then
 abbrev pub cuts : List (List ℕ)
@@ -117,11 +126,19 @@ abbrev pub clean_cuts : List (List ℕ)
 clean_cuts = take 5 write_id ∷ (drop 5 write_id ++ take 2 ping_to_9) ∷ take 2 ping_to_9 ∷ drop 2 ping_to_9 ∷ []
 
 pub record Renamed : Type 0 where
-  pub only_packets : shown_after (filled 0xAA) (since cuts 6) ≡ hearing fresh_table dropped (packet write_id ∷ packet ping_to_9 ∷ [])
-  pub table : (shown_after (filled 0xAA) (since cuts 6)).table ≡ put fresh_table device_id 9
-  pub same_table : (shown_after (filled 0xAA) (since cuts 6)).table ≡ (hearing fresh_table dropped (packet write_id ∷ packet ping_to_9 ∷ [])).table
-  pub replies : (shown_after (filled 0xAA) (since cuts 6)).replies ≡ status 1 0x00 [] 0 ∷ status 9 0x00 (0x06 ∷ 0x04 ∷ 0x26 ∷ []) 0 ∷ []
-  pub alike : shown_after (filled 0xAA) (since cuts 6) ≡ shown_after (filled 0) (since clean_cuts 2)
+  pub only_packets : shown_after filled (since cuts 6) ≡ hearing fresh_table longest (packet write_id ∷ packet ping_to_9 ∷ [])
+  pub table : (shown_after filled (since cuts 6)).table ≡ put fresh_table device_id 9
+  pub same_table : (shown_after filled (since cuts 6)).table ≡ (hearing fresh_table longest (packet write_id ∷ packet ping_to_9 ∷ [])).table
+  pub replies : (shown_after filled (since cuts 6)).replies ≡ status 1 0x00 [] 0 ∷ status 9 0x00 (0x06 ∷ 0x04 ∷ 0x26 ∷ []) 0 ∷ []
+  pub alike : shown_after filled (since cuts 6) ≡ shown_after fresh (since clean_cuts 2)
+
+-- the same with nothing registered
+pub record RenamedUnregistered : Type 0 where
+  pub only_packets : shown_after (unregistered 0xAA) (since cuts 6) ≡ hearing fresh_table dropped (packet write_id ∷ packet ping_to_9 ∷ [])
+  pub table : (shown_after (unregistered 0xAA) (since cuts 6)).table ≡ put fresh_table device_id 9
+  pub same_table : (shown_after (unregistered 0xAA) (since cuts 6)).table ≡ (hearing fresh_table dropped (packet write_id ∷ packet ping_to_9 ∷ [])).table
+  pub replies : (shown_after (unregistered 0xAA) (since cuts 6)).replies ≡ status 1 0x00 [] 0 ∷ status 9 0x00 (0x06 ∷ 0x04 ∷ 0x26 ∷ []) 0 ∷ []
+  pub alike : shown_after (unregistered 0xAA) (since cuts 6) ≡ shown_after (unregistered 0) (since clean_cuts 2)
 
 -- boards that hold seven bytes of a Ping; 0 follows them in the second
 abbrev pub holding : ℕ → Board
@@ -146,12 +163,14 @@ pub record AsReader : Type 0 where
 
 pub record Lives : Type 0 where
   pub noisy : Noisy
-  pub for_another : ForAnother bad_ping_to_2 rest
-  pub for_all : ForAnother bad_ping_to_all []
+  pub for_another : ForAnother bad_ping_to_2
+  pub for_all : ForAnother bad_ping_to_all
+  pub for_all_alone : ForAnotherBefore bad_ping_to_all []
   -- a gap on an idle line: no noise, no packets and nothing behind them
-  pub idle : shown_after (filled 0xAA) (since [] 1) ≡ hearing fresh_table dropped []
-  pub idle_events : given boards (filled 0xAA) (since [] 1) ≡ []
+  pub idle : shown_after (unregistered 0xAA) (since [] 1) ≡ hearing fresh_table dropped []
+  pub idle_events : given boards (unregistered 0xAA) (since [] 1) ≡ []
   pub renamed : Renamed
+  pub renamed_unregistered : RenamedUnregistered
   pub by_feed : ByFeed
   pub as_reader : AsReader
   -- any calls: a gap call on the first seven bytes of a Ping hears nothing
@@ -159,6 +178,7 @@ pub record Lives : Type 0 where
   -- feeding calls behind a gap, on a board that holds bytes
   pub each_once_held : shown_after (holding 0xAA) (feed (drop 7 ping_to_1) ∷ gap ∷ feed write_goal ∷ [])
       ≡ hearing fresh_table longest (packet ping_to_1 ∷ packet write_goal ∷ [])
+  pub never_refused_held : board_refusal (after boards (holding 0xAA) (gap ∷ feed write_id ∷ gap ∷ feed ping_to_9 ∷ [])) ≡ none
   pub each_once_full : shown_after full (gap ∷ []) ≡ hearing fresh_table dropped (packet ping_to_1 ∷ [])
   pub never_refused_full : board_refusal (after boards full (gap ∷ feed write_id ∷ gap ∷ feed ping_to_9 ∷ [])) ≡ none
   pub never_refused : board_refusal (after boards fresh (since (chunks bad_ping) 1)) ≡ none
@@ -180,11 +200,21 @@ InStepApplied = InStep → Lives
 abbrev pub steps : List LoopStep
 steps = line (feed (take 9 write_goal)) ∷ loop_step_measured (negsuc 4095) 1 ∷ line (feed (drop 9 write_goal)) ∷ loop_step_measured (pos 166) 4 ∷ line (feed ping_to_1) ∷ line gap ∷ []
 
+pub record Measuring : Type 0 where
+  -- what is measured last, and the goal position, are stored, and the Ping is answered with the alert
+  pub table : (board_after fresh steps).table ≡ measured (put (measured fresh_table (negsuc 4095) 1) goal_position 512) (pos 166) 4
+  pub replies : replies_in fresh steps ≡ status 1 0x80 [] 0 ∷ status 1 0x80 (0x06 ∷ 0x04 ∷ 0x26 ∷ []) 0 ∷ []
+  pub heard : packet write_goal ∷ packet ping_to_1 ∷ [] ≡ given boards fresh (feed (take 9 write_goal) ∷ feed (drop 9 write_goal) ∷ feed ping_to_1 ∷ gap ∷ [])
+  -- the bytes taken and the reader are those of the calls alone
+  pub taken : write_goal ++ (ping_to_1 ++ []) ≡ took boards fresh (feed (take 9 write_goal) ∷ feed (drop 9 write_goal) ∷ feed ping_to_1 ∷ gap ∷ [])
+  pub reader : (board_after fresh steps).reader ≡ (after boards fresh (feed (take 9 write_goal) ∷ feed (drop 9 write_goal) ∷ feed ping_to_1 ∷ gap ∷ [])).reader
+  pub never_refused : board_refusal (board_after fresh steps) ≡ none
+
 abbrev pub full_steps : List LoopStep
 full_steps = loop_step_measured (pos 166) 4 ∷ line gap ∷ []
 
 -- after these steps, `calls` without the measurements: the table, the replies, what was heard and which bytes were taken
-pub record Measuring (b : Board) (steps : List LoopStep) (calls : List Call) (table : List ℕ) (replies : List Reply) (events : List Event)
+pub record MeasuringOn (b : Board) (steps : List LoopStep) (calls : List Call) (table : List ℕ) (replies : List Reply) (events : List Event)
     (bytes : List ℕ) : Type 0 where
   pub table_after : (board_after b steps).table ≡ table
   pub replies_owed : replies_in b steps ≡ replies
@@ -194,13 +224,10 @@ pub record Measuring (b : Board) (steps : List LoopStep) (calls : List Call) (ta
   pub reader : (board_after b steps).reader ≡ (after boards b calls).reader
   pub never_refused : board_refusal (board_after b steps) ≡ none
 
--- what is measured last, and the goal position, are stored, and the Ping is answered with the alert; so it is on a board that holds it
+-- and on a board that holds the Ping
 abbrev pub InStepMeasuredApplied : Type 0
 InStepMeasuredApplied =
     InStepMeasured
-    → Measuring fresh steps (feed (take 9 write_goal) ∷ feed (drop 9 write_goal) ∷ feed ping_to_1 ∷ gap ∷ [])
-    (measured (put (measured fresh_table (negsuc 4095) 1) goal_position 512) (pos 166) 4)
-    (status 1 0x80 [] 0 ∷ status 1 0x80 (0x06 ∷ 0x04 ∷ 0x26 ∷ []) 0 ∷ [])
-    (packet write_goal ∷ packet ping_to_1 ∷ []) (write_goal ++ (ping_to_1 ++ []))
-    × Measuring full full_steps (gap ∷ []) (measured fresh_table (pos 166) 4) (status 1 0x80 (0x06 ∷ 0x04 ∷ 0x26 ∷ []) 0 ∷ [])
+    → Measuring
+    × MeasuringOn full full_steps (gap ∷ []) (measured fresh_table (pos 166) 4) (status 1 0x80 (0x06 ∷ 0x04 ∷ 0x26 ∷ []) 0 ∷ [])
     (packet ping_to_1 ∷ []) []

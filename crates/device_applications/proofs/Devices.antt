@@ -46,7 +46,7 @@ use Rattle.board.specs.Board.{lent_refusal, outcome}
 use Rattle.device_calls.specs.Calls.{State, DeviceCall, fresh, measurement, device, exchange, carry, carry_packet, on_board, lend, state_of, after_all, refusal_in}
 use Rattle.cases.specs.Exchanges.{goal_at_512, registered_table, goal_too_large, goal_registered, ping_wrong_checksum}
 use Rattle.cases.specs.Cases.{ping_to_all, write_goal}
-use Rattle.device_applications.specs.Devices.{room, short, body_room, longest, behind_fresh, each_kind, start, ended, stored, on_stored, ended_stored, too_many, StaysAcceptedApplied, restored, GoalWithinLimitsApplied, write_too_large, other_limits, alerted, marked, sync_limits, cut, limits_registered, limited, DevicePromisesApplied, SplitApplied, seven_bytes, six_bytes, write_marked, badly_stuffed, to253, longest_packet, ExchangePromisesApplied}
+use Rattle.device_applications.specs.Devices.{room, short, body_room, longest, behind_fresh, each_kind, start, none_start, ended, stored, on_stored, ended_stored, too_many, StaysAcceptedApplied, restored, GoalWithinLimitsApplied, write_too_large, other_limits, alerted, marked, sync_limits, cut, limits_registered, limited, DevicePromisesApplied, SplitApplied, seven_bytes, six_bytes, write_marked, badly_stuffed, to253, longest_packet, ExchangePromisesApplied}
 
 -- every lent count is at most 8, by a test
 abbrev lent_fits : DeviceCall → Bool
@@ -73,6 +73,10 @@ ends : after_all start each_kind ≡ ended
 unfolding reduce_if shift shifts crc_byte crc_from stuff_after well_after unstuff_after length_of body_of checksum_right with_checksum packet_of front_agrees length_agrees registers permits_by number_at value_at bytes_of put freshened every_byte every_touched goal_inside limits_kept write_rule read_rule read write same_limits reg_write action heard_instruction executed state_refusal room_refusal call_refusal removal_refusal id_heard shapeVerdict outcome lent_refusal first fed call
 ends = refl
 
+none_ends : after_all none_start each_kind ≡ ended
+unfolding reduce_if shift shifts crc_byte crc_from stuff_after well_after unstuff_after length_of body_of checksum_right with_checksum packet_of front_agrees length_agrees registers permits_by number_at value_at bytes_of put freshened every_byte every_touched goal_inside limits_kept write_rule read_rule read write same_limits reg_write action heard_instruction executed state_refusal room_refusal call_refusal removal_refusal id_heard shapeVerdict outcome lent_refusal first fed call
+none_ends = refl
+
 stored_ends : after_all stored on_stored ≡ ended_stored
 unfolding reduce_if shift shifts crc_byte crc_from stuff_after well_after unstuff_after length_of body_of checksum_right with_checksum packet_of front_agrees length_agrees registers permits_by number_at value_at bytes_of put freshened every_byte every_touched goal_inside limits_kept write_rule read_rule read write same_limits reg_write action heard_instruction executed state_refusal room_refusal call_refusal removal_refusal id_heard shapeVerdict outcome lent_refusal first fed call
 stored_ends = refl
@@ -80,6 +84,10 @@ stored_ends = refl
 accepted_start : refusal_in start ≡ none
 unfolding put bytes_of freshened registers state_refusal
 accepted_start = refl
+
+accepted_none_start : refusal_in none_start ≡ none
+unfolding put bytes_of freshened registers state_refusal
+accepted_none_start = refl
 
 accepted_stored : refusal_in stored ≡ none
 unfolding put bytes_of freshened registers state_refusal
@@ -93,6 +101,9 @@ stays_accepted_applied t = (
   stored_ends,
   subst (λ (s : State). refusal_in s ≡ none) stored_ends (t.stays stored on_stored accepted_stored (all_lent on_stored refl)),
   subst (λ (s : State). refusal_in (state_of s.table too_many) ≡ some BadRegistered) stored_ends (t.by_lent stored (on_stored ++ lend too_many ∷ []) accepted_stored),
+  none_ends,
+  t.stays none_start each_kind accepted_none_start (all_lent each_kind refl),
+  t.by_lent none_start (each_kind ++ lend too_many ∷ []) accepted_none_start,
 )
 
 pub goal_within_limits_applied : GoalWithinLimitsApplied
@@ -102,8 +113,9 @@ goal_within_limits_applied t = (
   subst (λ (s : State). goal_inside s.table ≡ true) stored_ends (t.stays stored on_stored refl refl),
   t.always (state_of (replicate 136 0xFF) longest) behind_fresh refl,
   t.from_reboot restored on_stored refl refl,
-  t.always start behind_fresh refl,
-  t.from_reboot start on_stored refl refl,
+  t.stays none_start on_stored refl refl,
+  t.always none_start behind_fresh refl,
+  t.from_reboot none_start on_stored refl refl,
 )
 
 -- contradictory answers
@@ -163,10 +175,12 @@ device_promises_applied t =
       long_formed = written-long.formed;
       long_id = written-long.own_id_lem;
       few = written-long.short;
-      slot = t.slot_within.in_one_lem (put fresh_table device_id 252) dropped Packet 254 (0x01 ∷ []) room 14 252 refl;
-      first_slot = t.slot_within.in_two_lem (put fresh_table device_id 252) dropped Packet 254 (0x01 ∷ []);
+      slot = t.slot_within.in_one_lem (put fresh_table device_id 252) longest Packet 254 (0x01 ∷ []) room 14 252 refl;
+      first_slot = t.slot_within.in_two_lem (put fresh_table device_id 252) longest Packet 254 (0x01 ∷ []);
       checksum_slot = t.slot_within.in_one_lem alerted goal_registered BadChecksum 1 [] room 11 0 refl;
       first_checksum_slot = t.slot_within.in_two_lem alerted goal_registered BadChecksum 1 [];
+      none_slot = t.slot_within.in_one_lem (put fresh_table device_id 252) dropped Packet 254 (0x01 ∷ []) room 14 252 refl;
+      none_first_slot = t.slot_within.in_two_lem (put fresh_table device_id 252) dropped Packet 254 (0x01 ∷ []);
       same_min = done.same_min;
       same_max = done.same_max;
       same_min_to_all = done-to-all.same_min;
@@ -213,7 +227,8 @@ not_short e = let z : ◌≡◌ {A = ℕ} 23 24 = cc in absurd (omega arith)
 pub split_applied : SplitApplied
 unfolding reduce_if shift shifts crc_byte crc_from stuff_after well_after unstuff_after length_of body_of checksum_right with_checksum packet_of front_agrees length_agrees registers permits_by number_at value_at bytes_of put freshened every_byte every_touched goal_inside limits_kept write_rule read_rule read write same_limits reg_write action occurs search_from heard_instruction executed state_refusal room_refusal call_refusal removal_refusal id_heard shapeVerdict encode_refusal
 split_applied t =
-    let ping = t fresh_table dropped Packet 1 (0x01 ∷ []) room (not_refused 14 0 ShortReply) in
+    let ping = t fresh_table longest Packet 1 (0x01 ∷ []) room (not_refused 14 0 ShortReply) in
+    let none_ping = t fresh_table dropped Packet 1 (0x01 ∷ []) room (not_refused 14 0 ShortReply) in
     let act = t registered_table goal_registered Packet 1 (0x05 ∷ []) room (not_refused 11 0 ShortReply) in
     let sum = t alerted longest BadChecksum 1 [] room (not_refused 11 0 ShortReply) in
     let long = t marked longest Packet 254 sync_limits room (not_refused 21 2 ShortReply) in
@@ -223,6 +238,8 @@ split_applied t =
       ping_reply = ap (take 14) ping.same_reply;
       action_table = act.same_table;
       action_registered = act.same_registered_lem;
+      none_ping_answer = none_ping.same_answer_lem;
+      none_ping_reply = ap (take 14) none_ping.same_reply;
       checksum_answer = sum.same_answer_lem;
       checksum_table = sum.same_table;
       checksum_registered = sum.same_registered_lem;
@@ -241,14 +258,18 @@ exchange_promises_applied t =
     let room_is = t.only_packets.with_room write_goal seven_bytes write_well (leb-true _ _ refl) in
     let heard = t.as_device.passed_on fresh_table longest write_goal seven_bytes room room_is in
     let marked-room = t.only_packets.with_room write_marked seven_bytes marked_well (leb-true _ _ refl) in
-    let marked-heard = t.as_device.passed_on fresh_table dropped write_marked seven_bytes room marked-room in
+    let marked-heard = t.as_device.passed_on fresh_table longest write_marked seven_bytes room marked-room in
+    let none-marked = t.as_device.passed_on fresh_table dropped write_marked seven_bytes room marked-room in
     let many = t.as_device.passed_on fresh_table too_many write_goal seven_bytes short room_is in
-    let stopped = t.as_device.stopped fresh_table dropped write_goal six_bytes room NoRoom refl in
+    let stopped = t.as_device.stopped fresh_table longest write_goal six_bytes room NoRoom refl in
+    let none_stopped = t.as_device.stopped fresh_table dropped write_goal six_bytes room NoRoom refl in
     let bad = t.as_device.stopped fresh_table too_many badly_stuffed body_room short BadStuffing refl in
     let bad_unheard = t.only_packets.others fresh_table too_many badly_stuffed body_room short wrong_stuffing in
-    let nobody = t.only_packets.others fresh_table dropped to253 body_room room wrong_id in
+    let nobody = t.only_packets.others fresh_table longest to253 body_room room wrong_id in
+    let none_nobody = t.only_packets.others fresh_table dropped to253 body_room room wrong_id in
     let unheard = t.only_packets.others fresh_table longest ping_wrong_checksum body_room room wrong_sum in
-    let accepted = t.only_packets.never_refused fresh_table dropped write_goal (replicate 1022 0xAA) room write_well (leb-true _ _ refl) (leb-true _ _ refl) refl in
+    let accepted = t.only_packets.never_refused fresh_table longest write_goal (replicate 1022 0xAA) room write_well (leb-true _ _ refl) (leb-true _ _ refl) refl in
+    let none_accepted = t.only_packets.never_refused fresh_table dropped write_goal (replicate 1022 0xAA) room write_well (leb-true _ _ refl) (leb-true _ _ refl) refl in
     let long = t.only_packets.never_refused marked longest longest_packet (replicate 1022 0xAA) room long_well (leb-true _ _ refl) (leb-true _ _ refl) refl in
     record {
       its_id = t.only_packets.its_id write_goal write_well;
@@ -266,6 +287,9 @@ exchange_promises_applied t =
       marked_answer = marked-heard.answer;
       marked_reply = ap (take 11) marked-heard.reply;
       marked_body = marked-heard.new_body;
+      none_marked_answer = none-marked.answer;
+      none_marked_reply = ap (take 11) none-marked.reply;
+      none_marked_body = none-marked.new_body;
       many_answer = many.answer;
       many_table = many.new_table;
       many_body = many.new_body;
@@ -282,6 +306,16 @@ exchange_promises_applied t =
       stopped_first_table = stopped.first_table;
       stopped_first_registered = stopped.first_registered;
       stopped_first_body = stopped.first_body;
+      none_stopped = none_stopped.answer;
+      none_stopped_table = none_stopped.same_table;
+      none_stopped_registered = none_stopped.same_registered_lem;
+      none_stopped_reply = none_stopped.same_reply;
+      none_stopped_body = none_stopped.same_body;
+      none_stopped_first = none_stopped.first_answer;
+      none_stopped_first_reply = none_stopped.first_reply;
+      none_stopped_first_table = none_stopped.first_table;
+      none_stopped_first_registered = none_stopped.first_registered;
+      none_stopped_first_body = none_stopped.first_body;
       bad_answer = bad.answer;
       bad_table = bad.same_table;
       bad_registered = bad.same_registered_lem;
@@ -308,8 +342,17 @@ exchange_promises_applied t =
       nobody_first_table = nobody.first_table;
       nobody_first_registered = nobody.first_registered;
       nobody_first_reply = nobody.first_reply;
+      none_nobody = none_nobody.silent;
+      none_nobody_table = none_nobody.same_table;
+      none_nobody_registered = none_nobody.same_registered_lem;
+      none_nobody_reply = none_nobody.same_reply;
+      none_nobody_first_table = none_nobody.first_table;
+      none_nobody_first_registered = none_nobody.first_registered;
+      none_nobody_first_reply = none_nobody.first_reply;
       accepted = accepted.0;
       first_accepted = accepted.1;
       long_accepted = long.0;
       first_long_accepted = long.1;
+      none_accepted = none_accepted.0;
+      none_first_accepted = none_accepted.1;
     }

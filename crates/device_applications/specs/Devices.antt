@@ -62,9 +62,12 @@ behind_fresh =
 abbrev pub each_kind : List DeviceCall
 each_kind = fresh ∷ behind_fresh
 
--- from a table with another goal velocity, and nothing registered
+-- from a table with another goal velocity; and so with nothing registered
 abbrev pub start : State
-start = state_of (put fresh_table goal_velocity 5) dropped
+start = state_of (put fresh_table goal_velocity 5) longest
+
+abbrev pub none_start : State
+none_start = state_of (put fresh_table goal_velocity 5) dropped
 
 -- lamp on, goal velocity 10, goal position 512, status return level 1
 abbrev pub ended : State
@@ -114,6 +117,10 @@ StaysAcceptedApplied =
     × (after_all stored on_stored ≡ ended_stored)
     × (refusal_in ended_stored ≡ none)
     × (refusal_in (state_of ended_stored.table too_many) ≡ some BadRegistered)
+    -- where nothing is registered at first
+    × (after_all none_start each_kind ≡ ended)
+    × (refusal_in (after_all none_start each_kind) ≡ none)
+    × (refusal_in (state_of (after_all none_start each_kind).table too_many) ≡ some BadRegistered)
 
 -- limits 100 and 100, and a goal position outside them, as a store might have left them
 abbrev pub restored : State
@@ -128,8 +135,9 @@ GoalWithinLimitsApplied =
     -- a Reboot, and then the calls
     × (goal_inside (after_all restored (carry Packet 252 (0x08 ∷ []) ∷ on_stored)).table ≡ true)
     -- the same where nothing is registered
-    × (goal_inside (after_all start each_kind).table ≡ true)
-    × (goal_inside (after_all start (carry Packet 1 (0x08 ∷ []) ∷ on_stored)).table ≡ true)
+    × (goal_inside (after_all none_start on_stored).table ≡ true)
+    × (goal_inside (after_all none_start each_kind).table ≡ true)
+    × (goal_inside (after_all none_start (carry Packet 1 (0x08 ∷ []) ∷ on_stored)).table ≡ true)
 
 -- ---- refusals, statuses and limits, of the device call
 
@@ -204,11 +212,14 @@ pub record DeviceApplied : Type 0 where
   pub long_formed : WellFormed (take 21 (call_out marked longest Packet 254 sync_limits room))
   pub long_id : id_of (take 21 (call_out marked longest Packet 254 sync_limits room)) ≡ 252
   pub few : 21 ≤ 21
-  -- a Ping to all devices, heard by 252, with nothing registered
+  -- a Ping to all devices, heard by 252
   pub slot : 252 ≤ 252
-  pub first_slot : (carried_reply (put fresh_table device_id 252) dropped Packet 254 (0x01 ∷ [])).slot ≤ 252
+  pub first_slot : (carried_reply (put fresh_table device_id 252) longest Packet 254 (0x01 ∷ [])).slot ≤ 252
   pub checksum_slot : 0 ≤ 252
   pub first_checksum_slot : (carried_reply alerted goal_registered BadChecksum 1 []).slot ≤ 252
+  -- the Ping with nothing registered
+  pub none_slot : 252 ≤ 252
+  pub none_first_slot : (carried_reply (put fresh_table device_id 252) dropped Packet 254 (0x01 ∷ [])).slot ≤ 252
   -- an Action that is not refused has found the limits as they were; under others it is refused 06
   pub same_min : pos 0 ≡ value_of min_position registered_table
   pub same_max : pos 4095 ≡ value_of max_position registered_table
@@ -237,11 +248,14 @@ long_status =
     ∷ 0x99 ∷ 0xA7 ∷ []
 
 pub record InTwo : Type 0 where
-  -- a Ping with nothing registered, and an Action that stores the goal position
-  pub ping_answer : answer_of_both (state_refusal fresh_table dropped) (carried_reply fresh_table dropped Packet 1 (0x01 ∷ [])) room ≡ Sent 14 0
-  pub ping_reply : take 14 (out_of_both (state_refusal fresh_table dropped) (carried_reply fresh_table dropped Packet 1 (0x01 ∷ [])) room) ≡ ping_status
+  -- a Ping, and an Action that stores the goal position
+  pub ping_answer : answer_of_both (state_refusal fresh_table longest) (carried_reply fresh_table longest Packet 1 (0x01 ∷ [])) room ≡ Sent 14 0
+  pub ping_reply : take 14 (out_of_both (state_refusal fresh_table longest) (carried_reply fresh_table longest Packet 1 (0x01 ∷ [])) room) ≡ ping_status
   pub action_table : carried_table registered_table goal_registered Packet 1 (0x05 ∷ []) ≡ goal_at_512
   pub action_registered : carried_registered registered_table goal_registered Packet 1 (0x05 ∷ []) ≡ dropped
+  -- a Ping with nothing registered
+  pub none_ping_answer : answer_of_both (state_refusal fresh_table dropped) (carried_reply fresh_table dropped Packet 1 (0x01 ∷ [])) room ≡ Sent 14 0
+  pub none_ping_reply : take 14 (out_of_both (state_refusal fresh_table dropped) (carried_reply fresh_table dropped Packet 1 (0x01 ∷ [])) room) ≡ ping_status
   -- a bad checksum
   pub checksum_answer : answer_of_both (state_refusal alerted longest) (carried_reply alerted longest BadChecksum 1 []) room ≡ Sent 11 0
   pub checksum_table : carried_table alerted longest BadChecksum 1 [] ≡ alerted
@@ -302,10 +316,14 @@ pub record ExchangeApplied : Type 0 where
   pub first_table : packet_table fresh_table longest write_goal seven_bytes ≡ goal_at_512
   pub first_registered : packet_registered fresh_table longest write_goal seven_bytes ≡ longest
   pub first_body : packet_body fresh_table longest write_goal seven_bytes ≡ write_body
-  -- the buffer has room for the body without its stuffing: 04 is answered, with nothing registered
-  pub marked_answer : exchange_answer fresh_table dropped write_marked seven_bytes room ≡ Sent 11 0
-  pub marked_reply : take 11 (exchange_out fresh_table dropped write_marked seven_bytes room) ≡ range_status
-  pub marked_body : exchange_body fresh_table dropped write_marked seven_bytes room ≡ 0x03 ∷ 0x74 ∷ 0x00 ∷ 0xFF ∷ 0xFF ∷ 0xFD ∷ 0x00 ∷ []
+  -- the buffer has room for the body without its stuffing: 04 is answered
+  pub marked_answer : exchange_answer fresh_table longest write_marked seven_bytes room ≡ Sent 11 0
+  pub marked_reply : take 11 (exchange_out fresh_table longest write_marked seven_bytes room) ≡ range_status
+  pub marked_body : exchange_body fresh_table longest write_marked seven_bytes room ≡ 0x03 ∷ 0x74 ∷ 0x00 ∷ 0xFF ∷ 0xFF ∷ 0xFD ∷ 0x00 ∷ []
+  -- so with nothing registered
+  pub none_marked_answer : exchange_answer fresh_table dropped write_marked seven_bytes room ≡ Sent 11 0
+  pub none_marked_reply : take 11 (exchange_out fresh_table dropped write_marked seven_bytes room) ≡ range_status
+  pub none_marked_body : exchange_body fresh_table dropped write_marked seven_bytes room ≡ 0x03 ∷ 0x74 ∷ 0x00 ∷ 0xFF ∷ 0xFF ∷ 0xFD ∷ 0x00 ∷ []
   -- the device's call is refused, 23: the body is not in its buffer
   pub many_answer : exchange_answer fresh_table too_many write_goal seven_bytes short ≡ Refused BadRegistered
   pub many_table : exchange_table fresh_table too_many write_goal seven_bytes short ≡ fresh_table
@@ -313,17 +331,28 @@ pub record ExchangeApplied : Type 0 where
   pub many_first_answer : packet_answer fresh_table too_many write_goal seven_bytes ≡ Refused BadRegistered
   pub many_first_reply : packet_reply fresh_table too_many write_goal seven_bytes ≡ silence
   pub many_first_body : packet_body fresh_table too_many write_goal seven_bytes ≡ seven_bytes
-  -- no room for the body: 13, and nothing changes, with nothing registered
-  pub stopped : exchange_answer fresh_table dropped write_goal six_bytes room ≡ Refused NoRoom
-  pub stopped_table : exchange_table fresh_table dropped write_goal six_bytes room ≡ fresh_table
-  pub stopped_registered : exchange_registered fresh_table dropped write_goal six_bytes room ≡ dropped
-  pub stopped_reply : exchange_out fresh_table dropped write_goal six_bytes room ≡ room
-  pub stopped_body : exchange_body fresh_table dropped write_goal six_bytes room ≡ six_bytes
-  pub stopped_first : packet_answer fresh_table dropped write_goal six_bytes ≡ Refused NoRoom
-  pub stopped_first_reply : packet_reply fresh_table dropped write_goal six_bytes ≡ silence
-  pub stopped_first_table : packet_table fresh_table dropped write_goal six_bytes ≡ fresh_table
-  pub stopped_first_registered : packet_registered fresh_table dropped write_goal six_bytes ≡ dropped
-  pub stopped_first_body : packet_body fresh_table dropped write_goal six_bytes ≡ six_bytes
+  -- no room for the body: 13, and nothing changes
+  pub stopped : exchange_answer fresh_table longest write_goal six_bytes room ≡ Refused NoRoom
+  pub stopped_table : exchange_table fresh_table longest write_goal six_bytes room ≡ fresh_table
+  pub stopped_registered : exchange_registered fresh_table longest write_goal six_bytes room ≡ longest
+  pub stopped_reply : exchange_out fresh_table longest write_goal six_bytes room ≡ room
+  pub stopped_body : exchange_body fresh_table longest write_goal six_bytes room ≡ six_bytes
+  pub stopped_first : packet_answer fresh_table longest write_goal six_bytes ≡ Refused NoRoom
+  pub stopped_first_reply : packet_reply fresh_table longest write_goal six_bytes ≡ silence
+  pub stopped_first_table : packet_table fresh_table longest write_goal six_bytes ≡ fresh_table
+  pub stopped_first_registered : packet_registered fresh_table longest write_goal six_bytes ≡ longest
+  pub stopped_first_body : packet_body fresh_table longest write_goal six_bytes ≡ six_bytes
+  -- so with nothing registered
+  pub none_stopped : exchange_answer fresh_table dropped write_goal six_bytes room ≡ Refused NoRoom
+  pub none_stopped_table : exchange_table fresh_table dropped write_goal six_bytes room ≡ fresh_table
+  pub none_stopped_registered : exchange_registered fresh_table dropped write_goal six_bytes room ≡ dropped
+  pub none_stopped_reply : exchange_out fresh_table dropped write_goal six_bytes room ≡ room
+  pub none_stopped_body : exchange_body fresh_table dropped write_goal six_bytes room ≡ six_bytes
+  pub none_stopped_first : packet_answer fresh_table dropped write_goal six_bytes ≡ Refused NoRoom
+  pub none_stopped_first_reply : packet_reply fresh_table dropped write_goal six_bytes ≡ silence
+  pub none_stopped_first_table : packet_table fresh_table dropped write_goal six_bytes ≡ fresh_table
+  pub none_stopped_first_registered : packet_registered fresh_table dropped write_goal six_bytes ≡ dropped
+  pub none_stopped_first_body : packet_body fresh_table dropped write_goal six_bytes ≡ six_bytes
   -- bad stuffing: 14, before 23 and 24
   pub bad_answer : exchange_answer fresh_table too_many badly_stuffed body_room short ≡ Refused BadStuffing
   pub bad_table : exchange_table fresh_table too_many badly_stuffed body_room short ≡ fresh_table
@@ -346,19 +375,30 @@ pub record ExchangeApplied : Type 0 where
   pub unheard_first_table : packet_table fresh_table longest ping_wrong_checksum body_room ≡ fresh_table
   pub unheard_first_registered : packet_registered fresh_table longest ping_wrong_checksum body_room ≡ longest
   pub unheard_first_reply : packet_reply fresh_table longest ping_wrong_checksum body_room ≡ silence
-  -- nor one to 253 with a right one, with nothing registered
-  pub nobody : exchange_answer fresh_table dropped to253 body_room room ≡ Sent 0 0
-  pub nobody_table : exchange_table fresh_table dropped to253 body_room room ≡ fresh_table
-  pub nobody_registered : exchange_registered fresh_table dropped to253 body_room room ≡ dropped
-  pub nobody_reply : exchange_out fresh_table dropped to253 body_room room ≡ room
-  pub nobody_first_table : packet_table fresh_table dropped to253 body_room ≡ fresh_table
-  pub nobody_first_registered : packet_registered fresh_table dropped to253 body_room ≡ dropped
-  pub nobody_first_reply : packet_reply fresh_table dropped to253 body_room ≡ silence
-  -- buffers of 1,022 and 32 bytes: no refusal, with nothing registered or the longest registered write
-  pub accepted : exchange_refusal fresh_table dropped write_goal (replicate 1022 0xAA) room ≡ none
-  pub first_accepted : packet_refusal fresh_table dropped write_goal (replicate 1022 0xAA) ≡ none
+  -- nor one to 253 with a right one
+  pub nobody : exchange_answer fresh_table longest to253 body_room room ≡ Sent 0 0
+  pub nobody_table : exchange_table fresh_table longest to253 body_room room ≡ fresh_table
+  pub nobody_registered : exchange_registered fresh_table longest to253 body_room room ≡ longest
+  pub nobody_reply : exchange_out fresh_table longest to253 body_room room ≡ room
+  pub nobody_first_table : packet_table fresh_table longest to253 body_room ≡ fresh_table
+  pub nobody_first_registered : packet_registered fresh_table longest to253 body_room ≡ longest
+  pub nobody_first_reply : packet_reply fresh_table longest to253 body_room ≡ silence
+  -- so with nothing registered
+  pub none_nobody : exchange_answer fresh_table dropped to253 body_room room ≡ Sent 0 0
+  pub none_nobody_table : exchange_table fresh_table dropped to253 body_room room ≡ fresh_table
+  pub none_nobody_registered : exchange_registered fresh_table dropped to253 body_room room ≡ dropped
+  pub none_nobody_reply : exchange_out fresh_table dropped to253 body_room room ≡ room
+  pub none_nobody_first_table : packet_table fresh_table dropped to253 body_room ≡ fresh_table
+  pub none_nobody_first_registered : packet_registered fresh_table dropped to253 body_room ≡ dropped
+  pub none_nobody_first_reply : packet_reply fresh_table dropped to253 body_room ≡ silence
+  -- buffers of 1,022 and 32 bytes: no refusal
+  pub accepted : exchange_refusal fresh_table longest write_goal (replicate 1022 0xAA) room ≡ none
+  pub first_accepted : packet_refusal fresh_table longest write_goal (replicate 1022 0xAA) ≡ none
   pub long_accepted : exchange_refusal marked longest longest_packet (replicate 1022 0xAA) room ≡ none
   pub first_long_accepted : packet_refusal marked longest longest_packet (replicate 1022 0xAA) ≡ none
+  -- so with nothing registered
+  pub none_accepted : exchange_refusal fresh_table dropped write_goal (replicate 1022 0xAA) room ≡ none
+  pub none_first_accepted : packet_refusal fresh_table dropped write_goal (replicate 1022 0xAA) ≡ none
 
 abbrev pub ExchangePromisesApplied : Type 0
 ExchangePromisesApplied = ExchangePromises → ExchangeApplied

@@ -6,6 +6,7 @@ use mathlib.Core.Option.{none}
 use Prim.Native.Nat.{ℕ, zero, suc}
 use native.Mathlib.Omega.{arith}
 use lib.IntN.{pos}
+use lib.ListN.{replicate}
 use borrow.Author.Tests.{leb-true, ltb-true}
 use Rattle.lists.specs.Numbers.{number_at, bytes_of}
 use Rattle.crc.specs.Crc.{reduce_if, shift, shifts, crc_byte, crc_from}
@@ -30,12 +31,16 @@ use Rattle.device_calls.specs.Calls.{State, state_of}
 use Rattle.board_in_step.specs.InStep.{boards}
 use Rattle.plan.specs.Samples.{two_goals, plan_of_two, goal_of_3, goal_of_9, plan_in_two}
 use Rattle.plan.proofs.Samples.{plan_of_two_lem, plan_in_two_lem, two_goals_good}
-use Rattle.plan_heard.specs.Hearing.{Form, in_two, in_one, unstuffed, hears_all}
+use Rattle.plan_heard.specs.Hearing.{Device, Form, in_two, in_one, unstuffed, hears_all}
 use Rattle.plan_heard.specs.PlanCarriedOut.{fault_of, Ready, of_board, Obeyed, TakenWhole, PlanCarriedOut}
-use Rattle.plan_heard.specs.Applied.{device9, longest, with, unused, earlier, in_halves, in_three, by, on_board, GoalsStored, StoredBy, Taken, PlanCarriedOutApplied}
+use Rattle.plan_heard.specs.Applied.{device9, longest, with, unregistered, unused, earlier, in_halves, in_three, by, on_board, GoalsStored, StoredBy, Taken, PlanCarriedOutApplied}
+
+-- a device with this registered write
+abbrev holds : RegisteredWrite → List ℕ → Device
+holds w table = record { table = table; registered = w; body = replicate 15 0xAA; reply = replicate 32 0xAA }
 
 -- the body buffer has room for each packet, and not for both of the second plan
-ready_one : (form : Form) (table : List ℕ) → fault_of form (with longest table) ≡ none → Ready form (with longest table) (plan_of_two ∷ [])
+ready_one : (form : Form) (table : List ℕ) → fault_of form (with table) ≡ none → Ready form (with table) (plan_of_two ∷ [])
 unfolding body_of unstuff_after
 ready_one form table e =
     record {
@@ -43,7 +48,7 @@ ready_one form table e =
       room = λ w m. ⊎_elim (λ i. rw i (leb-true _ _ refl)) (λ n. absurd (Memᴰ.not-nil n)) (Memᴰ.cases_cons m);
     }
 
-ready_two : (form : Form) (w : RegisteredWrite) (table : List ℕ) → fault_of form (with w table) ≡ none → Ready form (with w table) (goal_of_3 ∷ goal_of_9 ∷ [])
+ready_two : (form : Form) (w : RegisteredWrite) (table : List ℕ) → fault_of form (holds w table) ≡ none → Ready form (holds w table) (goal_of_3 ∷ goal_of_9 ∷ [])
 unfolding body_of unstuff_after
 ready_two form w table e =
     record {
@@ -62,9 +67,14 @@ taken_one : TakenWhole in_halves 1 plan_of_two
 unfolding after took first fed call reduce_if shift shifts crc_byte crc_from well_after length_of body_of checksum_right front_agrees length_agrees shapeVerdict
 taken_one = (refl, (0, omega arith, refl))
 
-taken_two : TakenWhole in_three 3 plan_in_two
+taken_two : TakenWhole in_three 2 plan_in_two
 unfolding after took first fed call reduce_if shift shifts crc_byte crc_from well_after length_of body_of checksum_right front_agrees length_agrees shapeVerdict
 taken_two = (refl, (0, omega arith, refl))
+
+-- by one more gap call
+taken_late : TakenWhole in_three 3 plan_in_two
+unfolding after took first fed call reduce_if shift shifts crc_byte crc_from well_after length_of body_of checksum_right front_agrees length_agrees shapeVerdict
+taken_late = (refl, (0, omega arith, refl))
 
 -- what is promised of a table
 abbrev Obeys : (List ℕ → State) → List ℕ → Type 0
@@ -86,17 +96,17 @@ goals_stored left nine narrow one =
 
 -- and of every table that the form does not refuse
 abbrev EachObeys : List Call → Type 0
-EachObeys calls = (form : Form) (table : List ℕ) → fault_of form (with longest table) ≡ none → Obeys (by form calls) table
+EachObeys calls = (form : Form) (table : List ℕ) → fault_of form (with table) ≡ none → Obeys (by form calls) table
 
 in_one_packet : PlanCarriedOut → EachObeys (since in_halves 1)
 unfolding plan_of_two_lem
 in_one_packet t form table e =
-    t.carried_out_lem two_goals plan_of_two two_goals_good plan_of_two_lem unused refl earlier at_start in_halves 1 taken_one form (with longest table) (ready_one form table e)
+    t.carried_out_lem two_goals plan_of_two two_goals_good plan_of_two_lem unused refl earlier at_start in_halves 1 taken_one form (with table) (ready_one form table e)
 
-in_two_packets : PlanCarriedOut → EachObeys (since in_three 3)
+in_two_packets : PlanCarriedOut → (g : ℕ) → TakenWhole in_three g plan_in_two → EachObeys (since in_three g)
 unfolding plan_in_two_lem
-in_two_packets t form table e =
-    t.carried_out_lem two_goals plan_in_two two_goals_good plan_in_two_lem unused refl earlier at_start in_three 3 taken_two form (with longest table) (ready_two form longest table e)
+in_two_packets t g taken form table e =
+    t.carried_out_lem two_goals plan_in_two two_goals_good plan_in_two_lem unused refl earlier at_start in_three g taken form (with table) (ready_two form longest table e)
 
 in_two_lem : (calls : List Call) → EachObeys calls → GoalsStored (by in_two calls)
 unfolding registers freshened put bytes_of state_refusal
@@ -122,10 +132,10 @@ unfolding plan_of_two_lem
 board_one t table fresh =
     t.on_board_lem two_goals plan_of_two two_goals_good plan_of_two_lem (board_of unused table longest) fresh earlier at_start in_halves 1 taken_one
 
-board_two : PlanCarriedOut → OnBoard (since in_three 3)
+board_two : PlanCarriedOut → (g : ℕ) → TakenWhole in_three g plan_in_two → OnBoard (since in_three g)
 unfolding plan_in_two_lem
-board_two t table fresh =
-    t.on_board_lem two_goals plan_in_two two_goals_good plan_in_two_lem (board_of unused table longest) fresh earlier at_start in_three 3 taken_two
+board_two t g taken table fresh =
+    t.on_board_lem two_goals plan_in_two two_goals_good plan_in_two_lem (board_of unused table longest) fresh earlier at_start in_three g taken
 
 on_board_lem : (calls : List Call) → OnBoard calls → GoalsStored (on_board calls)
 unfolding after outcome reader_left first fed call front_agrees length_agrees shapeVerdict registers freshened put bytes_of state_refusal lent_refusal
@@ -133,16 +143,16 @@ on_board_lem calls o = goals_stored (on_board calls) (o device9 (refl, refl)) (o
 
 -- ---- from a fresh start, with nothing registered
 
-alone : PlanCarriedOut → value_of goal_position (hears_all in_one (with dropped device9) (given records unused (since in_three 3))).table ≡ pos 255
+alone : PlanCarriedOut → value_of goal_position (hears_all in_one (unregistered device9) (given records unused (since in_three 3))).table ≡ pos 255
 unfolding plan_in_two_lem after registers freshened put bytes_of value_at number_at state_refusal room_refusal call_refusal
 alone t =
-    (t.carried_out_lem two_goals plan_in_two two_goals_good plan_in_two_lem unused refl [] (inl refl) in_three 3 taken_two in_one (with dropped device9)
+    (t.carried_out_lem two_goals plan_in_two two_goals_good plan_in_two_lem unused refl [] (inl refl) in_three 3 taken_late in_one (unregistered device9)
     (ready_two in_one dropped device9 refl)).stored 255 refl refl
 
 board_alone : PlanCarriedOut → value_of goal_position (after boards (board_of unused device9 dropped) (since in_three 3)).table ≡ pos 255
 unfolding plan_in_two_lem after registers freshened put bytes_of value_at number_at state_refusal lent_refusal
 board_alone t =
-    (t.on_board_lem two_goals plan_in_two two_goals_good plan_in_two_lem (board_of unused device9 dropped) (refl, refl) [] (inl refl) in_three 3 taken_two
+    (t.on_board_lem two_goals plan_in_two two_goals_good plan_in_two_lem (board_of unused device9 dropped) (refl, refl) [] (inl refl) in_three 3 taken_late
     ).stored 255 refl refl
 
 -- ---- all of it
@@ -159,7 +169,8 @@ pub plan_carried_out_applied : PlanCarriedOutApplied
 unfolding plan_of_two_lem plan_in_two_lem
 plan_carried_out_applied t = (
   heard_by_lem (since in_halves 1) (in_one_packet t) (board_one t),
-  heard_by_lem (since in_three 3) (in_two_packets t) (board_two t),
+  heard_by_lem (since in_three 2) (in_two_packets t 2 taken_two) (board_two t 2 taken_two),
+  heard_by_lem (since in_three 3) (in_two_packets t 3 taken_late) (board_two t 3 taken_late),
   alone t,
   board_alone t,
   all_taken (plan_of_two ∷ []) plan_of_two (t.can_be_taken two_goals plan_of_two plan_of_two_lem),

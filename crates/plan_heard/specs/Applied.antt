@@ -1,4 +1,4 @@
--- What is promised of plans that are goals-stored, applied to the worked ones and to devices 9 and 1, by each form of calls, and to boards.
+-- What is promised of plans that are heard, applied to the worked ones and to devices 9 and 1, by each form of calls, and to boards.
 use Rattle.std.specs.Prelude.{◌≡◌, List, [], ◌∷◌, ℕ, pos, take, drop, replicate, get_or}
 use Rattle.std.proofs.Math.Option.{none}
 use Rattle.reading.specs.Calls.{Call, feed, gap, call}
@@ -26,9 +26,13 @@ device9 = put fresh_table device_id 9
 abbrev pub longest : RegisteredWrite
 longest = record { address = 48; count = 8; bytes = replicate 8 0; min = pos 0; max = pos 0 }
 
--- a device with this registered write and this table, and with buffers that just suffice
-abbrev pub with : RegisteredWrite → List ℕ → Device
-with w table = record { table = table; registered = w; body = replicate 15 0xAA; reply = replicate 32 0xAA }
+-- a device with this table, and with buffers that just suffice
+abbrev pub with : List ℕ → Device
+with table = record { table = table; registered = longest; body = replicate 15 0xAA; reply = replicate 32 0xAA }
+
+-- the same with nothing registered
+abbrev pub unregistered : List ℕ → Device
+unregistered table = record { table = table; registered = dropped; body = replicate 15 0xAA; reply = replicate 32 0xAA }
 
 -- a reader that holds nothing, and whose 1,030 bytes are not 0
 abbrev pub unused : Reader
@@ -47,7 +51,7 @@ in_three = take 9 plan_in_two ∷ drop 9 plan_in_two ∷ goal_of_9 ∷ []
 
 -- what a device with this table has after these calls, by each form, and what a board has
 abbrev pub by : Form → List Call → List ℕ → State
-by form calls table = of_device (hears_all form (with longest table) (given records (after records unused earlier) calls))
+by form calls table = of_device (hears_all form (with table) (given records (after records unused earlier) calls))
 
 abbrev pub on_board : List Call → List ℕ → State
 on_board calls table = of_board (after boards (after boards (board_of unused table longest) earlier) calls)
@@ -75,9 +79,10 @@ abbrev pub PlanCarriedOutApplied : Type 0
 PlanCarriedOutApplied =
     PlanCarriedOut
     → StoredBy (since in_halves 1)
+    × StoredBy (since in_three 2)
     × StoredBy (since in_three 3)
     -- from a fresh start, with nothing registered
-    × (value_of goal_position (hears_all in_one (with dropped device9) (given records unused (since in_three 3))).table ≡ pos 255)
+    × (value_of goal_position (hears_all in_one (unregistered device9) (given records unused (since in_three 3))).table ≡ pos 255)
     × (value_of goal_position (after boards (board_of unused device9 dropped) (since in_three 3)).table ≡ pos 255)
     × Taken (plan_of_two ∷ []) plan_of_two
     × Taken (goal_of_3 ∷ goal_of_9 ∷ []) plan_in_two

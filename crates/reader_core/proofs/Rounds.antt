@@ -1,17 +1,17 @@
 -- How a call's parts come together: what a window leaves to deliver, and a full buffer with one byte more.
 use mathlib.Core.Path.{◌≡◌, refl, sym, ap, ap₂, ◌∙◌}
-use mathlib.Core.List.{List, [], ◌∷◌, ◌++◌, append_assoc}
-use Prim.Native.Nat.{ℕ, ◌+◌, ◌-◌, ◌≤◌, ◌<◌}
+use mathlib.Core.List.{List, [], ◌∷◌, ◌++◌}
+use Prim.Native.Nat.{ℕ, suc, ◌+◌, ◌-◌, ◌≤◌, ◌<◌}
 use native.Mathlib.Omega.{arith}
-use lib.ListN.{length, take, drop, get_or, length-append, length-drop, length-take}
-use lib.Seq.{length-take-le, take_all, take-add, drop-cons, drop-length}
+use lib.ListN.{length, take, drop, get_or, length-append, length-drop}
+use lib.Seq.{length-take-le, take_all, drop-cons, drop-drop, drop-length}
 use Rattle.reading.specs.Rules.{Rules, Laws, is_packet, is_bad_checksum, is_waiting, is_nothing}
 use Rattle.reading.specs.Rules.{Verdict}
 use Rattle.reading.specs.Reading.{packet, bad_checksum, open', closed}
 use Rattle.reading.specs.Calls.{event, first, CallResult, fed, gapped, feed, call}
 use Rattle.reading.specs.Progress.{after_taking, Reached}
 use Rattle.reading.proofs.Held.{held_bound}
-use Rattle.reading.proofs.Progress.{first_at_lem, last_byte, reached_more, reached_silent, reached_event, reached_nothing}
+use Rattle.reading.proofs.Progress.{first_at_lem, last_byte, silent_patient, reached_more, reached_event, reached_nothing}
 use Rattle.reader_scan.specs.declared.Scanned.{Scanned}
 use Rattle.reader_scan.specs.declared.Scanned.TheVariants.{Packet, BadChecksum, Waiting}
 use Rattle.reader_scan.specs.declared.Stop.{Stop}
@@ -21,8 +21,9 @@ use Rattle.packet_protocols.specs.Protocols.{rules_of, id_in}
 use Rattle.packet_protocols.proofs.Shapes.{laws}
 use Rattle.reader_core.specs.declared.Step.{Step}
 use Rattle.reader_core.specs.declared.StepEvent.TheVariants.{Packet as Gave-as-Packet, BadChecksum as Gave-as-BadChecksum, Silent}
-use Rattle.reader_scan.specs.Scan.{on_from, size_seen, Waits, Seen, result_of, Ends, Spills, Filled}
+use Rattle.reader_scan.specs.Scan.{on_from, size_seen, Waits, Seen, result_of, Ends, Stops, Filled}
 use Rattle.reader_core.specs.Delivered.{Delivered}
+use Rattle.reader_scan.proofs.Windows.{stops_take}
 
 pub room_for : (n m k : ℕ) → n ≤ m → k ≡ m → n ≤ k
 room_for n m k h e = rw e h
@@ -109,57 +110,42 @@ module _ (p : Protocol) where
     pub filled_passed : (n : ℕ) → stop ≡ Passed n → Filled R h chunk old held (Passed n)
     filled_passed n e = rw e at f
 
-    pub filled_full : (at end n : ℕ) → stop ≡ Full at end n → Filled R h chunk old held (Full at end n)
-    filled_full at end n e = rw e at f
+    pub filled_full : (n : ℕ) → stop ≡ Full n → Filled R h chunk old held (Full n)
+    filled_full n e = rw e at f
 
-  -- ---- bytes that are one more than can be held
+  -- ---- a full buffer and one byte more
 
-  module _ (h₀ c₀ h t : List ℕ) (taken n k : ℕ) (a : Reached R h₀ c₀ h taken) (w : Spills R h (drop taken c₀) t n k)
-      (full : R.longest ≡ length t + k) where
+  module _ (h₀ c₀ h held : List ℕ) (taken past : ℕ) (a : Reached R h₀ c₀ h taken)
+      (w : Stops R h (drop taken c₀) held past 0) (here : past < length (drop taken c₀)) (full : R.longest ≡ length held + 1) where
     abbrev next : ℕ
-    next = taken + n
+    next = taken + past
 
     abbrev more : List ℕ
-    more = t ++ take k (drop next c₀)
+    more = held ++ get_or c₀ next 0 ∷ []
 
-    fits : k ≤ length (drop next c₀)
-    fits = simp length-drop (omega (arith, w.within, length-drop taken c₀))
+    more_length : length more ≡ length held + 1
+    more_length = length-append held (get_or c₀ next 0 ∷ [])
 
-    more_length : length more ≡ R.longest
-    more_length = length-append t (take k (drop next c₀)) ∙ omega (arith, length-take-le k (drop next c₀) fits, full)
-
-    more_reached : Reached R h₀ c₀ more (next + k)
+    more_reached : Reached R h₀ c₀ more (next + 1)
     more_reached =
-        reached_more R h₀ c₀ t more next k (reached_more R h₀ c₀ h t taken n a w.reached)
-        (reached_silent R t (drop next c₀) k fits (λ j i. w.patient.silent_while (take j (drop next c₀)) (simp length-take (omega arith))))
+        let y : taken + (past + 1) ≡ next + 1 = omega arith in
+        let one : take 1 (drop past (drop taken c₀)) ≡ get_or c₀ next 0 ∷ [] =
+        ap (λ (l : List ℕ). take 1 l) (drop-drop past taken c₀ ∙ drop-cons c₀ next 0 (omega (arith, length-drop taken c₀))) in
+        let p = silent_patient R held (omega arith) w.waits in
+        let t = stops_take R L h (drop taken c₀) held more past 0 1 1 0 w p (omega arith) (omega arith) (rw one) in
+        rw y at (reached_more R h₀ c₀ h more taken (past + 1) a t)
 
-    -- a packet takes them all
-    packet_whole : (m : ℕ) → R.verdict more ≡ is_packet m → m ≡ length more
-    packet_whole m e =
-        let xs = drop next c₀ in
-        let o = w.patient.some in
-        let j : k - 1 + 1 ≡ k = omega arith in
-        let most = t ++ take (k - 1) xs in
-        let u = w.patient.silent_while (take (k - 1) xs) (simp length-take (omega arith)) in
-        let last : take 1 (drop (k - 1) xs) ≡ get_or xs (k - 1) 0 ∷ [] = ap (take 1) (drop-cons xs (k - 1) 0 (omega (arith, fits))) in
-        let split : take k xs ≡ take (k - 1) xs ++ get_or xs (k - 1) 0 ∷ [] =
-        ap (λ (i : ℕ). take i xs) (sym j) ∙ take-add (k - 1) 1 xs ∙ ap (λ (y : List ℕ). take (k - 1) xs ++ y) last in
-        let joined : more ≡ most ++ get_or xs (k - 1) 0 ∷ [] =
-        ap (λ (y : List ℕ). t ++ y) split ∙ sym (append_assoc t (take (k - 1) xs) (get_or xs (k - 1) 0 ∷ [])) in
-        let v : R.verdict (most ++ get_or xs (k - 1) 0 ∷ []) ≡ is_packet m = rw joined at e in
-        last_byte R L most u.0 (get_or xs (k - 1) 0) m u.1 v
-        ∙ omega (arith, ap length joined, length-append most (get_or xs (k - 1) 0 ∷ []))
-
-    pub full_packet : (m id : ℕ) (r : Step) (held' bytes : List ℕ) → R.verdict more ≡ is_packet m
-        → r ≡ record { taken = next + k; held = 0; event = Gave-as-Packet id m } → id ≡ id_in p bytes → bytes ≡ more
+    pub full_packet : (n id : ℕ) (r : Step) (held' bytes : List ℕ) → R.verdict more ≡ is_packet n
+        → r ≡ record { taken = next + 1; held = 0; event = Gave-as-Packet id n } → id ≡ id_in p bytes → bytes ≡ more
         → Delivered p (fed R h₀ c₀) r held' bytes
-    full_packet m id r held' bytes e i d j =
-        let l : m ≡ length more = packet_whole m e in
-        let all : take m more ≡ more = take_all m more (omega arith) in
-        let end : drop m more ≡ [] = ap (λ (n : ℕ). drop n more) l ∙ drop-length more in
+    full_packet n id r held' bytes e i d j =
+        let m : n ≡ suc (length held) = last_byte R L held held (get_or c₀ next 0) n w.waits e in
+        let l : n ≡ length more = omega (arith, more_length) in
+        let all : take n more ≡ more = take_all n more (omega arith) in
+        let end : drop n more ≡ [] = ap (λ (n : ℕ). drop n more) l ∙ drop-length more in
         let f : first R open' more ≡ event (packet more) [] =
-        first_at_lem R open' more (is_packet m) (omega (arith, more_length, full, w.patient.some)) e ∙ rw (all, end) in
-        rw (reached_event R h₀ c₀ more [] (next + k) (packet more) more_reached f, i, j)
+        first_at_lem R open' more (is_packet n) (omega (arith, more_length)) e ∙ rw (all, end) in
+        rw (reached_event R h₀ c₀ more [] (next + 1) (packet more) more_reached f, i, j)
         (record {
           taken_is = refl;
           event_is = ap₂ Gave-as-Packet (rw j at d) l;
@@ -168,36 +154,33 @@ module _ (p : Protocol) where
           bytes_are = take_all (length more) more (omega arith);
         })
 
-    -- of the bytes but the first there are as many as can be held
-    module _ (m : ℕ) (held' : List ℕ) (room : m + 1 ≡ R.longest) (j : held' ≡ drop 1 more) where
-      others : m ≡ length (drop 1 more)
-      others = sym (length-drop 1 more ∙ omega (arith, more_length))
+    pub full_bad : (id n : ℕ) (r : Step) (held' bytes : List ℕ) → R.verdict more ≡ is_bad_checksum id
+        → r ≡ record { taken = next + 1; held = n; event = Gave-as-BadChecksum id } → n ≡ length held → held' ≡ drop 1 more
+        → Delivered p (fed R h₀ c₀) r held' bytes
+    full_bad id n r held' bytes e i m j =
+        let f : first R open' more ≡ event (bad_checksum id) (drop 1 more) =
+        first_at_lem R open' more (is_bad_checksum id) (omega (arith, more_length)) e in
+        let l : n ≡ length (drop 1 more) = m ∙ sym (length-drop 1 more ∙ omega (arith, more_length)) in
+        rw (reached_event R h₀ c₀ more (drop 1 more) (next + 1) (bad_checksum id) more_reached f, i, j)
+        (record {
+          taken_is = refl;
+          event_is = refl;
+          count_is = l;
+          held_is = take_all n (drop 1 more) (omega arith);
+          bytes_are = refl;
+        })
 
-      pub full_bad : (id : ℕ) (r : Step) (bytes : List ℕ) → R.verdict more ≡ is_bad_checksum id
-          → r ≡ record { taken = next + k; held = m; event = Gave-as-BadChecksum id } → Delivered p (fed R h₀ c₀) r held' bytes
-      full_bad id r bytes e i =
-          let f : first R open' more ≡ event (bad_checksum id) (drop 1 more) =
-          first_at_lem R open' more (is_bad_checksum id) (omega (arith, more_length)) e in
-          let l = others in
-          rw (reached_event R h₀ c₀ more (drop 1 more) (next + k) (bad_checksum id) more_reached f, i, j)
-          (record {
-            taken_is = refl;
-            event_is = refl;
-            count_is = l;
-            held_is = take_all m (drop 1 more) (omega arith);
-            bytes_are = refl;
-          })
-
-      -- neither: it is too long to wait, so that nothing begins with its first byte
-      pub full_other : ((size : ℕ) → R.verdict more ≡ is_packet size → ⊥) → ((id : ℕ) → R.verdict more ≡ is_bad_checksum id → ⊥)
-          → Reached R h₀ c₀ (take m held') (next + k)
-      full_other x q = by (R.verdict more) refl
-        where
-          by : (v : Verdict) → R.verdict more ≡ v → Reached R h₀ c₀ (take m held') (next + k)
-          by (is_packet size) e = absurd (x size e)
-          by (is_bad_checksum id) e = absurd (q id e)
-          by is_waiting e = absurd (omega (arith, L.room more e, L.lacking more e, more_length))
-          by is_nothing e =
-              let l = others in
-              let all : take m (drop 1 more) ≡ drop 1 more = take_all m (drop 1 more) (omega arith) in
-              rw (j, all) (reached_nothing R L h₀ c₀ more (next + k) (omega (arith, more_length)) e more_reached)
+    -- neither: it is too long to wait, so that nothing begins with its first byte
+    pub full_other : (n : ℕ) (held' : List ℕ) → ((size : ℕ) → R.verdict more ≡ is_packet size → ⊥)
+        → ((id : ℕ) → R.verdict more ≡ is_bad_checksum id → ⊥) → n ≡ length held → held' ≡ drop 1 more
+        → Reached R h₀ c₀ (take n held') (next + 1)
+    full_other n held' x q m j = by (R.verdict more) refl
+      where
+        by : (v : Verdict) → R.verdict more ≡ v → Reached R h₀ c₀ (take n held') (next + 1)
+        by (is_packet size) e = absurd (x size e)
+        by (is_bad_checksum id) e = absurd (q id e)
+        by is_waiting e = absurd (omega (arith, L.room more e, L.lacking more e, more_length))
+        by is_nothing e =
+            let l : length (drop 1 more) ≡ n = length-drop 1 more ∙ omega (arith, more_length) in
+            let all : take n (drop 1 more) ≡ drop 1 more = take_all n (drop 1 more) (omega arith) in
+            rw (j, all) (reached_nothing R L h₀ c₀ more (next + 1) (omega (arith, more_length)) e more_reached)

@@ -130,24 +130,18 @@ fn deliver_chunk(
     stepped(before + end, end - on, event)
 }
 
-// The held bytes from `at` up to `end` and more after them are one more than can be held: they are judged in the packet buffer. All
-// but the first are held from now on.
-fn judge_longest(
-    protocol: Protocol,
-    held: &mut [u8],
-    at: usize,
-    end: usize,
-    more: &[u8],
-    packet: &mut [u8],
-) -> Verdict
-    requires { (at ≤ end) × (end ≤ length held.old) × (end - at + length more.now ≡ length packet.old) × (length packet.old ≡ length held.old + 1) }
-    ensures value { result ≡ answer_by (rules_of protocol) (drop at (take end held.old) ++ more.now) }
-    ensures packet_after { (packet.new ≡ drop at (take end held.old) ++ more.now)
-        × (held.new ≡ drop 1 (drop at (take end held.old) ++ more.now)) }
+// The held bytes fill their buffer: with one byte more they are judged in the packet buffer. All but the first stay held.
+fn judge_longest(protocol: Protocol, held: &mut [u8], byte: u8, packet: &mut [u8]) -> Verdict
+    requires { (0 < length held.old) × (length packet.old ≡ length held.old + 1) }
+    ensures value { result ≡ answer_by (rules_of protocol) (held.old ++ byte ∷ []) }
+    ensures packet_after { (packet.new ≡ held.old ++ byte ∷ [])
+        × (held.new ≡ drop 1 (held.old ++ byte ∷ [])) }
 {
-    buffers::place(packet, 0, &held[at..end]);
-    buffers::place(packet, end - at, more);
-    buffers::place(held, 0, &packet[1..]);
+    let n = held.len();
+    buffers::place(packet, 0, &held[..n]);
+    packet[n] = byte;
+    buffers::shift(held, 1, n);
+    held[n - 1] = byte;
     packet_protocols::judge(protocol, packet, 0)
 }
 
@@ -177,7 +171,7 @@ fn read_chunk(
     )
 }
 
-// Reads the held bytes first, then the chunk. Each round takes the bytes that make a candidate longer than what can be held.
+// Reads the held bytes first, then the chunk. Each round takes one byte past a full buffer.
 fn feed_slices(
     protocol: Protocol,
     held: &mut [u8],
@@ -193,8 +187,6 @@ fn feed_slices(
     let mut n = count;
     let mut taken = 0;
     loop {
-        let mut at = 0;
-        let mut end = 0;
         match reader_scan::fill(protocol, held, n, &chunk[taken..]) {
             Stop::Done {
                 seen,
@@ -208,20 +200,14 @@ fn feed_slices(
                 taken + more,
                 packet,
             ),
-            Stop::Full {
-                at: start,
-                end: stop,
-                taken: more,
-            } => {
-                at = start;
-                end = stop;
+            Stop::Full { taken: more } => {
                 taken += more;
             }
         }
-        let next = taken;
+        let byte = chunk[taken];
+        taken += 1;
         n = held.len();
-        taken += n + 1 - (end - at);
-        match judge_longest(protocol, held, at, end, &chunk[next..taken], packet) {
+        match judge_longest(protocol, held, byte, packet) {
             Verdict::Packet(size) => {
                 let id = id_in(protocol, packet);
                 return stepped(taken, 0, StepEvent::Packet { id, size });

@@ -9,7 +9,7 @@ use Rattle.lists.specs.Write.{overwritten, placed}
 use Rattle.buffers.proofs.Parts.{part_is, placed_whole, stays_more, overwritten_stays, placed_stays}
 
 -- what a placed part stands behind, where it has room
-pub placed_behind : (old new held : List ℕ) (e : ℕ) → e + length new ≤ length old
+placed_behind : (old new held : List ℕ) (e : ℕ) → e + length new ≤ length old
     → held ≡ placed old e (take (length old - e) new) → take (e + length new) held ≡ take e old ++ new
 placed_behind old new held e h i =
     let l = length-take-le e old (omega arith) in
@@ -18,22 +18,6 @@ placed_behind old new held e h i =
     ∙ ap (λ (n : ℕ). take (n + length new) (take e old ++ (new ++ rest))) (sym l)
     ∙ take-append-add (take e old) (new ++ rest) (length new)
     ∙ ap (λ (t : List ℕ). take e old ++ t) (take-append_seam new rest)
-
--- the first bytes of a chunk behind the first bytes of a buffer
-module _ (old chunk held : List ℕ) (e n m : ℕ) (fits : m ≤ length chunk) (room : e + m ≤ length old) (all : n ≡ m)
-    (is : held ≡ placed old e (take (length old - e) (take n chunk))) where
-  given : length (take n chunk) ≡ m
-  given = ap (λ (k : ℕ). length (take k chunk)) all ∙ length-take-le m chunk fits
-
-  pub few_behind : take (e + m) held ≡ take e old ++ take m chunk
-  few_behind =
-      ap (λ (k : ℕ). take (e + k) held) (sym given) ∙ placed_behind old (take n chunk) held e (omega (arith, given)) is
-      ∙ ap (λ (k : ℕ). take e old ++ take k chunk) all
-
-  pub few_stay : drop (e + m) held ≡ drop (e + m) old
-  few_stay =
-      ap (λ (k : ℕ). drop (e + k) held) (sym given) ∙ placed_stays old (take n chunk) held e (omega (arith, given)) is
-      ∙ ap (λ (k : ℕ). drop (e + k) old) given
 
 -- the window from a up to e, and new bytes placed behind it
 pub append_behind : (old new held : List ℕ) (a e : ℕ) → a ≤ e → e + length new ≤ length old

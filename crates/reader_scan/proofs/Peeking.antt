@@ -1,18 +1,13 @@
 -- By the rules of a protocol: what the look at an offset and the judgement there tell, and the way to the next
 -- offset at which a packet may begin.
 use mathlib.Core.Path.{◌≡◌, refl, sym, subst, ◌∙◌}
-use mathlib.Core.Bool.{true, ◌&&◌}
-use mathlib.Core.List.{List, ◌++◌}
+use mathlib.Core.List.{List}
 use Prim.Native.Nat.{ℕ, ◌+◌, ◌-◌, ◌≤◌, ◌<◌}
 use native.Mathlib.Omega.{arith}
-use lib.Dec.{leb, ltb}
 use lib.ListN.{length, take, drop, length-drop}
-use borrow.Author.Tests.{leb-true, ltb-true}
-use Rattle.lists.proofs.Bools.{and_left, and_right}
-use Rattle.reading.specs.Rules.{Rules, Laws, is_waiting, is_nothing}
-use Rattle.reading.specs.Reading.{Mode, open', closed}
-use Rattle.reading.specs.Calls.{silent, first}
-use Rattle.reading.proofs.Progress.{first_waits}
+use Rattle.reading.specs.Rules.{Rules, Laws, is_nothing}
+use Rattle.reading.specs.Reading.{Mode, closed}
+use Rattle.reading.specs.Calls.{first}
 use Rattle.packet_rules.specs.Answers.{front_by, settled_by}
 use Rattle.packet_rules.specs.Starts.{before_start}
 use Rattle.packet_rules.specs.declared.Front.{Front}
@@ -20,7 +15,6 @@ use Rattle.packet_rules.specs.declared.Front.TheVariants.{Whole}
 use Rattle.packet_rules.specs.declared.Front.TheVariants.{Nothing as Front-as-Nothing, Waiting as Front-as-Waiting}
 use Rattle.packet_rules.specs.declared.Verdict.{Verdict}
 use Rattle.packet_rules.specs.declared.Verdict.TheVariants.{Packet, BadChecksum, Waiting, Nothing}
-use Rattle.packet_rules.proofs.Laws.{waits_on}
 use Rattle.packet_rules.proofs.Peeks.{Peeked, VerdictIs, peeked, judged, front_at, whole_fits}
 use Rattle.packet_rules.proofs.Starts.{before_fits}
 use Rattle.packet_protocols.specs.declared.Protocol.{Protocol}
@@ -48,24 +42,6 @@ pub peek_past : (R : Rules) (L : Laws R) (settled : List ℕ → ℕ) (s : List 
 peek_past R L settled s at h Front-as-Nothing v w = scan_nothing R L closed s at at (omega arith) refl h v.0
 peek_past R L settled s at h (Front-as-Waiting k) v w = scan_past R L s at at (omega arith) h v.0 refl
 peek_past R L settled s at h (Whole n) v w = absurd (w n refl)
-
--- n bytes that wait, and are as many as the shortest packet has, go on waiting with m more, fewer than they lack
-pub waits_still : (p : Protocol) (t x s : List ℕ) (n m left k : ℕ) → length t ≡ n → length x ≡ m
-    → ((rules_of p).verdict t ≡ is_waiting) × ((rules_of p).lacks t ≡ k)
-    → (leb (shape_of p).shortest n && (leb left m && ltb m k)) ≡ true → s ≡ t ++ x → (first (rules_of p) open' s ≡ silent s) × (left ≤ m)
-waits_still p t x s n m left k l z e i is =
-    let a = leb (shape_of p).shortest n in
-    let b = leb left m in
-    let c = ltb m k in
-    let f = leb-true (shape_of p).shortest n (and_left a (b && c) i) in
-    let more = and_right a (b && c) i in
-    let g = ltb-true m k (and_right b c more) in
-    let lacks : length x < (rules_of p).lacks t = rw (z, e.1) g in (
-      rw is
-          (first_waits (rules_of p) (t ++ x)
-          (waits_on (shape_of p) (shapes_kept p) t x e.0 (omega (arith, l, f, (shapes_kept p).fronted)) lacks)),
-      leb-true left m (and_left b c more),
-    )
 
 module _ (p : Protocol) (s : List ℕ) (at : ℕ) where
   -- b is what the look says

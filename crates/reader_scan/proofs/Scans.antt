@@ -9,8 +9,9 @@ use Rattle.reading.specs.Rules.{Rules, Laws, Undecided, is_packet, is_bad_checks
 use Rattle.reading.specs.Rules.{Verdict}
 use Rattle.reading.specs.Reading.{Mode, open', closed, packet, bad_checksum}
 use Rattle.reading.specs.Calls.{silent, first_at, first}
-use Rattle.reading.proofs.Progress.{first_at_lem, first_none, first_few, packet_short}
+use Rattle.reading.proofs.Progress.{first_at_lem, first_none, first_few, waiting_patient, packet_short}
 use Rattle.reading.proofs.Ahead.{NoneBegins, first_past}
+use Rattle.reading.specs.Progress.{Patient}
 use Rattle.reader_scan.specs.Scan.{Decides, Waits}
 
 module _ (R : Rules) (L : Laws R) (m : Mode) (s : List ℕ) (from at : ℕ) (begins : from ≤ at)
@@ -58,6 +59,9 @@ module _ (R : Rules) (L : Laws R) (s : List ℕ) (from at : ℕ) (begins : from 
   pub scan_waits : first R open' (drop from s) ≡ first R open' (drop at s) → Waits R open' s from at
   scan_waits inv =
       record { begins = begins; fits = omega arith; first_is = here R L open' s from at begins inv is_waiting h e }
+
+  pub scan_wants : (k : ℕ) → R.lacks (drop at s) ≡ k → Patient R (drop at s) k
+  scan_wants k l = rw (← l) (waiting_patient R L (drop at s) e)
 
   pub scan_past : first R closed (drop from s) ≡ first R closed (drop at s)
       → first R closed (drop from s) ≡ first R closed (drop (at + 1) s)

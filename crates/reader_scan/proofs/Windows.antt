@@ -1,34 +1,35 @@
 -- How far a feeding call has come, by what was seen of its window: one round of the loops that take bytes, and their end.
 use mathlib.Core.Path.{◌≡◌, refl, sym, ap, ◌∙◌}
 use mathlib.Core.Bool.{true, false, ◌&&◌}
-use mathlib.Core.List.{List, [], ◌++◌, append_assoc}
-use mathlib.Core.Logic.{◌⊎◌, inl, inr}
+use mathlib.Core.List.{List, [], ◌++◌, append-nil, append_assoc}
 use mathlib.Core.Option.{some}
 use Prim.Native.Nat.{ℕ, zero, suc, ◌+◌, ◌-◌, ◌≤◌, ◌<◌, min}
 use native.Mathlib.Omega.{arith}
 use lib.Dec.{leb, ltb}
 use lib.ListN.{length, take, drop, length-append, length-take, length-drop}
-use lib.Seq.{length-take-le, take-take, take_at, take-add, drop-drop, drop-append-le, drop-append-add}
+use lib.Seq.{length-take-le, take_all, take-add, drop-drop, drop-append-le, drop-append-add}
 use borrow.Author.Tests.{leb-true, ltb-true, le-leb, lt-ltb}
 use Rattle.lists.proofs.Bools.{and_left, and_right, both_ways}
 use Rattle.lists.proofs.Parts.{take_least}
 use Rattle.buffers.proofs.Parts.{stays_more}
-use Rattle.reading.specs.Rules.{Rules, Laws, Undecided, is_waiting}
+use Rattle.reading.specs.Rules.{Rules, Laws, Undecided}
 use Rattle.reading.specs.Reading.{Event, packet, bad_checksum, open'}
-use Rattle.reading.specs.Calls.{CallResult, silent, first, fed}
+use Rattle.reading.specs.Calls.{CallResult, fed}
 use Rattle.reading.specs.Progress.{Reached, Patient}
-use Rattle.reading.proofs.Progress.{silent_again, silent_few, reached_start, reached_past, reached_silent, reached_event, reached_end}
-use Rattle.reading.proofs.Progress.{reached_take, reached_back, waiting_patient}
+use Rattle.reading.proofs.Progress.{silent_again, reached_start, reached_past, reached_event, reached_end}
+use Rattle.reading.proofs.Progress.{reached_take, reached_back}
 use Rattle.reading.proofs.Ahead.{part}
 use Rattle.reader_scan.specs.declared.Scanned.{Scanned}
 use Rattle.reader_scan.specs.declared.Scanned.TheVariants.{Packet, BadChecksum, Waiting}
-use Rattle.reader_scan.specs.declared.Stop.{Stop}
-use Rattle.reader_scan.specs.declared.Stop.TheVariants.{Done, Passed, Full}
-use Rattle.reader_scan.specs.Scan.{Decides, Waits, Seen, Ends, Spills, Filled}
+use Rattle.reader_scan.specs.Scan.{Decides, Waits, Seen, Ends, Stops}
 
 pub not_none : (n : ℕ) → (n ≡ 0 → ⊥) → 0 < n
 not_none zero h = absurd (h refl)
 not_none (suc n) h = omega arith
+
+-- the least of three is within the first
+pub least_first : (a b c n m : ℕ) → n ≡ min a b → m ≡ min n c → m ≤ a
+least_first a b c n m e f = omega (arith, e, f)
 
 -- bytes that are not given back to the chunk are some
 pub not_back : (few k n : ℕ) → 0 < few → (leb k n && ltb k few) ≡ false → k ≡ 0 → ⊥
@@ -37,17 +38,7 @@ not_back few k n o e z =
     let s = lt-ltb k few (omega arith) in
     both_ways (leb k n && ltb k few) (rw (l, s)) e
 
--- what waits and lacks so many is patient
-pub lacking_patient : (R : Rules) (L : Laws R) (t : List ℕ) (k : ℕ) → (R.verdict t ≡ is_waiting) × (R.lacks t ≡ k) → Patient R t k
-lacking_patient R L t k e = rw (← e.1) (waiting_patient R L t e.0)
-
 -- ---- the call's way
-
--- where the held bytes wait: the window begins at offset `at` of the bytes s
-pub record Stops (R : Rules) (h c s : List ℕ) (n at : ℕ) : Type 0 where
-  pub fits : at ≤ length s
-  pub reached : Reached R h c (drop at s) n
-  pub waits : first R open' (drop at s) ≡ silent (drop at s)
 
 module _ (R : Rules) (L : Laws R) (h c : List ℕ) where
   ends_event : (s : List ℕ) (n from at on : ℕ) (e : Event) → Reached R h c (drop from s) n → Decides R open' s from at on e
@@ -105,38 +96,28 @@ pub record Filling (R : Rules) (h chunk : List ℕ) (most : ℕ) (held : List �
 module _ (R : Rules) (L : Laws R) (chunk : List ℕ) (most : ℕ) where
   -- of those that count as held, as many as there are
   module _ (held : List ℕ) (count n : ℕ) (e : n ≡ min count (length held)) where
+    pub filling_start : length held ≡ most → Filling R (take count held) chunk most held 0 0 n
+    filling_start s =
+        record {
+          taken_within = omega arith;
+          ordered = omega arith;
+          within = omega arith;
+          size = s;
+          reached = rw (take_least count n held e) (reached_start R (take count held) chunk);
+          fewer = simp length-take (omega (arith, e));
+          last =
+              let z : length (take count held) + 0 - (n - 0) ≡ 0 = simp length-take (omega (arith, e)) in
+              rw z (take_least count n held e ∙ sym (append-nil (take count held)));
+        }
+
     pub filling_none : n ≡ 0 → Reached R (take count held) chunk [] 0
     filling_none z =
         rw (← take_least count n held e, z) (reached_start R [] chunk)
 
-  -- the first bytes of the chunk stand behind the n held ones, where these are fewer than decide an event
-  module _ (few : ℕ) (q : (u : List ℕ) → length u < few → Undecided (R.verdict u)) (h : List ℕ) (n m : ℕ) (all : length h ≡ n)
-      (l : m ≤ length chunk) (o : (m ≡ 0) ⊎ (n + m ≤ few)) where
-    few_with : (k : ℕ) → k < m → (m ≡ 0) ⊎ (n + m ≤ few) → length (h ++ take k chunk) < few
-    few_with k i (inl z) = absurd (omega arith)
-    few_with k i (inr f) = simp (length-append, length-take) (omega arith)
-
-    pub few_reached : Reached R h chunk (h ++ take m chunk) m
-    few_reached = reached_silent R h chunk m l (λ k i. silent_few R few q (h ++ take k chunk) (few_with k i o))
-
-    pub filling_few : (held : List ℕ) → length held ≡ most → n + m ≤ most → take (n + m) held ≡ h ++ take m chunk
-        → Filling R h chunk most held m 0 (n + m)
-    filling_few held s room is =
-        record {
-          taken_within = l;
-          ordered = omega arith;
-          within = room;
-          size = s;
-          reached = rw is few_reached;
-          fewer = omega arith;
-          last = let z : length h + m - (n + m - 0) ≡ 0 = omega arith in rw z is;
-        }
-
-  pub more_length : (taken m : ℕ) → taken + m ≤ length chunk → length (take m (drop taken chunk)) ≡ m
-  more_length taken m h = length-take-le m (drop taken chunk) (simp length-drop (omega arith))
-
   pub part_length : (taken m : ℕ) → taken + m ≤ length chunk → length (take (taken + m - taken) (drop taken chunk)) ≡ m
-  part_length taken m h = let i : taken + m - taken ≡ m = omega arith in rw i (more_length taken m h)
+  part_length taken m h =
+      let i : taken + m - taken ≡ m = omega arith in
+      rw i (length-take-le m (drop taken chunk) (simp length-drop (omega arith)))
 
   -- the window with m bytes more, where it begins now
   pub room_behind : (r waiting n m taken : ℕ) → taken + m ≤ length chunk → n ≡ most
@@ -161,12 +142,6 @@ module _ (R : Rules) (L : Laws R) (chunk : List ℕ) (most : ℕ) where
         → Ends R h chunk (take end held) taken v
     filling_decided v n d = ends_decided R L h chunk (take end held) taken at v n d w.reached
 
-    -- all of the chunk is taken, and they wait
-    pub filling_waits : first R open' (drop at (take end held)) ≡ silent (drop at (take end held)) → taken ≡ length chunk
-        → Ends R h chunk (take end held) taken (Waiting at)
-    filling_waits s e =
-        ends_stopped R L h chunk (take end held) taken at (record { fits = filling_ordered; reached = w.reached; waits = s }) e
-
     -- what stays behind the bytes held and those taken so far stays behind those that the whole call takes
     pub filling_stays : (held₀ : List ℕ) (count : ℕ) → drop (count + taken) held ≡ drop (count + taken) held₀
         → drop (count + (fed R h chunk).taken) held ≡ drop (count + (fed R h chunk).taken) held₀
@@ -178,9 +153,6 @@ module _ (R : Rules) (L : Laws R) (chunk : List ℕ) (most : ℕ) where
     module _ (start : ℕ) (v : Waits R open' (take end held) at start) where
       pub window_fits : start ≤ end
       window_fits = let i = v.fits in omega (arith, whole)
-
-      pub window_length : length (drop start (take end held)) ≡ end - start
-      window_length = length-drop start (take end held) ∙ ap (λ (n : ℕ). n - start) whole
 
       window : Stops R h chunk (take end held) taken start
       window = stops_seen R L h chunk (take end held) taken at start w.reached v
@@ -223,24 +195,14 @@ module _ (R : Rules) (L : Laws R) (chunk : List ℕ) (most : ℕ) where
                 ∙ ap (λ (n : ℕ). take n (drop (taken - k) chunk)) z),
           )
 
-      -- with so many bytes more, up to m of which it waits for, it is longer than the buffer
-      pub window_spills : (k m : ℕ) → Patient R (drop start (take end held)) k → m ≤ k → taken + m ≤ length chunk → length held - (end - start) < m
-          → (start ≤ end) × (end ≤ length held) × (end - start ≤ length h + taken)
-          × Spills R h chunk (drop start (take end held)) taken (length held + 1 - (end - start))
-      window_spills k m p l t o = (
-        window_fits,
-        filling_fits,
-        window_fewer,
-        record {
-          reached = window.reached;
-          within = omega (arith, window_fits, filling_fits);
-          patient = record {
-            some = omega (arith, window_fits, filling_fits);
-            room = omega (arith, window_fits, filling_fits, p.room);
-            silent_while = λ x i. p.silent_while x (omega (arith, window_fits, filling_fits));
-          };
-        },
-      )
+      pub window_full : length held - (end - start) ≡ 0 → 0 < length chunk - taken
+          → (taken < length chunk) × Stops R h chunk held taken 0 × (length held ≤ length h + taken)
+      window_full l t =
+          let i = w.within in
+          let s = w.size in
+          let z : start ≡ 0 = omega (arith, window_fits) in
+          let all : take end held ≡ held = take_all end held (omega arith) in
+          (omega arith, rw (z, all) at window, omega (arith, window_fewer))
 
       -- some wait
       pub window_waits : (end - start ≡ 0 → ⊥) → start < length (take end held)
@@ -256,63 +218,29 @@ module _ (R : Rules) (L : Laws R) (chunk : List ℕ) (most : ℕ) where
           (window_fits, omega arith, simp length-take (omega arith))
 
       -- and it has taken them
-      module _ (held' : List ℕ) (m r : ℕ) (t : taken + m ≤ length chunk)
-          (is : drop r (take (r + (end - start) + length (take (taken + m - taken) (drop taken chunk))) held')
-          ≡ drop start (take end held) ++ take (taken + m - taken) (drop taken chunk)) where
-        pub window_joined : drop r (take (r + (end - start) + m) held') ≡ drop start (take end held) ++ take m (drop taken chunk)
-        window_joined =
-            let i : taken + m - taken ≡ m = omega arith in
-            ap (λ (n : ℕ). drop r (take (r + (end - start) + n) held')) (sym (part_length taken m t)) ∙ is
-            ∙ ap (λ (n : ℕ). drop start (take end held) ++ take n (drop taken chunk)) i
-
-        pub window_more : (k : ℕ) → Patient R (drop start (take end held)) k → m ≤ k → r + (end - start) + m ≤ most → length held' ≡ length held
-            → Filling R h chunk most held' (taken + m) r (r + (end - start) + m)
-        window_more k p l fits same =
-            let n = w.size in
-            let q = length h + taken - (end - start) in
-            let z : length h + (taken + m) - (r + (end - start) + m - r) ≡ q = omega (arith, window_fewer) in
-            record {
-              taken_within = t;
-              ordered = omega arith;
-              within = fits;
-              size = omega arith;
-              reached =
-                  stops_take R L h chunk (take end held) (take (r + (end - start) + m) held') taken start k m r window p l t window_joined;
-              fewer = omega (arith, window_fewer);
-              last =
-                  rw z
-                  (window_joined ∙ ap (λ (u : List ℕ). u ++ take m (drop taken chunk)) window_last
-                  ∙ sym (drop-append-le q (h ++ take taken chunk) (take m (drop taken chunk)) (simp (length-append, length-take) (omega (arith, w.taken_within))))
-                  ∙ ap (drop q) (append_assoc h (take taken chunk) (take m (drop taken chunk)) ∙ ap (λ (u : List ℕ). h ++ u) (sym (take-add taken m chunk))));
-            }
-
--- ---- before the first bytes of the chunk came behind the held ones, the buffer was `old`
-
-module _ (R : Rules) (chunk old mid : List ℕ) (count there m : ℕ) (e : there ≡ min count (length old)) (same : length mid ≡ length old)
-    (is : take (there + m) mid ≡ take there old ++ take m chunk) where
-  pub before_kept : take there mid ≡ take there old
-  before_kept =
-      sym (take-take there (there + m) mid (omega arith)) ∙ ap (take there) is
-      ∙ take_at (take there old) (take m chunk) there (length-take-le there old (omega (arith, e)))
-
-  pub before_behind : take (there + m) mid ≡ take there mid ++ take m chunk
-  before_behind = is ∙ ap (λ (u : List ℕ). u ++ take m chunk) (sym before_kept)
-
-  before_held : take there mid ≡ take count old
-  before_held = before_kept ∙ take_least count there old e
-
-  pub before_filled : (held : List ℕ) (v : Stop) → Filled R (take there mid) chunk mid held v → Filled R (take count old) chunk old held v
-  before_filled held (Done v end n) f = (f.0 ∙ same, f.1, f.2, rw before_held at f.3)
-  before_filled held (Passed n) f = (f.0 ∙ same, f.1, rw before_held at f.2)
-  before_filled held (Full at end n) f = (f.0 ∙ same, f.1, f.2, rw before_held at f.3, rw before_held at f.4)
-
-  -- and what lies behind
-  pub before_stays : (held : List ℕ) → Reached R (take there mid) chunk (take there mid ++ take m chunk) m
-      → drop (there + m) mid ≡ drop (there + m) old
-      → drop (there + (fed R (take there mid) chunk).taken) held ≡ drop (there + (fed R (take there mid) chunk).taken) mid
-      → drop (count + (fed R (take count old) chunk).taken) held ≡ drop (count + (fed R (take count old) chunk).taken) old
-  before_stays held r s k =
-      let t = (fed R (take there mid) chunk).taken in
-      let n = ap (λ (x : CallResult). x.taken) r.same in
-      let c : (fed R (take count old) chunk).taken ≡ t = ap (λ (u : List ℕ). (fed R u chunk).taken) (sym before_held) in
-      rw c (stays_more (there + t) (count + t) held mid (omega (arith, e)) k ∙ stays_more (there + m) (count + t) mid old (omega (arith, e, n)) s)
+      pub window_more : (held' : List ℕ) (k m r : ℕ) → Patient R (drop start (take end held)) k → m ≤ k → taken + m ≤ length chunk → r + (end - start) + m ≤ most
+          → length held' ≡ length held
+          → drop r (take (r + (end - start) + length (take (taken + m - taken) (drop taken chunk))) held')
+          ≡ drop start (take end held) ++ take (taken + m - taken) (drop taken chunk)
+          → Filling R h chunk most held' (taken + m) r (r + (end - start) + m)
+      window_more held' k m r p l t fits same is =
+          let n = w.size in
+          let i : taken + m - taken ≡ m = omega arith in
+          let q = length h + taken - (end - start) in
+          let z : length h + (taken + m) - (r + (end - start) + m - r) ≡ q = omega (arith, window_fewer) in
+          let j : drop r (take (r + (end - start) + m) held') ≡ drop start (take end held) ++ take m (drop taken chunk) =
+          ap (λ (n : ℕ). drop r (take (r + (end - start) + n) held')) (sym (part_length taken m t)) ∙ is
+          ∙ ap (λ (n : ℕ). drop start (take end held) ++ take n (drop taken chunk)) i in
+          record {
+            taken_within = t;
+            ordered = omega arith;
+            within = fits;
+            size = omega arith;
+            reached = stops_take R L h chunk (take end held) (take (r + (end - start) + m) held') taken start k m r window p l t j;
+            fewer = omega (arith, window_fewer);
+            last =
+                rw z
+                (j ∙ ap (λ (u : List ℕ). u ++ take m (drop taken chunk)) window_last
+                ∙ sym (drop-append-le q (h ++ take taken chunk) (take m (drop taken chunk)) (simp (length-append, length-take) (omega (arith, w.taken_within))))
+                ∙ ap (drop q) (append_assoc h (take taken chunk) (take m (drop taken chunk)) ∙ ap (λ (u : List ℕ). h ++ u) (sym (take-add taken m chunk))));
+          }

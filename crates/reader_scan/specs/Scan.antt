@@ -1,7 +1,7 @@
 -- What the parts of the reader find, over any packet rules R: where the first event stands, and how a feeding call ends.
-use Rattle.std.specs.Prelude.{◌≡◌, List, [], ℕ, ◌+◌, ◌-◌, ◌≤◌, ◌<◌, length, take, drop}
+use Rattle.std.specs.Prelude.{◌≡◌, List, [], ℕ, ◌+◌, ◌≤◌, ◌<◌, length, take, drop}
 use Rattle.std.proofs.Math.Option.{Option, none, some}
-use Rattle.reading.specs.Rules.{Rules, is_waiting}
+use Rattle.reading.specs.Rules.{Rules}
 use Rattle.reading.specs.Reading.{Event, packet, bad_checksum, Mode, open'}
 use Rattle.reading.specs.Calls.{event, silent, first, CallResult, fed}
 use Rattle.reading.specs.Progress.{Reached, Patient}
@@ -33,7 +33,7 @@ Seen R m s from (Waiting at) = Waits R m s from at
 abbrev pub Wants : Rules → List ℕ → Scanned → ℕ → Type 0
 Wants R s (Packet at n) k = k ≡ 0
 Wants R s (BadChecksum at id) k = k ≡ 0
-Wants R s (Waiting at) k = at < length s → (R.verdict (drop at s) ≡ is_waiting) × (R.lacks (drop at s) ≡ k)
+Wants R s (Waiting at) k = at < length s → Patient R (drop at s) k
 
 -- where reading goes on
 abbrev pub on_from : Scanned → ℕ
@@ -62,11 +62,11 @@ pub record Ends (R : Rules) (h c s : List ℕ) (n : ℕ) (v : Scanned) : Type 0 
   pub short : size_seen v ≤ R.longest
   pub fed_is : fed R h c ≡ result_of s n v
 
--- the bytes t wait for k bytes more, which the chunk has
-pub record Spills (R : Rules) (h c t : List ℕ) (n k : ℕ) : Type 0 where
-  pub reached : Reached R h c t n
-  pub within : n + k ≤ length c
-  pub patient : Patient R t k
+-- where the held bytes wait: the window begins at offset `at` of the bytes s
+pub record Stops (R : Rules) (h c s : List ℕ) (n at : ℕ) : Type 0 where
+  pub fits : at ≤ length s
+  pub reached : Reached R h c (drop at s) n
+  pub waits : first R open' (drop at s) ≡ silent (drop at s)
 
 -- What a feeding call with the chunk has come to on a reader that holds h, n bytes of the chunk taken. The buffer was `old` and is
 -- `held` then, as long as before.
@@ -77,8 +77,6 @@ Filled R h chunk old held (Done v end n) =
     (length held ≡ length old) × (n ≤ length chunk) × (end ≤ length held) × Ends R h chunk (take end held) n v
 -- The held bytes have all been passed. All bytes of the buffer are free.
 Filled R h chunk old held (Passed n) = (length held ≡ length old) × (n ≤ length chunk) × Reached R h chunk [] n
--- Those from `at` up to `end` wait, and with the bytes that come next they are one more than the buffer has room for. All were held
--- or taken.
-Filled R h chunk old held (Full at end n) =
-    (length held ≡ length old) × (at ≤ end) × (end ≤ length held) × (end - at ≤ length h + n)
-    × Spills R h chunk (drop at (take end held)) n (length held + 1 - (end - at))
+-- They fill the buffer, of which no byte is free, and the next byte of the chunk decides. All were held or taken.
+Filled R h chunk old held (Full n) =
+    (length held ≡ length old) × (n < length chunk) × Stops R h chunk held n 0 × (length held ≤ length h + n)

@@ -1,12 +1,10 @@
 // Looking for the first event in held bytes and in a chunk, in place.
 #![tactic(auto)]
 
-ghost use Rattle.std.specs.Prelude.{◌≡◌, ◌&&◌, [], ◌++◌, ◌⊎◌, ◌+◌, ◌-◌, ◌≤◌, leb, ltb, length, take, drop};
+ghost use Rattle.std.specs.Prelude.{◌≡◌, ◌&&◌, [], ◌++◌, ◌+◌, ◌-◌, ◌≤◌, leb, ltb, length, take, drop};
 ghost use Rattle.reading.specs.Reading.{open', closed};
 ghost use Rattle.reading.specs.Calls.{fed};
 ghost use Rattle.packet_protocols.specs.Protocols.{shape_of, rules_of};
-ghost use Rattle.reader_scan.specs.declared.Stop.TheVariants.{Done};
-ghost use Rattle.reader_scan.specs.declared.Scanned.TheVariants.{Waiting};
 ghost use Rattle.reader_scan.specs.Scan.{Seen, Wants, Ends, Filled};
 
 use buffers::{greatest, least};
@@ -36,7 +34,7 @@ pub struct Window {
 }
 
 // How held bytes stop, so many bytes of the chunk taken: with what was seen of them up to their end; or all of them have been
-// passed; or those from an offset on wait, and for what the chunk has for them their buffer is too short.
+// passed; or they wait and fill their buffer.
 #[derive(Clone, Copy)]
 pub enum Stop {
     Done {
@@ -48,8 +46,6 @@ pub enum Stop {
         taken: usize,
     },
     Full {
-        at: usize,
-        end: usize,
         taken: usize,
     },
 }
@@ -173,53 +169,20 @@ fn back_in_chunk(protocol: Protocol, waiting: usize, taken: usize) -> bool
     waiting <= taken && waiting < packet_protocols::shortest(protocol)
 }
 
-// Whether bytes that wait and have a length field, as so many have, go on waiting with `more` bytes, which are all that is left.
-fn still_waits(protocol: Protocol, waiting: usize, lacks: usize, more: usize, left: usize) -> bool
-    ensures { result ≡ (leb (shape_of protocol).shortest waiting && (leb left more && ltb more lacks)) }
-{
-    packet_protocols::shortest(protocol) <= waiting && (left <= more && more < lacks)
-}
-
-// All of the chunk is taken, and the window waits.
-fn waited(at: usize, end: usize, taken: usize) -> Stop
-    ensures { result ≡ Done (Waiting at) end taken }
-{
-    Stop::Done {
-        seen: Scanned::Waiting { at },
-        end,
-        taken,
-    }
-}
-
-// Behind held bytes that are fewer than the shortest packet has, and so decide nothing, come as many of the chunk's as they lack. The
-// answer is how many.
-fn take_few(protocol: Protocol, held: &mut [u8], end: usize, chunk: &[u8]) -> usize
-    requires { end ≤ length held.old }
-    ensures { (result ≤ length chunk.now) × (end + result ≤ length held.old) × ((result ≡ 0) ⊎ (end + result ≤ (shape_of protocol).shortest))
-        × (take (end + result) held.new ≡ take end held.old ++ take result chunk.now)
-        × (drop (end + result) held.new ≡ drop (end + result) held.old) }
-{
-    let few = packet_protocols::shortest(protocol);
-    if few <= end {
-        return 0;
-    }
-    let room = held.len() - end;
-    let more = least(least(few - end, room), chunk.len());
-    buffers::place(held, end, &chunk[..more]);
-    more
-}
-
-// The rest of `fill`, where the first bytes of the chunk stand behind those that were held already.
-fn fill_from(protocol: Protocol, held: &mut [u8], count: usize, first: usize, chunk: &[u8]) -> Stop
-    requires { (first ≤ length chunk.now) × (count + first ≤ length held.old) × ((first ≡ 0) ⊎ (count + first ≤ (shape_of protocol).shortest))
-        × (take (count + first) held.old ≡ take count held.old ++ take first chunk.now) }
+// The held bytes, and where they wait as many of the chunk's as they wait for, as far as there is room. Once those that were held
+// are passed, the few that wait go back to the chunk, and reading goes on there. What lies behind the bytes that were held and those
+// that the whole call takes stays. [K2 K4]
+pub fn fill(protocol: Protocol, held: &mut [u8], count: usize, chunk: &[u8]) -> Stop
     ensures filled { Filled (rules_of protocol) (take count held.old) chunk.now held.old held.new result }
     ensures held_unchanged { drop (count + (fed (rules_of protocol) (take count held.old) chunk.now).taken) held.new
         ≡ drop (count + (fed (rules_of protocol) (take count held.old) chunk.now).taken) held.old }
 {
-    let mut end = count + first;
+    let mut end = least(count, held.len());
+    if end == 0 {
+        return Stop::Passed { taken: 0 };
+    }
     let mut at = 0;
-    let mut taken = first;
+    let mut taken = 0;
     loop {
         let live = scan(protocol, &held[..end], at);
         let seen = live.seen;
@@ -236,35 +199,13 @@ fn fill_from(protocol: Protocol, held: &mut [u8], count: usize, first: usize, ch
                 taken: taken - waiting,
             };
         }
-        let more = least(live.lacks, left);
-        if held.len() - waiting < more {
-            return Stop::Full {
-                at: start,
-                end,
-                taken,
-            };
+        let room = held.len() - waiting;
+        if room == 0 {
+            return Stop::Full { taken };
         }
+        let more = least(least(live.lacks, room), left);
         at = append(held, start, end, &chunk[taken..taken + more]);
         end = at + waiting + more;
         taken += more;
-        if still_waits(protocol, waiting, live.lacks, more, left) {
-            return waited(at, end, taken);
-        }
     }
-}
-
-// The held bytes, and where they wait as many of the chunk's as they wait for, as far as there is room. Once those that were held
-// are passed, the few that wait go back to the chunk, and reading goes on there. What lies behind the bytes that were held and those
-// that the whole call takes stays. [K2 K4]
-pub fn fill(protocol: Protocol, held: &mut [u8], count: usize, chunk: &[u8]) -> Stop
-    ensures filled { Filled (rules_of protocol) (take count held.old) chunk.now held.old held.new result }
-    ensures held_unchanged { drop (count + (fed (rules_of protocol) (take count held.old) chunk.now).taken) held.new
-        ≡ drop (count + (fed (rules_of protocol) (take count held.old) chunk.now).taken) held.old }
-{
-    let there = least(count, held.len());
-    if there == 0 {
-        return Stop::Passed { taken: 0 };
-    }
-    let first = take_few(protocol, held, there, chunk);
-    fill_from(protocol, held, there, first, chunk)
 }

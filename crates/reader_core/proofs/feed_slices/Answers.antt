@@ -1,24 +1,24 @@
 use borrow.Author.Rules.{rules}
-use mathlib.Core.List.{List, ◌++◌}
-use lib.ListN.{length, take, drop, length-append, length-drop, length-take}
-use lib.Seq.{length-take-le}
+use mathlib.Core.List.{List, [], ◌∷◌, ◌++◌}
+use lib.ListN.{length, take, drop, get_or, length-append, length-drop, length-take}
 use Rattle.reading.specs.Calls.{CallResult, fed, feed, call}
 use Rattle.reading.proofs.Progress.{reached_start}
 use Rattle.packet_protocols.specs.Protocols.{rules_of}
 use Rattle.packet_protocols.proofs.Shapes.{laws, some_longest}
+use Rattle.reader_core.proofs.Answers.{some_room}
 use Rattle.reader_core.specs.declared.Step.{Step}
 use Rattle.reader_core.specs.Results.{most_held}
 use Rattle.reader_core.specs.Delivered.{Delivered, Stayed, Spared}
 use Rattle.reader_core.proofs.Spared.{call_shorter, reached_taken, filled_stays, none_stays, spared_full, spared}
 use Rattle.reader_scan.specs.declared.Stop.TheVariants.{Full}
 use Rattle.reader_scan.specs.Scan.{Filled}
-use Rattle.packet_rules.specs.Answers.{answer_by, answer_for}
+use Rattle.packet_rules.specs.Answers.{answer_for}
 use Rattle.reading.specs.Rules.{Verdict}
 use Rattle.packet_rules.proofs.Answers.{was_packet, was_bad}
-use Rattle.reader_core.proofs.Rounds.{filled_rest, room_for, ends_on, ends_fed, passed_fed, filled_done, filled_passed, filled_full}
+use Rattle.reader_core.proofs.Rounds.{rest_here, filled_rest, room_for, ends_on, ends_fed, passed_fed, filled_done, filled_passed, filled_full}
 use Rattle.reader_core.proofs.Rounds.{full_packet, full_bad, full_other}
 use mathlib.Core.Path.{◌≡◌, refl, sym, ap, ◌∙◌}
-use Prim.Native.Nat.{ℕ, ◌+◌, ◌-◌, ◌≤◌, ◌<◌}
+use Prim.Native.Nat.{ℕ, ◌+◌, ◌≤◌, ◌<◌}
 use native.Mathlib.Omega.{arith}
 use Rattle.reader_core.proofs.feed_slices.Goals as goal
 use Rattle.reader_core.proofs.feed_slices.Goals.{After-fill, In-Full}
@@ -103,112 +103,51 @@ returns-in-Passed c =
     let d = filled_passed c.args.protocol _ _ _ _ _ (filled (goal.at.returns-in-Passed c).After-fill) _ c.in-Passed.is in
     let q = c.read_chunk.ensures in let both = to_spared (goal.at.returns-in-Passed c).After-fill _ _ _ _ (passed_fed c.args.protocol _ _ _ _ _ c.loop-seen.invariant.3 d.2) q.delivered q.stayed in record { delivered = both.0; spared = both.1 }
 
--- with more bytes those from `start` on are one more than can be held
-module _ (g : In-Full) where
-  abbrev lacking : ℕ
-  lacking = length g.fill.new.held + 1 - (g.in-Full.stop - g.in-Full.start)
+-- the held bytes fill their buffer
+module _ (g : In-Full) (same' : length g.fill.new.held ≡ most_held g.args.protocol)
+    (full : Filled (rules_of g.args.protocol) (take g.loop-seen.n g.loop-seen.held) (drop g.loop-seen.taken g.args.chunk.now) g.loop-seen.held g.fill.new.held (Full g.in-Full.more)) where
+  here : g.loop-seen.taken + g.in-Full.more < length g.args.chunk.now
+  here = rest_here g.args.chunk.now g.loop-seen.taken g.in-Full.more full.1
 
-  abbrev next : ℕ
-  next = g.loop-seen.taken + g.in-Full.more
+  size : (rules_of g.args.protocol).longest ≡ length g.fill.new.held + 1
+  size = omega (arith, same', some_longest g.args.protocol)
 
-  abbrev window : List ℕ
-  window = drop g.in-Full.start (take g.in-Full.stop g.fill.new.held)
+  -- more bytes were held and taken than can be held
+  beyond : most_held g.args.protocol < g.args.count + (g.loop-seen.taken + g.in-Full.more + 1)
+  beyond = omega (arith, full.3, same', g.loop-seen.invariant.4, length-take g.loop-seen.n g.loop-seen.held)
 
-  abbrev more : List ℕ
-  more = window ++ take lacking (drop next g.args.chunk.now)
-
-  -- as they are lent
-  lent : window ++ take (next + lacking - next) (drop next g.args.chunk.now) ≡ more
-  lent = let z : next + lacking - next ≡ lacking = omega arith in ap (λ (n : ℕ). window ++ take n (drop next g.args.chunk.now)) z
-
-  module _ (same' : length g.fill.new.held ≡ most_held g.args.protocol)
-      (full : Filled (rules_of g.args.protocol) (take g.loop-seen.n g.loop-seen.held) (drop g.loop-seen.taken g.args.chunk.now) g.loop-seen.held g.fill.new.held (Full g.in-Full.start g.in-Full.stop g.in-Full.more)) where
-    here : next + lacking ≤ length g.args.chunk.now
-    here = omega (arith, full.4.within, length-drop g.loop-seen.taken g.args.chunk.now, g.loop-seen.invariant.3.within)
-
-    window_length : length window ≡ g.in-Full.stop - g.in-Full.start
-    window_length = length-drop g.in-Full.start (take g.in-Full.stop g.fill.new.held) ∙ ap (λ (n : ℕ). n - g.in-Full.start) (length-take-le g.in-Full.stop g.fill.new.held full.2)
-
-    lent_length : length (take (next + lacking - next) (drop next g.args.chunk.now)) ≡ lacking
-    lent_length =
-        let z : next + lacking - next ≡ lacking = omega arith in
-        ap (λ (n : ℕ). length (take n (drop next g.args.chunk.now))) z ∙ length-take-le lacking (drop next g.args.chunk.now) (simp length-drop (omega (arith, here)))
-
-    room : length g.fill.new.held + 1 ≡ (rules_of g.args.protocol).longest
-    room = omega (arith, same', some_longest g.args.protocol)
-
-    size : (rules_of g.args.protocol).longest ≡ length window + lacking
-    size = omega (arith, room, window_length, full.2)
-
-    more_length : length more ≡ (rules_of g.args.protocol).longest
-    more_length =
-        length-append window (take lacking (drop next g.args.chunk.now))
-        ∙ omega (arith, length-take-le lacking (drop next g.args.chunk.now) (simp length-drop (omega (arith, here))), size)
-
-    -- more bytes were held and taken than can be held
-    beyond : most_held g.args.protocol < g.args.count + (next + lacking)
-    beyond = omega (arith, full.2, full.3, same', g.loop-seen.invariant.4, length-take g.loop-seen.n g.loop-seen.held)
-
-    to_spared_full : (step : Step) (held bytes : List ℕ) → step.taken ≡ next + lacking → held ≡ drop 1 more
-        → Spared (most_held g.args.protocol) g.args.count step g.args.held.now g.args.packet.now held bytes
-    to_spared_full step held bytes e i =
-        let l : length held ≡ most_held g.args.protocol = ap length i ∙ length-drop 1 more ∙ omega (arith, more_length) in
-        spared_full (most_held g.args.protocol) g.args.count step _ _ held bytes l g.requires.1 (omega (arith, beyond))
+  to_spared_full : (step : Step) (held bytes : List ℕ) (x : ℕ) → step.taken ≡ g.loop-seen.taken + g.in-Full.more + 1 → held ≡ drop 1 (g.fill.new.held ++ x ∷ [])
+      → Spared (most_held g.args.protocol) g.args.count step g.args.held.now g.args.packet.now held bytes
+  to_spared_full step held bytes x e i =
+      let l : length held ≡ most_held g.args.protocol = ap length i ∙ length-drop 1 (g.fill.new.held ++ x ∷ []) ∙ omega (arith, length-append g.fill.new.held (x ∷ []), same') in
+      spared_full (most_held g.args.protocol) g.args.count step _ _ held bytes l g.requires.1 (omega (arith, beyond))
 
 pub overflow_add-taken-in-Full : goal.overflow_add-taken-in-Full
 overflow_add-taken-in-Full c =
     let g = (goal.at.overflow_add-taken-in-Full c).In-Full in
     let same' = same (goal.at.overflow_add-taken-in-Full c).After-fill in
-    let full = filled_full c.args.protocol _ _ _ _ _ (filled (goal.at.overflow_add-taken-in-Full c).After-fill) _ _ _ c.in-Full.is in
-    let here = here g same' full in
-    omega (arith, here)
+    let full = filled_full c.args.protocol _ _ _ _ _ (filled (goal.at.overflow_add-taken-in-Full c).After-fill) _ c.in-Full.is in
+    omega (arith, here g same' full)
 
-pub overflow_sub-taken : goal.overflow_sub-taken
-overflow_sub-taken c =
-    let g = (goal.at.overflow_sub-taken c).In-Full in
-    let same' = same (goal.at.overflow_sub-taken c).After-fill in
-    let full = filled_full c.args.protocol _ _ _ _ _ (filled (goal.at.overflow_sub-taken c).After-fill) _ _ _ c.in-Full.is in
-    full.1
-
-pub overflow_sub-taken-in-loop-seen : goal.overflow_sub-taken-in-loop-seen
-overflow_sub-taken-in-loop-seen c =
-    let g = (goal.at.overflow_sub-taken-in-loop-seen c).In-Full in
-    let same' = same (goal.at.overflow_sub-taken-in-loop-seen c).After-fill in
-    let full = filled_full c.args.protocol _ _ _ _ _ (filled (goal.at.overflow_sub-taken-in-loop-seen c).After-fill) _ _ _ c.in-Full.is in
-    omega (arith, full.2)
-
-pub overflow_add-taken-in-loop-seen-2 : goal.overflow_add-taken-in-loop-seen-2
-overflow_add-taken-in-loop-seen-2 c =
-    let g = (goal.at.overflow_add-taken-in-loop-seen-2 c).In-Full in
-    let same' = same (goal.at.overflow_add-taken-in-loop-seen-2 c).After-fill in
-    let full = filled_full c.args.protocol _ _ _ _ _ (filled (goal.at.overflow_add-taken-in-loop-seen-2 c).After-fill) _ _ _ c.in-Full.is in
-    let here = here g same' full in
-    omega (arith, here)
-
-pub slice_bounds-judge_longest-end : goal.slice_bounds-judge_longest-end
-slice_bounds-judge_longest-end c =
-    let g = (goal.at.slice_bounds-judge_longest-end c).In-Full in
-    let same' = same (goal.at.slice_bounds-judge_longest-end c).After-fill in
-    let full = filled_full c.args.protocol _ _ _ _ _ (filled (goal.at.slice_bounds-judge_longest-end c).After-fill) _ _ _ c.in-Full.is in
-    let here = here g same' full in
-    here
+pub overflow_add-taken-in-loop-seen : goal.overflow_add-taken-in-loop-seen
+overflow_add-taken-in-loop-seen c =
+    let g = (goal.at.overflow_add-taken-in-loop-seen c).In-Full in
+    let same' = same (goal.at.overflow_add-taken-in-loop-seen c).After-fill in
+    let full = filled_full c.args.protocol _ _ _ _ _ (filled (goal.at.overflow_add-taken-in-loop-seen c).After-fill) _ c.in-Full.is in
+    omega (arith, here g same' full)
 
 pub judge_longest-requires : goal.judge_longest-requires
 judge_longest-requires c =
     let g = (goal.at.judge_longest-requires c).In-Full in
     let same' = same (goal.at.judge_longest-requires c).After-fill in
-    let full = filled_full c.args.protocol _ _ _ _ _ (filled (goal.at.judge_longest-requires c).After-fill) _ _ _ c.in-Full.is in
-    let window_length = window_length g same' full in
-    let lent_length = lent_length g same' full in
-    let room = room g same' full in
-    let size = size g same' full in
-    (full.1, full.2, omega (arith, lent_length, c.loop-seen.invariant.2, size, window_length), c.loop-seen.invariant.2 ∙ sym room)
+    let full = filled_full c.args.protocol _ _ _ _ _ (filled (goal.at.judge_longest-requires c).After-fill) _ c.in-Full.is in
+    (omega (arith, same', some_room c.args.protocol), c.loop-seen.invariant.2 ∙ size g same' full)
 
 pub shape_of-held-in-Packet : goal.shape_of-held-in-Packet
 shape_of-held-in-Packet c =
     let g = (goal.at.shape_of-held-in-Packet c).In-Full in
     let same' = same (goal.at.shape_of-held-in-Packet c).After-fill in
-    let full = filled_full c.args.protocol _ _ _ _ _ (filled (goal.at.shape_of-held-in-Packet c).After-fill) _ _ _ c.in-Full.is in
+    let full = filled_full c.args.protocol _ _ _ _ _ (filled (goal.at.shape_of-held-in-Packet c).After-fill) _ c.in-Full.is in
     c.judge_longest.auto.held ∙ same' ∙ sym c.requires.1
 
 pub shape_of-packet-in-Packet : goal.shape_of-packet-in-Packet
@@ -218,60 +157,49 @@ pub returns-in-Packet : goal.returns-in-Packet
 returns-in-Packet c =
     let g = (goal.at.returns-in-Packet c).In-Full in
     let same' = same (goal.at.returns-in-Packet c).After-fill in
-    let full = filled_full c.args.protocol _ _ _ _ _ (filled (goal.at.returns-in-Packet c).After-fill) _ _ _ c.in-Full.is in
-    let size = size g same' full in
-    let answer = c.judge_longest.ensures.value ∙ ap (answer_by (rules_of c.args.protocol)) (lent g) in
-    let bytes_are = c.judge_longest.ensures.packet_after.0 ∙ lent g in
-    let held_are = c.judge_longest.ensures.packet_after.1 ∙ ap (drop 1) (lent g) in
-    record {
-      delivered = full_packet c.args.protocol _ _ _ (window g) _ _ _ c.loop-seen.invariant.3 full.4 size _ _ _ _ _
-          (was_packet _ _ _ (sym answer ∙ c.in-Packet.is)) c.stepped.ensures c.id_in-id.ensures bytes_are;
-      spared = to_spared_full g same' full _ _ _ (ap (λ (x : Step). x.taken) c.stepped.ensures) held_are;
+    let full = filled_full c.args.protocol _ _ _ _ _ (filled (goal.at.returns-in-Packet c).After-fill) _ c.in-Full.is in
+    let j = c.judge_longest.ensures in record {
+      delivered = full_packet c.args.protocol _ _ _ c.fill.new.held _ _ c.loop-seen.invariant.3 full.2 full.1 (size g same' full) _ _ _ _ _
+          (was_packet _ _ _ (sym j.value ∙ c.in-Packet.is)) c.stepped.ensures c.id_in-id.ensures j.packet_after.0;
+      spared = to_spared_full g same' full _ _ _ _ (ap (λ (x : Step). x.taken) c.stepped.ensures) j.packet_after.1;
     }
 
 pub returns-in-BadChecksum : goal.returns-in-BadChecksum
 returns-in-BadChecksum c =
     let g = (goal.at.returns-in-BadChecksum c).In-Full in
     let same' = same (goal.at.returns-in-BadChecksum c).After-fill in
-    let full = filled_full c.args.protocol _ _ _ _ _ (filled (goal.at.returns-in-BadChecksum c).After-fill) _ _ _ c.in-Full.is in
-    let room = room g same' full in
-    let size = size g same' full in
-    let answer = c.judge_longest.ensures.value ∙ ap (answer_by (rules_of c.args.protocol)) (lent g) in
-    let held_are = c.judge_longest.ensures.packet_after.1 ∙ ap (drop 1) (lent g) in
-    record {
-      delivered = full_bad c.args.protocol _ _ _ (window g) _ _ _ c.loop-seen.invariant.3 full.4 size _ _ room held_are _ _ _
-          (was_bad _ _ _ (sym answer ∙ c.in-BadChecksum.is)) c.stepped-in-BadChecksum.ensures;
-      spared = to_spared_full g same' full _ _ _ (ap (λ (x : Step). x.taken) c.stepped-in-BadChecksum.ensures) held_are;
+    let full = filled_full c.args.protocol _ _ _ _ _ (filled (goal.at.returns-in-BadChecksum c).After-fill) _ c.in-Full.is in
+    let j = c.judge_longest.ensures in record {
+      delivered = full_bad c.args.protocol _ _ _ c.fill.new.held _ _ c.loop-seen.invariant.3 full.2 full.1 (size g same' full) _ _ _ _ _
+          (was_bad _ _ _ (sym j.value ∙ c.in-BadChecksum.is)) c.stepped-in-BadChecksum.ensures refl j.packet_after.1;
+      spared = to_spared_full g same' full _ _ _ _ (ap (λ (x : Step). x.taken) c.stepped-in-BadChecksum.ensures) j.packet_after.1;
     }
 
 pub loop-seen-smaller : goal.loop-seen-smaller
 loop-seen-smaller c =
     let g = (goal.at.loop-seen-smaller c).In-Full in
     let same' = same (goal.at.loop-seen-smaller c).After-fill in
-    let full = filled_full c.args.protocol _ _ _ _ _ (filled (goal.at.loop-seen-smaller c).After-fill) _ _ _ c.in-Full.is in
-    let here = here g same' full in
-    omega (arith, here, full.4.patient.some)
+    let full = filled_full c.args.protocol _ _ _ _ _ (filled (goal.at.loop-seen-smaller c).After-fill) _ c.in-Full.is in
+    omega (arith, here g same' full)
 
 pub loop-seen-preserved : goal.loop-seen-preserved
 loop-seen-preserved c =
     let g = (goal.at.loop-seen-preserved c).In-Full in
     let same' = same (goal.at.loop-seen-preserved c).After-fill in
-    let full = filled_full c.args.protocol _ _ _ _ _ (filled (goal.at.loop-seen-preserved c).After-fill) _ _ _ c.in-Full.is in
-    let room = room g same' full in
-    let size = size g same' full in
-    let beyond = beyond g same' full in
-    let answer = c.judge_longest.ensures.value ∙ ap (answer_by (rules_of c.args.protocol)) (lent g) in
-    let held_are = c.judge_longest.ensures.packet_after.1 ∙ ap (drop 1) (lent g) in
+    let full = filled_full c.args.protocol _ _ _ _ _ (filled (goal.at.loop-seen-preserved c).After-fill) _ c.in-Full.is in
+    let j = c.judge_longest.ensures in
     let l = c.judge_longest.auto.held ∙ same' in
-    let o = full_other c.args.protocol _ _ _ (window g) _ _ _ c.loop-seen.invariant.3 full.4 size _ _ room held_are
-    (λ n e. c.in_default.not-Packet n (answer ∙ ap (λ (v : Verdict). answer_for v ((rules_of c.args.protocol).lacks (more g))) e))
-    (λ i e. c.in_default.not-BadChecksum i (answer ∙ ap (λ (v : Verdict). answer_for v ((rules_of c.args.protocol).lacks (more g))) e)) in
-    let t = reached_taken (rules_of c.args.protocol) _ _ _ _ o in (
+    let more = c.fill.new.held ++ get_or c.args.chunk.now (c.loop-seen.taken + c.in-Full.more) 0 ∷ [] in
+    let o = full_other c.args.protocol _ _ _ c.fill.new.held _ _ c.loop-seen.invariant.3 full.2 full.1 (size g same' full) _ _
+    (λ n e. c.in_default.not-Packet n (j.value ∙ ap (λ (v : Verdict). answer_for v ((rules_of c.args.protocol).lacks more)) e))
+    (λ i e. c.in_default.not-BadChecksum i (j.value ∙ ap (λ (v : Verdict). answer_for v ((rules_of c.args.protocol).lacks more)) e)) refl j.packet_after.1 in
+    let t = reached_taken (rules_of c.args.protocol) _ _ _ _ o in
+    let b = beyond g same' full in (
       search rules,
       l,
       c.judge_longest.auto.packet ∙ c.loop-seen.invariant.2,
       o,
-      omega (arith, beyond, same'),
-      none_stays (most_held c.args.protocol) (upto (goal.at.loop-seen-preserved c).After-fill) _ _ l c.requires.1 (omega (arith, beyond, t)),
-      λ m. absurd (omega (arith, beyond, t)),
+      omega (arith, b, same'),
+      none_stays (most_held c.args.protocol) (upto (goal.at.loop-seen-preserved c).After-fill) _ _ l c.requires.1 (omega (arith, b, t)),
+      λ m. absurd (omega (arith, b, t)),
     )

@@ -10,7 +10,7 @@ use Rattle.packet_rules.specs.declared.Verdict.{Verdict}
 use Rattle.packet_rules.proofs.Peeks.{Peeked, VerdictIs}
 use Rattle.packet_protocols.specs.Protocols.{shape_of, rules_of}
 use Rattle.packet_protocols.proofs.Shapes.{laws, some_longest}
-use Rattle.reader_scan.proofs.Scans.{scan_packet, scan_bad, scan_nothing, scan_end, scan_waits}
+use Rattle.reader_scan.proofs.Scans.{scan_packet, scan_bad, scan_nothing, scan_end, scan_waits, scan_wants}
 use Rattle.reader_scan.proofs.Peeking.{peek_at, fits_at, none_at, judge_at, nothing_at, start_at}
 use borrow.Author.Rules.{rules}
 use Rattle.reader_scan.proofs.scan.Goals as goal
@@ -46,7 +46,7 @@ returns-in-Waiting c =
     let w = stated (goal.at.returns-in-Waiting c).After-peek-front _ c.in-Waiting.is in
     rw c.wanting-in-Waiting.ensures (
       scan_waits (rules_of c.args.protocol) (laws c.args.protocol) c.args.s.now _ c.next_start-at.result i.0 c.if-s-at.false w.0 i.3,
-      λ _. (w.0, w.1),
+      λ _. scan_wants (rules_of c.args.protocol) (laws c.args.protocol) c.args.s.now _ c.next_start-at.result i.0 c.if-s-at.false w.0 _ w.1,
     )
 
 -- all bytes of a packet are there

@@ -11,7 +11,7 @@ enum { IDS = 256 };
 struct exchange {
     uint8_t instruction;
     const char *name;
-    uint64_t offset, behind; /* its first byte, and the one behind it */
+    uint64_t offset;
     int64_t ended;
     uint8_t answers[IDS];  /* who has not answered yet: NOBODY, or one of the two below it */
     uint32_t address[IDS]; /* what each was asked for */
@@ -70,7 +70,6 @@ static void begin_exchange(const struct protocol *protocol, struct exchange *exc
     exchange->instruction = meaning->code;
     exchange->name = meaning->name != NULL ? meaning->name : "undefined instruction";
     exchange->offset = item->offset;
-    exchange->behind = item->offset + item->length;
     exchange->ended = item->last;
     if (item->id != DXL_BROADCAST_ID) {
         int reads = meaning->code == DXL_INST_READ && meaning->n_fields > 0;
@@ -86,12 +85,21 @@ static void begin_exchange(const struct protocol *protocol, struct exchange *exc
     }
 }
 
-/* The data of a status, by what was asked for: Ping is answered by two registers that lie apart. One with an error has none. */
-static void find_data(const struct protocol *protocol, const struct exchange *exchange, unsigned id, struct meaning *meaning)
+/* Whether a status without data lacks those that were asked for. Only a master is told so; one with an error has none. */
+static int lacks_data(const struct teller *teller, int pings, unsigned id)
 {
+    int failed = !teller->meaning.coded || (teller->meaning.code & 0x7F) != 0;
+    return teller->listener != NULL && !failed && (pings || teller->exchange.count[id] > 0);
+}
+
+/* The data of a status, by what was asked for: Ping is answered by two registers that lie apart. */
+static void find_data(struct teller *teller, unsigned id)
+{
+    const struct exchange *exchange = &teller->exchange;
+    struct meaning *meaning = &teller->meaning;
     size_t n = meaning->n_data;
-    int pings = exchange->instruction == DXL_INST_PING, failed = !meaning->coded || (meaning->code & 0x7F) != 0;
-    if (!is_second(protocol) || (n == 0 && (failed || (!pings && exchange->count[id] == 0))))
+    int pings = exchange->instruction == DXL_INST_PING;
+    if (!is_second(teller->protocol) || (n == 0 && !lacks_data(teller, pings, id)))
         return;
     if (pings && n == DXL_SIZE_MODEL_NUMBER + DXL_SIZE_FIRMWARE_VERSION) {
         add_fields(meaning, -1, DXL_REG_MODEL_NUMBER, DXL_SIZE_MODEL_NUMBER, meaning->data);
@@ -124,7 +132,7 @@ static void pair(struct teller *teller, struct event *event)
         event->asked_name = exchange->name;
         event->delay = event->item->first - exchange->ended;
         exchange->answers[id] = NOBODY;
-        find_data(teller->protocol, exchange, id, &teller->meaning);
+        find_data(teller, id);
     }
 }
 
@@ -152,18 +160,6 @@ static int tell_missing(struct teller *teller, uint64_t offset, int64_t until)
         goes_on = tell(teller, &event);
     }
     return goes_on;
-}
-
-/* Behind an instruction that ends the capture nobody has waited yet. */
-static void end_capture(struct teller *teller)
-{
-    struct totals *totals = teller->totals;
-    if (teller->exchange.behind < totals->bytes) {
-        tell_missing(teller, totals->bytes, totals->last);
-        return;
-    }
-    for (int id = 0; id < IDS && totals->timed; id++)
-        totals->open += teller->exchange.answers[id] == HAS_TO;
 }
 
 static int hear_packet(struct teller *teller, struct event *event)
@@ -236,7 +232,7 @@ int read_events(struct capture *capture, const struct protocol *protocol, int (*
         return say_failure(capture->name, "no memory");
     int good = read_items(capture, protocol, hear_item, teller, &totals->bytes);
     if (good)
-        end_capture(teller);
+        tell_missing(teller, totals->bytes, totals->last);
     free(teller);
     return good;
 }

@@ -24,7 +24,6 @@ struct event {
 
 struct totals {
     uint64_t bytes, packets, bad, noise, missing, errors; /* bytes passed over in noise; statuses with an error or the alert */
-    unsigned open;                                        /* statuses that may come behind the capture's end */
     int timed;
     int64_t first, last;
 };

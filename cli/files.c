@@ -269,7 +269,7 @@ static int read_all(int file, const char *name, int waits, struct mapped *mapped
     if (bytes == NULL)
         return say_failure(name, "no memory");
     if (nobody && n == 0 && waits == 0)
-        return say_failure(name, "a pipe that nobody writes to");
+        return say_failure(name, "not a regular file");
     if (fstat(file, &about) != 0)
         return say_failure(name, strerror(errno));
     *mapped = (struct mapped){bytes, n, about.st_dev, about.st_ino};

@@ -31,8 +31,6 @@ size_t printable(const char *text)
 
 void put_name(FILE *to, const char *name)
 {
-    if (*name == 0)
-        fputs("''", to);
     while (*name != 0) {
         size_t n = printable(name);
         if (n > 0)

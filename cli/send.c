@@ -64,12 +64,18 @@ const char HELP_SEND[] =
 
 /* Each of these takes what a word says; where that is not good, it says why and returns 0. */
 
+/* An empty word stands in quotes. */
+static int say_word(const char *word, const char *why)
+{
+    return say_failure(*word == 0 ? "''" : word, why);
+}
+
 static int take_id(const char *word, uint8_t *id)
 {
     const char *why = parse_id(word, id);
     if (why == NULL && (*id == 253 || *id == 255))
         why = "not an ID: 0 to 252, or 254 for all devices";
-    return why == NULL ? 1 : say_failure(word, why);
+    return why == NULL ? 1 : say_word(word, why);
 }
 
 /* The ID of one device. */
@@ -77,7 +83,7 @@ static int take_device(const char *word, uint8_t *id)
 {
     if (!take_id(word, id))
         return 0;
-    return *id != DXL_BROADCAST_ID ? 1 : say_failure(word, "this is asked of one device: 0 to 252");
+    return *id != DXL_BROADCAST_ID ? 1 : say_word(word, "this is asked of one device: 0 to 252");
 }
 
 static int is_digit(char character)
@@ -96,7 +102,7 @@ static int take_number(const char *word, uint32_t least, uint32_t most, const ch
     const char *fault = parse_number(word, number);
     if (fault == NULL && (*number < least || *number > most))
         fault = why;
-    return fault == NULL ? 1 : say_failure(word, fault);
+    return fault == NULL ? 1 : say_word(word, fault);
 }
 
 static int take_count(const char *word, uint32_t *count)
@@ -115,7 +121,7 @@ static int take_bytes(const char *word, struct place *place)
     char address[16];
     size_t n = strcspn(word, ":");
     if (n >= sizeof address)
-        return say_failure(word, "an address is 0 to 65535");
+        return say_word(word, "an address is 0 to 65535");
     snprintf(address, sizeof address, "%.*s", (int)n, word);
     if (!take_address(address, &place->address))
         return 0;
@@ -123,7 +129,7 @@ static int take_bytes(const char *word, struct place *place)
         return take_count(word + n + 1, &place->count);
     place->reg = register_at(place->address);
     if (place->reg == NULL || place->reg->address != place->address)
-        return say_failure(word, "no register begins there; ADDRESS:COUNT takes any bytes");
+        return say_word(word, "no register begins there; ADDRESS:COUNT takes any bytes");
     place->count = place->reg->size;
     return 1;
 }
@@ -135,7 +141,7 @@ static int take_register(const char *word, struct place *place)
         return take_bytes(word, place);
     place->reg = register_named(word);
     if (place->reg == NULL)
-        return say_failure(word, "no register has this name; 'dxl send --help' lists them");
+        return say_word(word, "no register has this name; 'dxl send --help' lists them");
     place->address = place->reg->address;
     place->count = place->reg->size;
     return 1;
@@ -159,14 +165,14 @@ static int take_value(const char *word, const struct place *place, struct reques
     const char *fault = parse_number(word + minus, &size);
     int64_t value = minus ? -(int64_t)size : (int64_t)size, least, most;
     if (fault != NULL)
-        return say_failure(word, fault);
+        return say_word(word, fault);
     if (place->count != 1 && place->count != 2 && place->count != 4)
-        return say_failure(word, "a value has 1, 2 or 4 bytes");
+        return say_word(word, "a value has 1, 2 or 4 bytes");
     find_range(place, &least, &most);
     snprintf(why, sizeof why, "it does not fit into %u byte%s: %lld to %lld", (unsigned)place->count, place->count == 1 ? "" : "s",
              (long long)least, (long long)most);
     if (value < least || value > most)
-        return say_failure(word, why);
+        return say_word(word, why);
     for (uint32_t i = 0; i < place->count; i++)
         request->params[request->n++] = (uint8_t)((uint64_t)value >> (8 * i));
     return 1;
@@ -235,9 +241,9 @@ static int make_reset(int n, char **words, struct request *request)
         if (strcmp(words[1], whats[i].word) == 0)
             add_byte(request, whats[i].option);
     if (request->n == 0)
-        return say_failure(words[1], "all, but-id or but-id-and-baud is wanted");
+        return say_word(words[1], "all, but-id or but-id-and-baud is wanted");
     if (request->id == DXL_BROADCAST_ID && request->params[0] == 0xFF)
-        return say_failure(words[1], "no device does that for all devices: they would have one ID");
+        return say_word(words[1], "no device does that for all devices: they would have one ID");
     return 1;
 }
 
@@ -250,7 +256,7 @@ static int are_entries(int n, char **words, int each, const char *last)
     if (n % each == 0)
         return 1;
     snprintf(why, sizeof why, "behind it %s is missing", last);
-    return say_failure(words[n - 1], why);
+    return say_word(words[n - 1], why);
 }
 
 /* The ID of an entry; a list has it once. */
@@ -260,7 +266,7 @@ static int take_entry(const char *word, uint8_t seen[256], struct request *reque
     if (!take_device(word, &id))
         return 0;
     if (seen[id]++)
-        return say_failure(word, "this ID stands in the list already");
+        return say_word(word, "this ID stands in the list already");
     add_byte(request, id);
     return 1;
 }
@@ -268,7 +274,7 @@ static int take_entry(const char *word, uint8_t seen[256], struct request *reque
 /* The longest entry has nine bytes; whether a packet has room for all of it, the encoder says. */
 static int has_room(const char *word, const struct request *request)
 {
-    return request->n <= DXL_MAX_BODY ? 1 : say_failure(word, "the list is too long for one packet");
+    return request->n <= DXL_MAX_BODY ? 1 : say_word(word, "the list is too long for one packet");
 }
 
 static int make_sync_read(int n, char **words, struct request *request)
@@ -350,7 +356,7 @@ static int run_request(const struct sender *sender, const char *line, const stru
     if (!sender->make(n, words, &request))
         return usage(sender->command.help);
     if (dxl_encode(request.id, request.instruction, request.params, request.n, packet, sizeof packet, 0) < 0) {
-        say_failure(words[n - 1], "the list is too long for one packet");
+        say_word(words[n - 1], "the list is too long for one packet");
         return usage(sender->command.help);
     }
     if (!begin_master(line, options, &master))
@@ -431,11 +437,11 @@ static int say_unknown(int n, char **words)
 {
     int list = strcmp(words[1], "sync") == 0 || strcmp(words[1], "bulk") == 0;
     if (list && n == 2)
-        say_failure(words[1], "read or write is missing");
+        say_word(words[1], "read or write is missing");
     else if (list)
-        say_failure(words[2], "read or write comes here");
+        say_word(words[2], "read or write comes here");
     else
-        say_failure(words[1], "no such command");
+        say_word(words[1], "no such command");
     return usage(HELP_SEND);
 }
 
@@ -443,7 +449,7 @@ int send_command(const struct options *options, int n, char **words)
 {
     const struct sender *sender = find_sender(n - 1, words + 1);
     if (find_sender(n, words) != NULL) {
-        say_failure(words[0], "the line comes before the command; one of this name is given with ./ before it");
+        say_word(words[0], "the line comes before the command; one of this name is given with ./ before it");
         return usage(HELP_SEND);
     }
     if (sender == NULL)

@@ -293,8 +293,4 @@ void put_totals(FILE *to, const struct totals *totals)
     if (totals->timed)
         put_count(to, totals->missing, "missing status; ", "missing statuses; ");
     put_count(to, totals->noise, "byte of noise", "bytes of noise");
-    if (totals->open > 0) {
-        fputs("; the capture ends before ", to);
-        put_count(to, totals->open, "status", "statuses");
-    }
 }

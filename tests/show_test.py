@@ -344,9 +344,8 @@ class Meaning(Folder):
                 ([READ_POSITION, status(1, 0, b"\1\2")], ["Status: ok; 01 02 (not as many bytes of data as were asked for) [to the Read at 0]"]),
                 ([packet(1, PING), status(1, 0, b"\1")], ["Status: ok; 01 (not as many bytes of data as were asked for) [to the Ping at 0]"]),
                 ([packet(254, PING), status(1, 0, MODEL), status(7, 0, MODEL)], ["Status: ok; model number = 1030, firmware version = 38 [to the Ping at 0]"] * 2),
-                ([packet(254, PING), status(1), status(1)], ["Status: ok (not as many bytes of data as were asked for) [to the Ping at 0]", nothing()]),
-                ([READ_POSITION, status(1, 0x80)],
-                 ["Status: ok, alert (hardware error is not 0) (not as many bytes of data as were asked for) [to the Read at 0]"]),
+                ([packet(254, PING), status(1), status(1)], ["Status: ok [to the Ping at 0]", nothing()]),
+                ([READ_POSITION, status(1, 0x80)], ["Status: ok, alert (hardware error is not 0) [to the Read at 0]"]),
                 ([packet(1, READ, word(132) + word(0)), status(1)], ["Status: ok [to the Read at 0]"]),
                 ([packet(254, PING, b"\1"), status(1)], [nothing()]),
                 ([sync, status(1, 0, b"\0"), status(2, 0x80, b"\1"), status(3, 0, b"\1")],
@@ -425,13 +424,13 @@ class Times(Folder):
         self.assertEqual([each["segment"] for each in self.objects(cut)], [0, 1])
         self.assertEqual(self.words(cut, "--gap", 1501)[0][-6:], "1 Ping")
         self.assertEqual(len(self.words(text, "--gap", 1499)), 2)
-        self.assertEqual(len(self.words(text, "--gap", 1449, "--baud", 1000000)), 2)  # five bytes have taken 50 us
-        self.assertEqual([line[-6:] for line in self.words(text, "--gap=1450", "--baud=1000000")], ["1 Ping"])
+        self.assertEqual(len(self.words(text, "--gap", 1459, "--baud", 1000000)), 2)  # five bytes have taken 50 us
+        self.assertEqual(self.words(text, "--gap=1460", "--baud=1000000")[0][-6:], "1 Ping")
+        self.assertEqual([self.words(text, "--gap", gap, "--baud", 1000000)[0][-6:] == "1 Ping" for gap in (1449, 1450)], [False, True])
 
     # [L14]
     def test_missing(self):
-        """A status that has not come before the next instruction, or before bytes and the end, is a line of its own; without times it is
-        none. Behind an instruction that ends the capture nobody has waited."""
+        """A status that has not come before the next instruction, or before the end, is a line of its own; without times it is none."""
         sync, ping = packet(254, 0x82, word(65) + word(1) + b"\1\2"), packet(3, PING)
         lines = [(0.0, sync), (0.001, status(2, 0, b"\1")), (0.004, ping), (0.009, damaged(status(3, 0, MODEL))),
         (0.02, packet(254, WRITE, at(65, 0, 1))), (0.03, ping)]
@@ -439,12 +438,11 @@ class Times(Folder):
         places = [sum(len(data) for _, data in lines[:i]) for i in range(len(lines))]
         self.assertEqual([line for line in self.timed(text) if line[1][0] == "?"], [
             ("0.004000", "? ID 1 no status to the Sync Read at 0 in 4.000 ms"),
-            ("0.020000", f"? ID 3 no status to the Ping at {places[2]} in 16.000 ms; the bad checksum at {places[3]} may have been it")])
+            ("0.020000", f"? ID 3 no status to the Ping at {places[2]} in 16.000 ms; the bad checksum at {places[3]} may have been it"),
+            ("0.030000", f"? ID 3 no status to the Ping at {places[5]} in 0.000 ms")])
         self.assertIn(("0.050000", f"? ID 3 no status to the Ping at {places[5]} in 20.000 ms"), self.timed(text + "0.05 00\n"))
         total = run("show", self.file("capture", text))[1].splitlines()[-1]
-        self.assertIn("; 2 missing statuses; ", total)
-        self.assertEqual(total.split("; ")[-1], "the capture ends before 1 status")
-        self.assertNotIn("ends", run("show", self.file("capture", text + "0.05 00\n"))[1])
+        self.assertIn("; 3 missing statuses; ", total)
         self.assertNotIn("?", "".join(self.words(b"".join(data for _, data in lines))))
         bad_list = packet(254, 0x92, b"\1" + word(132) + word(4) + b"\2")  # nobody answers that
         self.assertNotIn("?", "".join(self.words(f"0.0 {bad_list.hex(' ')}\n0.5 {ping.hex(' ')}\n", "--id", 1)))

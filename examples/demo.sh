@@ -1,6 +1,6 @@
 #!/bin/sh
-# Starts a board, lets talk.py and dxl talk to it and ends it: demo.sh BOARD DXL
-# It leaves nothing running; if it is killed, the board ends after a minute.
+# Starts a board, lets talk.py talk to it and ends it: demo.sh BOARD [DXL]
+# Where DXL is given, that talks to it too. It leaves nothing running; if it is killed, the board ends after a minute.
 set -eu
 
 # Longer than on a wire: here a scheduler stands between the board and its line.
@@ -26,7 +26,7 @@ clean_up() {
     [ -z "$folder" ] || rm -rf "$folder"
 }
 
-[ $# -eq 2 ] || fail 'usage: demo.sh BOARD DXL'
+[ $# -eq 1 ] || [ $# -eq 2 ] || fail 'usage: demo.sh BOARD'
 for program; do
     [ -x "$program" ] || fail "$program is not there; make demo builds it"
 done
@@ -48,6 +48,6 @@ read -r word path <&3 || fail 'the board has not printed its line'
 
 echo "demo: talking to it on $path"
 python3 "$(dirname "$0")/talk.py" --gap "$gap" --slot "$slot" "$path" || fail 'the talk failed'
-sh "$(dirname "$0")/send.sh" "$2" "$path" || fail 'the talk of dxl failed'
+[ $# -eq 1 ] || sh "$(dirname "$0")/send.sh" "$2" "$path" || fail 'the talk of dxl failed'
 end_board || fail "the board ended with code $?"
 echo 'demo: the board is ended; every reply was as expected'

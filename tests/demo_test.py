@@ -449,6 +449,14 @@ class DemoTest(unittest.TestCase):
         self.assertRegex(output, r"\n\$ dxl send /dev/\S+ read 1 goal-position\nID 1    Status: ok; goal position = 512\n")
         self.assertTrue(output.endswith("demo: the board is ended; every reply was as expected\n"))
 
+    def test_demo_without_dxl(self):
+        code, output, errors = run(*DEMO, BOARD)
+        self.assertEqual((code, errors), (0, "board: ended, as a signal asked\n"))
+        self.assertIn(DAMAGED, output)
+        self.assertIn("each reply as expected", output)
+        self.assertNotIn("dxl", output.replace(BOARD, ""))
+        self.assertTrue(output.endswith("demo: the board is ended; every reply was as expected\n"))
+
     def test_demo_fails_and_leaves_nothing(self):
         with tempfile.TemporaryDirectory() as folder:
             board, number = Path(folder, "board"), Path(folder, "pid")
@@ -461,10 +469,10 @@ class DemoTest(unittest.TestCase):
                 os.kill(int(number.read_text()), 0)
 
     def test_demo_without_a_board(self):
-        for words in [["nothing/there", DXL], [BOARD, "nothing/there"]]:
+        for words in [["nothing/there"], ["nothing/there", DXL], [BOARD, "nothing/there"]]:
             self.assertEqual(run(*DEMO, *words)[::2], (1, "demo: nothing/there is not there; make demo builds it\n"))
         self.assertEqual(run(*DEMO, "/bin/true", DXL)[::2], (1, "demo: the board has not printed its line\n"))
-        self.assertEqual(run(*DEMO, BOARD)[::2], (1, "demo: usage: demo.sh BOARD DXL\n"))
+        self.assertEqual(run(*DEMO)[::2], (1, "demo: usage: demo.sh BOARD\n"))
 
     def test_demo_stops_where_dxl_fails(self):
         code, output, errors = run(*DEMO, BOARD, "/bin/false")

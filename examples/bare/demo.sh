@@ -18,7 +18,7 @@ clean_up() {
     [ -z "$folder" ] || rm -rf "$folder"
 }
 
-[ $# -eq 2 ] || [ $# -eq 3 ] || fail 'usage: demo.sh MACHINE PROGRAM [DXL]'
+[ $# -eq 2 ] || [ $# -eq 3 ] || fail 'usage: demo.sh MACHINE PROGRAM'
 [ -f "$2" ] || fail "$2 is not there; make demo TARGET=NAME builds it"
 command -v qemu-system-arm >/dev/null 2>&1 || fail "Debian's qemu-system-arm is needed"
 command -v python3 >/dev/null 2>&1 || fail 'python3 is needed and is not on the PATH'

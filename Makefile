@@ -88,7 +88,7 @@ lib: $(MADE_LIBS) ## prove the exports and build what C links, archives and a sh
 #- LEAF=small over the small checksum function, for boards with little flash
 #- LEAF=fold over the one without a table, the fastest
 #- TARGET=NAME for another processor, thumbv6m, thumbv7em, rv32imac or i686, under build/lib/NAME
-	@echo 'libraries: $^'
+	@echo 'archives: $(MADE_LIBS)'
 
 # They come with what the compiler was handed for them: the libraries for other processors are made of that (tools/targets/targets.mk).
 ARCHIVES_TOOLS := tools/prove.py tools/join.sh tools/targets/record.py tests/archives.py

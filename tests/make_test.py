@@ -143,7 +143,7 @@ class Commands(unittest.TestCase):
     mkdir -p build/lib build/table && touch build/lib/libmednukals.a build/lib/libmednukals_test.a build/table/capi.bc build/table/capi_other.bc
 }"""}
     STEP = "proving the exports and building the archives"
-    LIBRARIES = f"libraries: build/lib/libmednukals.a build/lib/libmednukals_test.a build/lib/libmednukals.so.{VERSION}\n"
+    ARCHIVES = "archives: build/lib/libmednukals.a build/lib/libmednukals_test.a\n"
 
     def setUp(self):
         room = tempfile.TemporaryDirectory()
@@ -220,18 +220,18 @@ class Commands(unittest.TestCase):
         self.only_stand_ins()
         for tool in self.TOOLS:
             (self.folder / "bin" / tool).unlink()
-        self.assertEqual(self.make("lib", "dxl"), (0, self.LIBRARIES + "the tool: build/c/dxl\n", ""))
+        self.assertEqual(self.make("lib", "dxl"), (0, self.ARCHIVES + "the tool: build/c/dxl\n", ""))
 
     def test_a_line_for_each_step(self):
-        self.assertEqual(self.make("lib"), (0, f"{self.STEP}\n{self.LIBRARIES}", ""))
+        self.assertEqual(self.make("lib"), (0, f"{self.STEP}\n{self.ARCHIVES}", ""))
         self.later("lib")  # a file of the command's name is not what the command makes
-        self.assertEqual(self.make("lib"), (0, self.LIBRARIES, ""))
+        self.assertEqual(self.make("lib"), (0, self.ARCHIVES, ""))
         for change in Path.touch, Path.unlink:
             self.later("crates/capi/src/new", change)
-            self.assertEqual(self.make("lib"), (0, f"{self.STEP}\n{self.LIBRARIES}", ""))
+            self.assertEqual(self.make("lib"), (0, f"{self.STEP}\n{self.ARCHIVES}", ""))
         self.later("crates/capi/out", Path.mkdir)  # what rt keeps of a crate is none of its files
         self.later("crates/capi/out/rlib")
-        self.assertEqual(self.make("lib"), (0, self.LIBRARIES, ""))
+        self.assertEqual(self.make("lib"), (0, self.ARCHIVES, ""))
 
     def test_a_step_fails(self):
         stand_ins(self.folder, {"python3": "echo the goal does not follow; exit 1"})

@@ -44,8 +44,10 @@ files() {
     echo "644 python/mednukals.py $(modules)/mednukals.py"
 }
 
-# In quotes, for a prefix with a space in it.
+# In quotes, for a prefix with a space in it. A program looks for the shared library where it was put.
 describe() {
+    path=
+    [ -n "$target" ] || path=" -Wl,-rpath,\"\${libdir}\""
     cat <<END
 prefix=$prefix
 includedir=\${prefix}/include
@@ -56,7 +58,7 @@ Name: Mednukals
 Description: The bus side of a DYNAMIXEL Protocol 2.0 device${target:+, for $target}
 Version: $version
 Cflags: -I"\${includedir}"
-Libs: -L"\${libdir}" -l$name
+Libs: -L"\${libdir}"$path -l$name
 END
 }
 

@@ -29,6 +29,10 @@ PERCENT = 3
 PATIENCE = 300  # seconds for all counts
 LOOPS = {"dxl_board_feed_parts": "dxl_feed single calls,", "dxl_board_gap_parts": "dxl_gap single calls,"}
 NOT_COMPARED = "refused"
+# Nearly all of these are the checksums of 112 packets, and by where the compiler cuts its functions a board takes up to 0.2 percent
+# more than the loop.
+EVEN = {"worst call", "worst call held"}
+EVEN_PERCENT = 0.5
 MOVES = re.compile(r"(__)?mem(cpy|move|set)(_\w+)?")  # glibc's have the processor in their names
 CALLGRIND = ["valgrind", "--tool=callgrind", "--quiet", "--toggle-collect=counted", "--dump-after=counted", "--skip-plt=no",
              "--demangle=no", "--compress-strings=no", "--compress-pos=no"]
@@ -112,7 +116,7 @@ def no_fewer(counts):
             continue
         if loop not in counts:
             found.append(f"{name}: no count of '{loop}' beside it")
-        elif taken >= counts[loop]:
+        elif taken >= counts[loop] * (1 + EVEN_PERCENT / 100 if line in EVEN else 1):
             found.append(f"{name}: {taken} instructions, and {counts[loop]} by the single calls, memset and memcpy counted in")
     return found
 

@@ -444,8 +444,10 @@ class Counts(unittest.TestCase):
                    **self.board())
         self.fault("dxl_board_feed_parts Write: no count of 'dxl_feed single calls, Write' beside it", **self.board(loop="Write"))
         self.assertEqual(self.counts(**self.board(line="refused", loop="refused"))[0], 0)
-        self.fault("dxl_board_feed_parts worst call: 150 instructions, and 150 by the single calls, memset and memcpy counted in",
-                   **self.board(line="worst call", loop="single calls, worst call"))
+        self.assertEqual(self.counts(**self.board(line="worst call", loop="single calls, worst call"))[0], 0)
+        fewer = COSTS.replace("50\n", "49\n").replace("153", "152")
+        self.fault("dxl_board_feed_parts worst call: 150 instructions, and 149 by the single calls, memset and memcpy counted in",
+                   **self.board(line="worst call", loop="single calls, worst call", second=fewer))
 
     def test_the_counts_are_unusable(self):
         self.fault("a file of callgrind is not as it was when this was written", second=COSTS.replace("153", "154"))

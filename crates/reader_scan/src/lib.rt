@@ -1,13 +1,13 @@
 // Looking for the first event in held bytes and in a chunk, in place.
 #![tactic(auto)]
 
-ghost use Rattle.std.specs.Prelude.{◌≡◌, ◌&&◌, [], ◌++◌, ◌+◌, ◌-◌, ◌≤◌, leb, ltb, length, take, drop};
+ghost use Rattle.std.specs.Prelude.{◌≡◌, ◌&&◌, [], ◌++◌, ◌+◌, ◌-◌, ◌≤◌, leb, ltb, min, length, take, drop};
 ghost use Rattle.reading.specs.Reading.{open', closed};
 ghost use Rattle.reading.specs.Calls.{fed};
 ghost use Rattle.packet_protocols.specs.Protocols.{shape_of, rules_of};
 ghost use Rattle.reader_scan.specs.Scan.{Seen, Wants, Ends, Filled};
 
-use buffers::{greatest, least};
+use buffers::greatest;
 use packet_protocols::Protocol;
 use packet_rules::{Front, Verdict};
 
@@ -60,6 +60,12 @@ fn ending(seen: Scanned, end: usize) -> Window
     ensures { result ≡ record { seen = seen; end = end } }
 {
     Window { seen, end }
+}
+
+pub fn least(a: usize, b: usize) -> usize
+    ensures { result ≡ min a b }
+{
+    buffers::least(a, b)
 }
 
 // The bytes of s from `from` on, offset by offset; those before the next at which a packet may begin say nothing.

@@ -255,11 +255,6 @@ static int take_time(struct capture *capture)
     if (capture->begun && time < capture->line_time)
         return wrong_line(capture, "its time lies before that of the line above");
     capture->line_time = capture->time = time;
-    if (capture->begun && time < capture->last + capture->byte_time) { /* by --baud the line above is not over yet */
-        capture->time = capture->last + capture->byte_time;
-        if (capture->time - time > capture->gap)
-            return wrong_line(capture, "it begins before the bytes above it are over: --baud is too low");
-    }
     capture->begins = 1;
     return 1;
 }

@@ -140,8 +140,6 @@ static int log_write(const struct options *options, int n, char **words)
 {
     (void)options;
     struct captures captures = {.count = (size_t)n - 1, .names = words + 1};
-    if (!names_input_once(n - 1, words + 1))
-        return usage(HELP_WRITE);
     captures.files = calloc(captures.count, sizeof *captures.files);
     captures.lengths = calloc(captures.count, sizeof *captures.lengths);
     if (captures.files == NULL || captures.lengths == NULL) {

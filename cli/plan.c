@@ -230,12 +230,10 @@ static int packets_fit(const struct goals *goals, const uint8_t *plan, size_t n,
 
 static int plan_check(const struct options *options, int n, char **words)
 {
-    (void)options;
+    (void)options, (void)n;
     struct goals goals;
     struct mapped plan;
     struct reason why;
-    if (!names_input_once(n, words))
-        return usage(HELP_CHECK);
     if (!read_goals(words[0], &goals) || !read_plan(words[1], &plan))
         return FAILED;
     int64_t answer = dxl_plan_check(goals.of, IDS, plan.bytes, plan.count);

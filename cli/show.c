@@ -54,8 +54,7 @@ const char HELP_SHOW[] =
     "                   The last line counts the whole capture, also with --errors and --id\n"
     "  --protocol P     2 (if not given), 1 or mercury\n"
     "  --gap N          with times, a silence of more than N microseconds ends a segment (1500)\n"
-    "  --baud N         with times, a byte takes ten bits at N bits per second; a line\n"
-    "                   that begins before those above are over is moved behind them, by a gap at the most\n"
+    "  --baud N         with times, a byte takes ten bits at N bits per second\n"
     "  --raw            take the file as raw bytes, also where it looks like text\n"
     "\n"
     "It ends with 0 where all was read and printed, 2 where it does not know the words, and 3 where a file cannot be read or its text\n"
@@ -146,8 +145,6 @@ static int show_file(const struct options *options, const char *name)
 int show_command(const struct options *options, int n, char **words)
 {
     int status = DONE;
-    if (!names_input_once(n, words))
-        return usage(HELP_SHOW);
     listen_to_ends();
     for (int i = 0; i < n; i++) {
         if (n > 1 && !options->json) {

@@ -28,14 +28,6 @@ static int asks_for_help(const char *word)
     return strcmp(word, "--help") == 0 || strcmp(word, "-h") == 0;
 }
 
-int names_input_once(int n, char **words)
-{
-    int times = 0;
-    for (int i = 0; i < n; i++)
-        times += strcmp(words[i], "-") == 0;
-    return times < 2 || say_failure("-", "standard input can be read only once");
-}
-
 /* ---- numbers */
 
 enum fault { GOOD, IN_HEX, NO_NUMBER, TOO_LARGE };

@@ -41,9 +41,6 @@ int operands_fit(const struct command *command, const char *group, int n, char *
 int print_help(const char *help);
 int usage(const char *help);
 
-/* Whether standard input, -, is named once at the most; where not, it has said so. */
-int names_input_once(int n, char **words);
-
 /* Null for an ID of 0 to 255 in decimal digits, or what is wrong with the word. */
 const char *parse_id(const char *word, uint8_t *id);
 

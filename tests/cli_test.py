@@ -173,11 +173,14 @@ class Write(Folder):
 
     # [L18]
     def test_standard_input_once(self):
-        for words, command in [(["log", "write", self.out, "-", "-"], ["log", "write"]), (["plan", "check", "-", "-"], ["plan", "check"]),
-                               (["show", "-", "a", "-"], ["show"])]:
-            with self.subTest(words):
-                self.assertEqual(run(*words, input=""), (USAGE, "", "dxl: -: standard input can be read only once\n" + usage_of(*command)))
-        self.assertEqual(self.names(), [])
+        """It may be named twice: `log` and `plan` keep what they have read of it, and to `show` it is empty the second time."""
+        self.file("standard", PING)
+        with self.file("standard").open("rb") as file:
+            self.assertEqual(run("log", "write", self.out, "-", "-", stdin=file), (DONE, "", ""))
+        self.assertEqual(self.out.read_bytes()[1048:], PING + PING)
+        self.assertEqual(run("plan", "check", "-", "-", input=""), (DONE, "standard input: accepted, 0 goals in 0 packets\n", ""))
+        code, shown, errors = run("show", "-", "-", input="")
+        self.assertEqual((code, shown.count("-:\n0 bytes: "), errors), (DONE, 2, ""))
 
     # [L9]
     def test_complete_or_not_there(self):

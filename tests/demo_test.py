@@ -75,13 +75,6 @@ SHOWN = """
 """.strip().splitlines()
 
 
-DAMAGED = """A damaged Ping, directly followed by a good one
-  > FF FF FD 00 01 03 00 01 19 4F FF FF FD 00 01 03 00 01 19 4E
-  < FF FF FD 00 01 04 00 55 03 AB 0C  03: a bad checksum
-  < FF FF FD 00 01 07 00 55 00 06 04 26 65 5D  the good one is answered
-"""
-
-
 def run(*words, **environment):
     """A command's exit code, output and error output. Where it takes too long, it ends with all that it started."""
     process = subprocess.Popen(words, stdout=subprocess.PIPE, stderr=subprocess.PIPE, text=True, start_new_session=True,
@@ -441,10 +434,14 @@ class BoardTest(unittest.TestCase):
 
 
 class DemoTest(unittest.TestCase):
+    def shows_the_passage(self, output):
+        shown = re.search(r"\n```\n(A damaged Ping.*?)```\n", Path("README.md").read_text(encoding="utf-8"), flags=re.S)
+        self.assertIn(shown.group(1), output)
+
     def test_demo(self):
         code, output, errors = run(*DEMO, BOARD, DXL)
         self.assertEqual((code, errors), (0, "board: ended, as a signal asked\n"))
-        self.assertIn(DAMAGED, output)
+        self.shows_the_passage(output)
         self.assertIn("each reply as expected", output)
         self.assertRegex(output, r"\n\$ dxl send /dev/\S+ read 1 goal-position\nID 1    Status: ok; goal position = 512\n")
         self.assertTrue(output.endswith("demo: the board is ended; every reply was as expected\n"))
@@ -452,7 +449,7 @@ class DemoTest(unittest.TestCase):
     def test_demo_without_dxl(self):
         code, output, errors = run(*DEMO, BOARD)
         self.assertEqual((code, errors), (0, "board: ended, as a signal asked\n"))
-        self.assertIn(DAMAGED, output)
+        self.shows_the_passage(output)
         self.assertIn("each reply as expected", output)
         self.assertNotIn("dxl", output.replace(BOARD, ""))
         self.assertTrue(output.endswith("demo: the board is ended; every reply was as expected\n"))

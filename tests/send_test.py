@@ -588,9 +588,11 @@ class Lines(unittest.TestCase):
             self.assertEqual(run(*LONG, device.path, "ping", 1), (DONE, f"ID 1    {FOUND}\n", ""))
 
     def modes(self, device, *words, ends=None):
-        """The mode before, while the tool waits, and after it has ended or was ended by a signal."""
+        """The mode before, while the tool waits, and after it has ended or was ended by a signal. The gate may have been started with
+        that signal ignored, as a shell does for work in the background."""
         before = termios.tcgetattr(device.theirs)
-        tool = subprocess.Popen([DXL, "send", *words[:-2], device.path, *words[-2:]], stdout=subprocess.DEVNULL, stderr=subprocess.DEVNULL)
+        tool = subprocess.Popen([DXL, "send", *words[:-2], device.path, *words[-2:]], stdout=subprocess.DEVNULL, stderr=subprocess.DEVNULL,
+                                preexec_fn=lambda: ends and signal.signal(ends, signal.SIG_DFL))
         until = time.monotonic() + PATIENCE
         while not device.heard and time.monotonic() < until:
             time.sleep(0.01)

@@ -1,7 +1,7 @@
 -- What a call on a board comes to: where it is refused, and where the reader's event is carried out.
+use Rattle.std.specs.Prelude.{None, Option, Some}
 use mathlib.Core.Path.{◌≡◌, refl, ap, ◌∙◌}
 use mathlib.Core.List.{List}
-use mathlib.Core.Option.{Option, none, some}
 use mathlib.Core.Bool.{cond}
 use Prim.Native.Nat.{ℕ, ◌+◌}
 use lib.Dec.{leb}
@@ -39,23 +39,23 @@ module _ (base w : List ℕ) where
 
 module _ (base : List ℕ) where
   event_back : (a : Option Event) → event_by (event_for Two a) (overwritten base (packet_bytes a)) ≡ a
-  event_back none = refl
-  event_back (some (packet w)) = ap (λ (s : List ℕ). some (packet s)) (whole base w)
-  event_back (some (bad_checksum id)) = refl
+  event_back None = refl
+  event_back (Some (packet w)) = ap (λ (s : List ℕ). Some (packet s)) (whole base w)
+  event_back (Some (bad_checksum id)) = refl
 
   buffer_back : (a : Option Event) → buffer_by (event_for Two a) (overwritten base (packet_bytes a)) ≡ buffer_for (overwritten base (packet_bytes a)) a
-  buffer_back none = refl
-  buffer_back (some (packet w)) = ap (λ (s : List ℕ). placed (overwritten base w) 7 (unstuff (body_of s))) (whole base w)
-  buffer_back (some (bad_checksum id)) = refl
+  buffer_back None = refl
+  buffer_back (Some (packet w)) = ap (λ (s : List ℕ). placed (overwritten base w) 7 (unstuff (body_of s))) (whole base w)
+  buffer_back (Some (bad_checksum id)) = refl
 
-  fits_back : (a : Option Event) → ((w : List ℕ) → a ≡ some (packet w) → WellFormed w) → Fits (event_for Two a) (overwritten base (packet_bytes a))
-  fits_back none good = tt
-  fits_back (some (packet w)) good =
+  fits_back : (a : Option Event) → ((w : List ℕ) → a ≡ Some (packet w) → WellFormed w) → Fits (event_for Two a) (overwritten base (packet_bytes a))
+  fits_back None good = tt
+  fits_back (Some (packet w)) good =
       let f = good w refl in
       let low = f.shortest in
       let n = f.counted in
       (omega arith, omega (arith, length-append w (drop (length w) base)), rw (whole base w) refl)
-  fits_back (some (bad_checksum id)) good = tt
+  fits_back (Some (bad_checksum id)) good = tt
 
 -- ---- the call
 
@@ -65,8 +65,8 @@ unfolding board_step
 step_registered b c = by (board_refusal b)
   where
     by : (r : Option Refusal) → (step_unless r (outcome b c)).registered ≡ (outcome b c).board.registered
-    by none = refl
-    by (some refusal) = refl
+    by None = refl
+    by (Some refusal) = refl
 
 module _ (b : Board) (c : Call) (old : List ℕ) where
   -- what the contracts of `feed` and `gap` say
@@ -82,12 +82,12 @@ module _ (b : Board) (c : Call) (old : List ℕ) where
   refused_call number n Some-number r e = by (board_refusal b) refl
     where
       by : (s : Option Refusal) → board_refusal b ≡ s → Says r b.reader b.table old
-      by none i = absurd (Some-number (n ∙ ap number_if_any i))
-      by (some refusal) i =
+      by None i = absurd (Some-number (n ∙ ap number_if_any i))
+      by (Some refusal) i =
           let m : number ≡ number_of refusal = n ∙ ap number_if_any i in
           (rw (i, ← m) e, (rw i, rw i, rw i))
 
-  module _ (ok : board_refusal b ≡ none) where
+  module _ (ok : board_refusal b ≡ None) where
     abbrev result : CallResult
     result = call protocol2 (held_in b.reader) c
 

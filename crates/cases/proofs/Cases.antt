@@ -1,10 +1,10 @@
 -- All cases of the table hold. The checker runs one test over all of them, and a law leads from that test to the claim of each.
+use Rattle.std.specs.Prelude.{None, Option, Some}
 use mathlib.Core.Path.{◌≡◌, refl, sym, ap, ap₂, ◌∙◌, subst}
 use mathlib.Core.Bool.{Bool, true, false, not, ◌&&◌}
 use mathlib.Core.List.Memᴰ
 use mathlib.Core.List.{List, [], ◌∷◌, ◌++◌, Memᴰ}
 use mathlib.Core.Logic.{⊎_elim}
-use mathlib.Core.Option.{Option, none, some}
 use Prim.Native.Nat.{ℕ, ◌-◌}
 use native.Mathlib.Omega.{arith}
 use lib.Dec.{eqb}
@@ -89,12 +89,12 @@ none_is is_waiting e = let z : ◌≡◌ {A = ℕ} 0 1 = cc in absurd (omega ari
 none_is is_nothing e = refl
 
 abbrev accepted : Option Refusal → Bool
-accepted none = true
-accepted (some r) = false
+accepted None = true
+accepted (Some r) = false
 
-is_accepted : (o : Option Refusal) → accepted o ≡ true → o ≡ none
-is_accepted none e = refl
-is_accepted (some r) e = let z : ◌≡◌ {A = ℕ} 0 1 = cc in absurd (omega arith)
+is_accepted : (o : Option Refusal) → accepted o ≡ true → o ≡ None
+is_accepted None e = refl
+is_accepted (Some r) e = let z : ◌≡◌ {A = ℕ} 0 1 = cc in absurd (omega arith)
 
 abbrev same_registered : RegisteredWrite → RegisteredWrite → Bool
 same_registered v w =

@@ -1,7 +1,7 @@
 -- The worked examples that are proved: those of RULES X that are marked so, but for the salvage's, and others.
+use Rattle.std.specs.Prelude.{None}
 use Rattle.std.specs.Prelude.{◌≡◌, true, ℕ, ◌-◌, ℤ, length, take, drop, replicate}
 use mathlib.Core.List.{List, [], ◌∷◌, ◌++◌, Memᴰ}
-use Rattle.std.proofs.Math.Option.{none}
 use Rattle.answers.specs.declared.Refusal.TheVariants.{NoRoom}
 use Rattle.reading.specs.Rules.{is_packet, is_nothing}
 use Rattle.reading.specs.Promise.{joined, NoneAcross}
@@ -66,7 +66,7 @@ Claim (bad_checksum id table status) =
     × (call_registered table goal_registered BadChecksum id [] (replicate 32 0xAA) ≡ goal_registered)
     × (call_out table goal_registered BadChecksum id [] (replicate 32 0xAA) ≡ status ++ replicate (32 - length status) 0xAA)
 Claim (log segments numbers n) = (log_of segments ≡ laid numbers (joined segments)) × (length (log_of segments) ≡ n)
-Claim (plan goals bytes) = (goals_refusal goals ≡ none) × (plan_of goals ≡ bytes)
+Claim (plan goals bytes) = (goals_refusal goals ≡ None) × (plan_of goals ≡ bytes)
 Claim (apart noise beyond) = NoneAcross protocol2 noise beyond
 Claim (across noise beyond) = ¬ NoneAcross protocol2 noise beyond
 Claim (packet_v1 id body bytes) =

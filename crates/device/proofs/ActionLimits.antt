@@ -1,8 +1,8 @@
 -- Action and the limits.
+use Rattle.std.specs.Prelude.{None}
 use mathlib.Core.Path.{◌≡◌, refl, sym, ap, ◌∙◌}
 use mathlib.Core.Bool.{Bool, true, false, cond, not, ◌||◌, false≢true}
 use mathlib.Core.List.{List}
-use mathlib.Core.Option.{none}
 use Prim.Native.Nat.{ℕ}
 use lib.Dec.{eqb}
 use lib.ListN.{length}
@@ -53,7 +53,7 @@ module _ (table : List ℕ) (w : RegisteredWrite) (heard : Heard) (id : ℕ) (bo
       by_id false false e = absurd (false≢true e)
 
   module _ (out : List ℕ) (n slot : ℕ) (e : call_answer table w heard id body out ≡ Sent n slot) where
-    passes : call_refusal table w out ≡ none
+    passes : call_refusal table w out ≡ None
     passes = (sent_by (call_refusal table w out) _ n slot e).0
 
     sized : length table ≡ table_size

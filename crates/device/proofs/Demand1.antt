@@ -1,8 +1,8 @@
 -- What a refusal leaves.
+use Rattle.std.specs.Prelude.{None, Option, Some}
 use mathlib.Core.Path.{◌≡◌, refl}
 use mathlib.Core.Bool.{Bool, true, false, cond}
 use mathlib.Core.List.{List}
-use mathlib.Core.Option.{Option, none, some}
 use Prim.Native.Nat.{ℕ, ◌<◌}
 use native.Mathlib.Omega.{arith}
 use lib.Dec.{leb}
@@ -29,13 +29,13 @@ use Rattle.device.specs.declared.Replied.TheVariants.{Sent, Refused}
 -- ---- by the answer: refused, or not
 
 pub sent_by : (r : Option Refusal) (reply : Reply) (n slot : ℕ) → answered_by r reply ≡ Sent n slot
-    → (r ≡ none) × (length (reply_bytes reply) ≡ n) × (reply.slot ≡ slot)
-sent_by none reply n slot e = (refl, cc, cc)
-sent_by (some refusal) reply n slot e = let z : ◌≡◌ {A = ℕ} 0 1 = cc in absurd (omega arith)
+    → (r ≡ None) × (length (reply_bytes reply) ≡ n) × (reply.slot ≡ slot)
+sent_by None reply n slot e = (refl, cc, cc)
+sent_by (Some refusal) reply n slot e = let z : ◌≡◌ {A = ℕ} 0 1 = cc in absurd (omega arith)
 
-pub refused_by : (r : Option Refusal) (reply : Reply) (refusal : Refusal) → answered_by r reply ≡ Refused refusal → r ≡ some refusal
-refused_by none reply refusal e = let z : ◌≡◌ {A = ℕ} 0 1 = cc in absurd (omega arith)
-refused_by (some other) reply refusal e = cc
+pub refused_by : (r : Option Refusal) (reply : Reply) (refusal : Refusal) → answered_by r reply ≡ Refused refusal → r ≡ Some refusal
+refused_by None reply refusal e = let z : ◌≡◌ {A = ℕ} 0 1 = cc in absurd (omega arith)
+refused_by (Some other) reply refusal e = cc
 
 -- ---- the error byte of a status, whose first two body bytes need no stuffing
 
@@ -61,7 +61,7 @@ module _ (table : List ℕ) (w : RegisteredWrite) (heard : Heard) (id : ℕ) (bo
       record { same_table = rw r; same_registered_lem = rw r; same_reply = rw r }
 
   module _ (n slot : ℕ) (e : call_answer table w heard id body out ≡ Sent n slot) where
-    passes : call_refusal table w out ≡ none
+    passes : call_refusal table w out ≡ None
     passes = (sent_by (call_refusal table w out) _ n slot e).0
 
     left : ¬ ((executed table w heard id body).effect.error ≡ 0)

@@ -1,6 +1,6 @@
 -- The device call in two: the first carries out, and the second sends when the reply slot has come.
+use Rattle.std.specs.Prelude.{None, Option, Some}
 use Rattle.std.specs.Prelude.{◌≡◌, List, ℕ}
-use Rattle.std.proofs.Math.Option.{Option, none, some}
 use Rattle.answers.specs.Refusals.{unless_refused}
 use Rattle.answers.specs.declared.Refusal.{Refusal}
 use Rattle.answers.specs.declared.Refusal.TheVariants.{ShortReply}
@@ -14,8 +14,8 @@ use Rattle.device.specs.declared.Replied.TheVariants.{Refused}
 
 -- the second call straight after the first, unless that was refused: what both answer [D54]
 abbrev pub answer_of_both : Option Refusal → Reply → List ℕ → Replied
-answer_of_both none reply out = with_slot (status_answer reply out) reply.slot
-answer_of_both (some refusal) reply out = Refused refusal
+answer_of_both None reply out = with_slot (status_answer reply out) reply.slot
+answer_of_both (Some refusal) reply out = Refused refusal
 
 -- and the reply buffer [D54]
 abbrev pub out_of_both : Option Refusal → Reply → List ℕ → List ℕ

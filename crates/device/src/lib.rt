@@ -10,7 +10,7 @@ ghost use Rattle.device_dispatch.specs.Reactions.{reaction as reactions_reaction
 ghost use Rattle.device.specs.Answers.{with_slot, state_refusal, carried_answer, carried_reply, carried_registered, carried_error, carried_table, call_refusal, answered_by, call_answer, call_registered, call_table, call_out};
 ghost use Rattle.device.specs.Results.{reply_to, carried_of};
 
-use answers::{Answer, Refusal};
+use answers::Refusal;
 use device_dispatch::Heard;
 use device_instructions::{MAX_REGISTERED, RegisteredWrite};
 use device_replies::Reacted;
@@ -188,12 +188,12 @@ pub fn call_refusal(table: &[u8], registered: RegisteredWrite, out: &[u8]) -> Re
 }
 
 // What the function that sends answers, with the reply slot.
-fn with_slot(answer: Answer, slot: usize) -> Replied
+fn with_slot(answer: Result<usize, Refusal>, slot: usize) -> Replied
     ensures { result ≡ with_slot answer slot }
 {
     match answer {
-        Answer::Count(n) => Replied::Sent(n, slot),
-        Answer::Refused(refusal) => Replied::Refused(refusal),
+        Ok(n) => Replied::Sent(n, slot),
+        Err(refusal) => Replied::Refused(refusal),
     }
 }
 

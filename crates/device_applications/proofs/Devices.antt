@@ -1,9 +1,9 @@
+use Rattle.std.specs.Prelude.{None, Some}
 use mathlib.Core.Path.{◌≡◌, refl, ap, subst, ◌∙◌}
 use mathlib.Core.Bool.{Bool, true, ◌&&◌}
 use mathlib.Core.List.Memᴰ
 use mathlib.Core.List.{List, [], ◌∷◌, ◌++◌, Memᴰ}
 use mathlib.Core.Logic.{⊎_elim}
-use mathlib.Core.Option.{none, some}
 use Prim.Native.Nat.{ℕ, ◌≤◌}
 use native.Mathlib.Omega.{arith}
 use lib.Dec.{leb}
@@ -81,26 +81,26 @@ stored_ends : after_all stored on_stored ≡ ended_stored
 unfolding reduce_if shift shifts crc_byte crc_from stuff_after well_after unstuff_after length_of body_of checksum_right with_checksum packet_of front_agrees length_agrees registers permits_by number_at value_at bytes_of put freshened every_byte every_touched goal_inside limits_kept write_rule read_rule read write same_limits reg_write action heard_instruction executed state_refusal room_refusal call_refusal removal_refusal id_heard shapeVerdict outcome lent_refusal first fed call
 stored_ends = refl
 
-accepted_start : refusal_in start ≡ none
+accepted_start : refusal_in start ≡ None
 unfolding put bytes_of freshened registers state_refusal
 accepted_start = refl
 
-accepted_none_start : refusal_in none_start ≡ none
+accepted_none_start : refusal_in none_start ≡ None
 unfolding put bytes_of freshened registers state_refusal
 accepted_none_start = refl
 
-accepted_stored : refusal_in stored ≡ none
+accepted_stored : refusal_in stored ≡ None
 unfolding put bytes_of freshened registers state_refusal
 accepted_stored = refl
 
 pub stays_accepted_applied : StaysAcceptedApplied
 stays_accepted_applied t = (
   ends,
-  subst (λ (s : State). refusal_in s ≡ none) ends (t.stays start each_kind accepted_start (all_lent each_kind refl)),
-  subst (λ (s : State). refusal_in (state_of s.table too_many) ≡ some BadRegistered) ends (t.by_lent start (each_kind ++ lend too_many ∷ []) accepted_start),
+  subst (λ (s : State). refusal_in s ≡ None) ends (t.stays start each_kind accepted_start (all_lent each_kind refl)),
+  subst (λ (s : State). refusal_in (state_of s.table too_many) ≡ Some BadRegistered) ends (t.by_lent start (each_kind ++ lend too_many ∷ []) accepted_start),
   stored_ends,
-  subst (λ (s : State). refusal_in s ≡ none) stored_ends (t.stays stored on_stored accepted_stored (all_lent on_stored refl)),
-  subst (λ (s : State). refusal_in (state_of s.table too_many) ≡ some BadRegistered) stored_ends (t.by_lent stored (on_stored ++ lend too_many ∷ []) accepted_stored),
+  subst (λ (s : State). refusal_in s ≡ None) stored_ends (t.stays stored on_stored accepted_stored (all_lent on_stored refl)),
+  subst (λ (s : State). refusal_in (state_of s.table too_many) ≡ Some BadRegistered) stored_ends (t.by_lent stored (on_stored ++ lend too_many ∷ []) accepted_stored),
   none_ends,
   t.stays none_start each_kind accepted_none_start (all_lent each_kind refl),
   t.by_lent none_start (each_kind ++ lend too_many ∷ []) accepted_none_start,

@@ -1,6 +1,6 @@
 -- What is promised of the device, applied: lists of calls, refusals, statuses, Action and the limits, the call in two, packets.
+use Rattle.std.specs.Prelude.{None, Some}
 use Rattle.std.specs.Prelude.{◌≡◌, true, List, [], ◌∷◌, ◌++◌, ℕ, ◌≤◌, pos, take, replicate, get_or}
-use Rattle.std.proofs.Math.Option.{none, some}
 use Rattle.answers.specs.declared.Refusal.TheVariants.{BadStuffing, NoRoom, BadRegistered}
 use Rattle.reading.specs.Calls.{feed}
 use Rattle.packet_front.specs.Front.{id_of}
@@ -112,15 +112,15 @@ abbrev pub StaysAcceptedApplied : Type 0
 StaysAcceptedApplied =
     StaysAccepted
     → (after_all start each_kind ≡ ended)
-    × (refusal_in ended ≡ none)
-    × (refusal_in (state_of ended.table too_many) ≡ some BadRegistered)
+    × (refusal_in ended ≡ None)
+    × (refusal_in (state_of ended.table too_many) ≡ Some BadRegistered)
     × (after_all stored on_stored ≡ ended_stored)
-    × (refusal_in ended_stored ≡ none)
-    × (refusal_in (state_of ended_stored.table too_many) ≡ some BadRegistered)
+    × (refusal_in ended_stored ≡ None)
+    × (refusal_in (state_of ended_stored.table too_many) ≡ Some BadRegistered)
     -- where nothing is registered at first
     × (after_all none_start each_kind ≡ ended)
-    × (refusal_in (after_all none_start each_kind) ≡ none)
-    × (refusal_in (state_of (after_all none_start each_kind).table too_many) ≡ some BadRegistered)
+    × (refusal_in (after_all none_start each_kind) ≡ None)
+    × (refusal_in (state_of (after_all none_start each_kind).table too_many) ≡ Some BadRegistered)
 
 -- limits 100 and 100, and a goal position outside them, as a store might have left them
 abbrev pub restored : State
@@ -392,13 +392,13 @@ pub record ExchangeApplied : Type 0 where
   pub none_nobody_first_registered : packet_registered fresh_table dropped to253 body_room ≡ dropped
   pub none_nobody_first_reply : packet_reply fresh_table dropped to253 body_room ≡ silence
   -- buffers of 1,022 and 32 bytes: no refusal
-  pub accepted : exchange_refusal fresh_table longest write_goal (replicate 1022 0xAA) room ≡ none
-  pub first_accepted : packet_refusal fresh_table longest write_goal (replicate 1022 0xAA) ≡ none
-  pub long_accepted : exchange_refusal marked longest longest_packet (replicate 1022 0xAA) room ≡ none
-  pub first_long_accepted : packet_refusal marked longest longest_packet (replicate 1022 0xAA) ≡ none
+  pub accepted : exchange_refusal fresh_table longest write_goal (replicate 1022 0xAA) room ≡ None
+  pub first_accepted : packet_refusal fresh_table longest write_goal (replicate 1022 0xAA) ≡ None
+  pub long_accepted : exchange_refusal marked longest longest_packet (replicate 1022 0xAA) room ≡ None
+  pub first_long_accepted : packet_refusal marked longest longest_packet (replicate 1022 0xAA) ≡ None
   -- so with nothing registered
-  pub none_accepted : exchange_refusal fresh_table dropped write_goal (replicate 1022 0xAA) room ≡ none
-  pub none_first_accepted : packet_refusal fresh_table dropped write_goal (replicate 1022 0xAA) ≡ none
+  pub none_accepted : exchange_refusal fresh_table dropped write_goal (replicate 1022 0xAA) room ≡ None
+  pub none_first_accepted : packet_refusal fresh_table dropped write_goal (replicate 1022 0xAA) ≡ None
 
 abbrev pub ExchangePromisesApplied : Type 0
 ExchangePromisesApplied = ExchangePromises → ExchangeApplied

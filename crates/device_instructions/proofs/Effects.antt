@@ -1,8 +1,8 @@
 -- What the calls of the control table come to in an effect.
+use Rattle.std.specs.Prelude.{None, Option, Some}
 use mathlib.Core.Path.{◌≡◌, refl, sym, ap, ◌∙◌}
 use mathlib.Core.Bool.{true, false, true≢false}
 use mathlib.Core.List.{List, []}
-use mathlib.Core.Option.{Option, none, some}
 use Prim.Native.Nat.{ℕ}
 use native.Mathlib.Omega.{arith}
 use lib.ListN.{length, take, drop, set, length-take, length-drop}
@@ -25,7 +25,7 @@ use Rattle.device_instructions.proofs.Sized.{of_size, by_size}
 use Rattle.device_instructions.specs.declared.Done.{Done as DoneRecord}
 use Rattle.device_instructions.specs.declared.RegisteredWrite.{RegisteredWrite}
 
-refused_some : (o : Outcome) → is_done o ≡ false → refusal_of o ≡ some (error_of (refusal_of o))
+refused_some : (o : Outcome) → is_done o ≡ false → refusal_of o ≡ Some (error_of (refusal_of o))
 refused_some Done e = absurd (true≢false e)
 refused_some DataRange e = refl
 refused_some DataLength e = refl
@@ -35,10 +35,10 @@ refused_some NotTable e = refl
 
 module _ (table : List ℕ) (rule : Option ℕ) where
   module _ (o : Outcome) (e : refusal_of o ≡ in_table table rule) where
-    refused_rule : length table ≡ table_size → is_done o ≡ false → rule ≡ some (error_of (refusal_of o))
+    refused_rule : length table ≡ table_size → is_done o ≡ false → rule ≡ Some (error_of (refusal_of o))
     refused_rule s d = sym (in_table_lem table s rule) ∙ sym e ∙ refused_some o d
 
-    good_rule : length table ≡ table_size → is_done o ≡ true → rule ≡ none
+    good_rule : length table ≡ table_size → is_done o ≡ true → rule ≡ None
     good_rule s d = sym (in_table_lem table s rule) ∙ sym e ∙ done_none o d
 
     error_21 : (w : RegisteredWrite) → (length table ≡ table_size → ⊥) → done_with (error_of (refusal_of o)) [] w ≡ done_with 21 [] w

@@ -1,6 +1,6 @@
 -- What the functions answer: an effect without its table, as the code holds it.
+use Rattle.std.specs.Prelude.{None, Option, Some}
 use Rattle.std.specs.Prelude.{◌≡◌, List, ℕ, length}
-use Rattle.std.proofs.Math.Option.{Option, none, some}
 use Rattle.lists.specs.Write.{padded}
 use Rattle.table_rules.specs.Outcomes.{in_table}
 use Rattle.device_instructions.specs.Instructions.{Effect, refusing, read}
@@ -16,11 +16,11 @@ done_of e = done_with e.error e.bytes e.registered
 
 -- a fault of the caller is told in the place of the error number, and nothing is done
 abbrev pub effect_unless : Option ℕ → List ℕ → RegisteredWrite → Effect → Effect
-effect_unless none table w e = e
-effect_unless (some number) table w e = refusing table w number
+effect_unless None table w e = e
+effect_unless (Some number) table w e = refusing table w number
 
 abbrev pub sized : List ℕ → RegisteredWrite → Effect → Effect
-sized table w e = effect_unless (in_table table none) table w e
+sized table w e = effect_unless (in_table table None) table w e
 
 -- what was read, with the registered write, which stays
 abbrev pub done_by : Data → RegisteredWrite → Done

@@ -220,7 +220,7 @@ pub fn reboot(table: &mut [u8], registered: RegisteredWrite) -> Done
     if table.len() != TABLE_BYTES {
         return without_data(NOT_A_TABLE, registered);
     }
-    table_resets::reboot(table);
+    let _ = table_resets::reboot(table);
     without_data(0, dropped())
 }
 
@@ -235,7 +235,7 @@ fn reset_with(
     ensures value { result ≡ done_of (instructions_reboot (reset_rom (keeping keeps_id keeps_baud) table.old) registered) }
     ensures table_after { table.new ≡ (instructions_reboot (reset_rom (keeping keeps_id keeps_baud) table.old) registered).table }
 {
-    table_resets::reset_rom(table, keeps_id, keeps_baud);
+    let _ = table_resets::reset_rom(table, keeps_id, keeps_baud);
     reboot(table, registered)
 }
 

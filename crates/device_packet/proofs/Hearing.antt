@@ -1,8 +1,8 @@
 -- What the steps of the call come to: the ID, the refusals of removal, and what the device is given.
+use Rattle.std.specs.Prelude.{None, Option, Some}
 use mathlib.Core.Path.{◌≡◌, refl, sym, ap, ap₂, subst, ◌∙◌}
 use mathlib.Core.Bool.{Bool, true, false, cond}
 use mathlib.Core.List.{List, [], append-nil}
-use mathlib.Core.Option.{Option, none, some}
 use Prim.Native.Nat.{ℕ, ◌≤◌, ◌<◌}
 use native.Mathlib.Omega.{arith}
 use lib.Dec.{eqb}
@@ -124,18 +124,18 @@ module _ (packet : List ℕ) where
 -- ---- the removal of the stuffing
 
 module _ (packet body : List ℕ) where
-  pub bad_stuffing : checked (body_of packet) ≡ Bad → removal_refusal (body_of packet) body ≡ some BadStuffing
+  pub bad_stuffing : checked (body_of packet) ≡ Bad → removal_refusal (body_of packet) body ≡ Some BadStuffing
   unfolding removal_refusal
   bad_stuffing e = rw (checked_bad (body_of packet) e)
 
   module _ (n : ℕ) (e : checked (body_of packet) ≡ Good n) where
-    pub no_room : length body < n → removal_refusal (body_of packet) body ≡ some NoRoom
+    pub no_room : length body < n → removal_refusal (body_of packet) body ≡ Some NoRoom
     unfolding removal_refusal
     no_room l =
         let g = checked_good (body_of packet) n e in
         rw (g.0, lt-leb (length (unstuff (body_of packet))) (length body) (omega arith))
 
-    pub fits : n ≤ length body → removal_refusal (body_of packet) body ≡ none
+    pub fits : n ≤ length body → removal_refusal (body_of packet) body ≡ None
     unfolding removal_refusal
     fits room =
         let g = checked_good (body_of packet) n e in
@@ -167,26 +167,26 @@ module _ (b c : Option Refusal) (r : Replied) (q : Refuses c r) where
   first_answered = by_refusal b
     where
       by_refusal : (b : Option Refusal) → refused_or b r ≡ answered_by (or_else b c) silence
-      by_refusal none = q.answers silence
-      by_refusal (some refusal) = refl
+      by_refusal None = q.answers silence
+      by_refusal (Some refusal) = refl
 
   pub silences_first : (reply : Reply) → silence ≡ reply_unless b (reply_unless c reply)
   silences_first reply = by_refusal b
     where
       by_refusal : (b : Option Refusal) → silence ≡ reply_unless b (reply_unless c reply)
-      by_refusal none = q.silences reply
-      by_refusal (some refusal) = refl
+      by_refusal None = q.silences reply
+      by_refusal (Some refusal) = refl
 
   pub keeps_first : (old new : RegisteredWrite) → old ≡ kept_by b old (kept_by c old new)
   keeps_first old new = by_refusal b
     where
       by_refusal : (b : Option Refusal) → old ≡ kept_by b old (kept_by c old new)
-      by_refusal none = q.keeps old new
-      by_refusal (some refusal) = refl
+      by_refusal None = q.keeps old new
+      by_refusal (Some refusal) = refl
 
   pub leaves_first : (old new : List ℕ) → (old ≡ unless_refused b old (unless_refused c old new)) × (old ≡ unless_refused (or_else b c) old new)
   leaves_first old new = by_refusal b
     where
       by_refusal : (b : Option Refusal) → (old ≡ unless_refused b old (unless_refused c old new)) × (old ≡ unless_refused (or_else b c) old new)
-      by_refusal none = (q.leaves old new, q.leaves old new)
-      by_refusal (some refusal) = (refl, refl)
+      by_refusal None = (q.leaves old new, q.leaves old new)
+      by_refusal (Some refusal) = (refl, refl)

@@ -1,7 +1,7 @@
 -- The calls on a packet as received are the device's calls on what is heard of it, unless removing the stuffing refuses them: what is
 -- promised of the device holds of them so.
+use Rattle.std.specs.Prelude.{None, Some}
 use Rattle.std.specs.Prelude.{◌≡◌, List, ℕ}
-use Rattle.std.proofs.Math.Option.{none, some}
 use Rattle.answers.specs.Refusals.{unless_refused}
 use Rattle.answers.specs.declared.Refusal.{Refusal}
 use Rattle.lists.specs.Write.{overwritten}
@@ -43,8 +43,8 @@ module _ (table : List ℕ) (w : RegisteredWrite) (packet body out : List ℕ) w
 
 -- [D38 D39 D50]
 pub record AsDevice : Type 0 where
-  pub passed_on : (table : List ℕ) (w : RegisteredWrite) (packet body out : List ℕ) → removal_refusal (body_of packet) body ≡ none
+  pub passed_on : (table : List ℕ) (w : RegisteredWrite) (packet body out : List ℕ) → removal_refusal (body_of packet) body ≡ None
       → PassedOn table w packet body out
   -- 14 or 13
   pub stopped : (table : List ℕ) (w : RegisteredWrite) (packet body out : List ℕ) (refusal : Refusal)
-      → removal_refusal (body_of packet) body ≡ some refusal → Stopped table w packet body out refusal
+      → removal_refusal (body_of packet) body ≡ Some refusal → Stopped table w packet body out refusal

@@ -1,6 +1,6 @@
 -- From a packet as received to the device: what it hears, and what the call on a packet answers and leaves.
+use Rattle.std.specs.Prelude.{None, Option, Some}
 use Rattle.std.specs.Prelude.{cond, List, ℕ, eqb, length}
-use Rattle.std.proofs.Math.Option.{Option, none, some}
 use Rattle.answers.specs.Refusals.{or_else, unless_refused}
 use Rattle.answers.specs.declared.Refusal.{Refusal}
 use Rattle.lists.specs.Write.{overwritten}
@@ -41,8 +41,8 @@ heard_of packet = record { id = id_heard packet; body = unstuff (body_of packet)
 
 -- a refusal, or else the device's answer
 abbrev pub refused_or : Option Refusal → Replied → Replied
-refused_or none answer = answer
-refused_or (some refusal) answer = Refused refusal
+refused_or None answer = answer
+refused_or (Some refusal) answer = Refused refusal
 
 -- ---- the first call on a packet as received: 14 and 13, then 21 to 23
 module _ (table : List ℕ) (w : RegisteredWrite) (packet body : List ℕ) where

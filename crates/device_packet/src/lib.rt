@@ -7,7 +7,7 @@ ghost use Rattle.stuffing.specs.Answers.{removal_refusal};
 ghost use Rattle.packet.specs.Packet.{body_of};
 ghost use Rattle.device_packet.specs.Exchange.{id_heard, refused_or, packet_answer, packet_reply, packet_registered, packet_table, packet_body, exchange_answer, exchange_registered, exchange_table, exchange_body, exchange_out};
 
-use answers::{Answer, Refusal};
+use answers::Refusal;
 use device::{Replied, Response};
 use device_dispatch::Heard;
 use device_instructions::RegisteredWrite;
@@ -83,12 +83,12 @@ pub fn carry_out(
         };
     };
     match packet::unstuff(packet, body) {
-        Answer::Refused(refusal) => CarriedPacket {
+        Err(refusal) => CarriedPacket {
             refused: Replied::Refused(refusal),
             reply: device_status::silence(),
             registered,
         },
-        Answer::Count(n) => {
+        Ok(n) => {
             let heard = Heard::Packet;
             let id = id_heard(packet);
             let carried = device::carry_out(table, registered, heard, id, &body[..n]);

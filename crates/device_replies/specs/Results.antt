@@ -1,6 +1,6 @@
 -- What the functions answer: a reaction without its table, as the code holds it.
+use Rattle.std.specs.Prelude.{None, Option, Some}
 use Rattle.std.specs.Prelude.{true, false, List, ℕ}
-use Rattle.std.proofs.Math.Option.{Option, none, some}
 use Rattle.table_rules.specs.Outcomes.{in_table}
 use Rattle.device_instructions.specs.Instructions.{refusing}
 use Rattle.device_instructions.specs.declared.Done.{Done}
@@ -18,11 +18,11 @@ reacted_of r = reacted_by r.replying (done_of r.effect)
 
 -- a fault of the caller is told in the place of the error number; nothing is done, and nothing is answered
 abbrev pub reaction_unless : Option ℕ → List ℕ → RegisteredWrite → Reaction → Reaction
-reaction_unless none table w r = r
-reaction_unless (some number) table w r = reacting (refusing table w number) silent
+reaction_unless None table w r = r
+reaction_unless (Some number) table w r = reacting (refusing table w number) silent
 
 abbrev pub sized_reaction : List ℕ → RegisteredWrite → Reaction → Reaction
-sized_reaction table w r = reaction_unless (in_table table none) table w r
+sized_reaction table w r = reaction_unless (in_table table None) table w r
 
 -- the same where the fault is told by what is done alone, which is answered as ever
 abbrev pub sized_effect : List ℕ → RegisteredWrite → Reaction → Reaction

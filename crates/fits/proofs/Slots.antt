@@ -1,7 +1,7 @@
 -- The reply slot of the device, and the calls on a board.
+use Rattle.std.specs.Prelude.{None, Option, Some}
 use mathlib.Core.Path.{◌≡◌, refl}
 use mathlib.Core.List.{List, []}
-use mathlib.Core.Option.{Option, none, some}
 use Prim.Native.Nat.{ℕ, zero, suc, ◌≤◌, ◌<◌, max}
 use native.Mathlib.Omega.{arith}
 use borrow.Author.Tests.{leb-true}
@@ -47,13 +47,13 @@ module _ (table : List ℕ) (w : RegisteredWrite) where
   module _ (packet body : List ℕ) where
     exchange_slot : (kept : RegisteredWrite) (out : List ℕ) (r : Option Refusal)
         → (device_numbers (refused_or r (call_answer table w Packet (heard_of packet).id (heard_of packet).body out)) kept).slot ≤ 252
-    exchange_slot kept out none = call_slot kept Packet (heard_of packet).id (heard_of packet).body out
-    exchange_slot kept out (some refusal) = omega arith
+    exchange_slot kept out None = call_slot kept Packet (heard_of packet).id (heard_of packet).body out
+    exchange_slot kept out (Some refusal) = omega arith
 
     reply_slot : (r : Option Refusal)
         → (reply_unless r (carried_reply table w Packet (heard_of packet).id (heard_of packet).body)).slot ≤ 252
-    reply_slot none = slot_within.in_two_lem table w Packet (heard_of packet).id (heard_of packet).body
-    reply_slot (some refusal) = omega arith
+    reply_slot None = slot_within.in_two_lem table w Packet (heard_of packet).id (heard_of packet).body
+    reply_slot (Some refusal) = omega arith
 
 -- a status has 21 bytes at the most, and silence none
 sent_count : (kept : RegisteredWrite) (most : ℕ) (a : Replied) → ((n slot : ℕ) → a ≡ Sent n slot → 0 < n → n ≤ most)
@@ -70,8 +70,8 @@ module _ (table : List ℕ) (w kept : RegisteredWrite) (most : ℕ) (m : 21 ≤ 
 
   exchange_count : (bytes out : List ℕ) (r : Option Refusal)
       → AtMost most (device_numbers (refused_or r (call_answer table w Packet (heard_of bytes).id (heard_of bytes).body out)) kept).count
-  exchange_count bytes out none = call_count Packet (heard_of bytes).id (heard_of bytes).body out
-  exchange_count bytes out (some refusal) = refused_at_most most refusal
+  exchange_count bytes out None = call_count Packet (heard_of bytes).id (heard_of bytes).body out
+  exchange_count bytes out (Some refusal) = refused_at_most most refusal
 
 pub device_fits : DeviceFits
 device_fits =
@@ -90,38 +90,38 @@ device_fits =
 -- ---- a board
 
 module _ (b : Board) (c : Call) where
-  by_event : state_refusal b.table b.registered ≡ none → (e : Option Event) → (carried_if_any b.table b.registered e).reply.slot ≤ 252
-  by_event s none = omega arith
-  by_event s (some (packet bytes)) = rw s at (slot_within.in_two_lem b.table b.registered Packet (id_of bytes) (unstuff (body_of bytes)))
-  by_event s (some (bad_checksum id)) = rw s at (slot_within.in_two_lem b.table b.registered BadChecksum id [])
+  by_event : state_refusal b.table b.registered ≡ None → (e : Option Event) → (carried_if_any b.table b.registered e).reply.slot ≤ 252
+  by_event s None = omega arith
+  by_event s (Some (packet bytes)) = rw s at (slot_within.in_two_lem b.table b.registered Packet (id_of bytes) (unstuff (body_of bytes)))
+  by_event s (Some (bad_checksum id)) = rw s at (slot_within.in_two_lem b.table b.registered BadChecksum id [])
 
   by_count : (e : Option Event) → (call protocol2 (held_in b.reader) c).answer ≡ e → count_of e ≤ 1031
-  by_count none i = omega arith
-  by_count (some (packet w)) i = packet_fits protocol2 laws (held_in b.reader) c w i
-  by_count (some (bad_checksum id)) i = omega arith
+  by_count None i = omega arith
+  by_count (Some (packet w)) i = packet_fits protocol2 laws (held_in b.reader) c w i
+  by_count (Some (bad_checksum id)) i = omega arith
 
   step_taken : (r : Option Refusal) → board_refusal b ≡ r → (board_step b c).taken ≤ length (chunk_of c)
   unfolding board_step outcome
-  step_taken none e = rw e (takes protocol2 laws (held_in b.reader) c)
-  step_taken (some refusal) e = rw e (omega arith)
+  step_taken None e = rw e (takes protocol2 laws (held_in b.reader) c)
+  step_taken (Some refusal) e = rw e (omega arith)
 
   step_count : (r : Option Refusal) → board_refusal b ≡ r → (board_step b c).count ≤ 1031
   unfolding board_step outcome
-  step_count none e = rw e (by_count (call protocol2 (held_in b.reader) c).answer refl)
-  step_count (some refusal) e = rw e (omega arith)
+  step_count None e = rw e (by_count (call protocol2 (held_in b.reader) c).answer refl)
+  step_count (Some refusal) e = rw e (omega arith)
 
   step_slot : (r : Option Refusal) → board_refusal b ≡ r → (board_step b c).reply.slot ≤ 252
   unfolding board_step outcome
-  step_slot none e = rw e (by_event (accepted b e).state (call protocol2 (held_in b.reader) c).answer)
-  step_slot (some refusal) e = rw e (omega arith)
+  step_slot None e = rw e (by_event (accepted b e).state (call protocol2 (held_in b.reader) c).answer)
+  step_slot (Some refusal) e = rw e (omega arith)
 
   left_held : (r : Option Refusal) → board_refusal b ≡ r → (outcome b c).board.reader.count ≤ max b.reader.count 1030
   unfolding outcome reader_left
-  left_held none e =
+  left_held None e =
       let l = (accepted b e).held in
       let k = held_bound protocol2 laws (held_in b.reader) c (simp length-take (omega (arith, l))) in
       rw e (omega (arith, k))
-  left_held (some refusal) e = rw e (omega arith)
+  left_held (Some refusal) e = rw e (omega arith)
 
 pub board_fits : BoardFits
 board_fits =

@@ -1,8 +1,8 @@
 -- Feeding and gap calls, by themselves and on a board; the plain reader's events.
+use Rattle.std.specs.Prelude.{None, Option, Some}
 use mathlib.Core.Path.{◌≡◌, refl}
 use mathlib.Core.Bool.{Bool, true, false}
 use mathlib.Core.List.{List, [], append-nil}
-use mathlib.Core.Option.{Option, none, some}
 use Prim.Native.Nat.{ℕ, ◌-◌, ◌≤◌, max}
 use native.Mathlib.Omega.{arith}
 use borrow.Author.Tests.{leb-true}
@@ -42,7 +42,7 @@ module _ (R : Rules) (L : Laws R) (h : List ℕ) where
   takes (feed s) = (fed_fewest R h s).within
   takes gap = gap_takes (first R closed h)
 
-  pub packet_fits : (c : Call) (w : List ℕ) → (call R h c).answer ≡ some (packet w) → length w ≤ R.longest
+  pub packet_fits : (c : Call) (w : List ℕ) → (call R h c).answer ≡ Some (packet w) → length w ≤ R.longest
   packet_fits c w e = packet_short R L w (length w) (rw append-nil at (L.whole w [] (packet_good R L h c w e)))
 
 -- ---- on a record
@@ -52,14 +52,14 @@ module _ (p : Protocol) (r : Reader) (c : Call) where
   result = call (rules_of p) (held_in r) c
 
   told_taken : (n : ℕ) (a : Option Event) → (event_numbers n (event_for p a)).taken ≡ n
-  told_taken n none = refl
-  told_taken n (some (packet w)) = refl
-  told_taken n (some (bad_checksum id)) = refl
+  told_taken n None = refl
+  told_taken n (Some (packet w)) = refl
+  told_taken n (Some (bad_checksum id)) = refl
 
   told_count : (n : ℕ) (a : Option Event) → result.answer ≡ a → (event_numbers n (event_for p a)).count ≤ (rules_of p).longest
-  told_count n none e = omega arith
-  told_count n (some (packet w)) e = packet_fits (rules_of p) (laws p) (held_in r) c w e
-  told_count n (some (bad_checksum id)) e = omega arith
+  told_count n None e = omega arith
+  told_count n (Some (packet w)) e = packet_fits (rules_of p) (laws p) (held_in r) c w e
+  told_count n (Some (bad_checksum id)) e = omega arith
 
   step_taken : (b : Bool) → leb r.count (most_held p) ≡ b → (step_numbers (step_in p r c)).taken ≤ length (chunk_of c)
   unfolding step_in

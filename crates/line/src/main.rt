@@ -3,7 +3,6 @@
 // If a read or a write fails, it says so on standard error and does not print `end BYTES`.
 #![tactic(auto)]
 
-use answers::Answer;
 use reader_plain::Next;
 
 // This and the functions below return whether all of it was written.
@@ -22,7 +21,7 @@ fn print_end(rt: &impl Print, bytes: u64) -> bool {
 // A packet's body is never empty, and unstuffed it has at most 1,022 bytes.
 fn packet_line(rt: &impl Print, id: u8, found: &[u8]) -> bool {
     let mut body = [0u8; packet_front::MAX_BODY];
-    let Answer::Count(n) = packet::unstuff(found, &mut body) else {
+    let Ok(n) = packet::unstuff(found, &mut body) else {
         return false;
     };
     if n == 0 {

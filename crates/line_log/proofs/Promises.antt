@@ -1,8 +1,8 @@
 -- The test accepts the sound logs and no others; the question, on a sound log and on two that agree where it looks.
+use Rattle.std.specs.Prelude.{None, Option, Some}
 use mathlib.Core.Path.{◌≡◌, refl, sym, ap, ap₂, subst, ◌∙◌}
 use mathlib.Core.Bool.{true, false}
 use mathlib.Core.List.{List, [], ◌∷◌}
-use mathlib.Core.Option.{Option, none, some}
 use Prim.Native.Nat.{ℕ, zero, suc, ◌+◌, ◌*◌, ◌-◌, ◌≤◌, ◌<◌}
 use native.Mathlib.Omega.{arith}
 use lib.ListN.{length, take, drop, get_or}
@@ -25,21 +25,21 @@ use Rattle.line_log.proofs.Rounds.{numbers_at, numbers_length, segments_at, none
 -- ---- the test
 
 module _ (ss : List (List ℕ)) (fits : length (log_of ss) ≤ 4294967295) where
-  accepted : check_refusal (log_of ss) ≡ none
+  accepted : check_refusal (log_of ss) ≡ None
   unfolding check_refusal
   accepted = rw (laid_out_log ss fits, index_log ss fits, segments_log ss fits, same_self (index ss))
 
 module _ (file : List ℕ) where
-  pub wrong_layout : laid_out file ≡ false → check_refusal file ≡ some BadLog
+  pub wrong_layout : laid_out file ≡ false → check_refusal file ≡ Some BadLog
   unfolding check_refusal
   wrong_layout h = rw h
 
   module _ (l : laid_out file ≡ true) where
-    pub wrong_index : same_numbers (index_in file) (index (segments_in file)) ≡ false → check_refusal file ≡ some WrongIndex
+    pub wrong_index : same_numbers (index_in file) (index (segments_in file)) ≡ false → check_refusal file ≡ Some WrongIndex
     unfolding check_refusal
     wrong_index h = rw (l, h)
 
-    pub right_index : same_numbers (index_in file) (index (segments_in file)) ≡ true → check_refusal file ≡ none
+    pub right_index : same_numbers (index_in file) (index (segments_in file)) ≡ true → check_refusal file ≡ None
     unfolding check_refusal
     right_index h = rw (l, h)
 
@@ -47,11 +47,11 @@ pub sound_exactly : SoundExactly
 unfolding check_refusal
 sound_exactly =
     record {
-      accepts = λ file s. subst (λ (f : List ℕ). check_refusal f ≡ none) (sym s.are) (accepted s.segments (rw s.are at s.fits));
+      accepts = λ file s. subst (λ (f : List ℕ). check_refusal f ≡ None) (sym s.are) (accepted s.segments (rw s.are at s.fits));
       only =
           λ file b e.
           let t = passed (laid_out file) BadLog _ e in
-          let i = passed (same_numbers (index_in file) (index (segments_in file))) WrongIndex none t.1 in
+          let i = passed (same_numbers (index_in file) (index (segments_in file))) WrongIndex None t.1 in
           let h = is_laid_out file t.0 in
           record { fits = h.fits; segments = segments_in file; are = log_back file b h (same_are _ _ i.0) };
     }
@@ -95,7 +95,7 @@ module _ (file : List ℕ) (id : ℕ) where
 
 -- the last packet in segments that are numbered from k on stands where it is said to stand
 abbrev There : ℕ → ℕ → List (List ℕ) → Last → Type 0
-There id k ss (at j p) = (k ≤ j) × (last_in id (get_or ss (j - k) []) ≡ some p)
+There id k ss (at j p) = (k ≤ j) × (last_in id (get_or ss (j - k) []) ≡ Some p)
 There id k ss nowhere = Unit {0}
 
 there : (id k : ℕ) (ss : List (List ℕ)) → There id k ss (last_from id k ss)
@@ -106,8 +106,8 @@ there id k (s ∷ ss) = by_case (last_from id (suc k) ss) (there id (suc k) ss) 
     by_case : (l : Last) → There id (suc k) ss l → (o : Option ℕ) → last_in id s ≡ o → There id k (s ∷ ss) (or_in l k o)
     by_case (at j p) t o e =
         let z : j - k ≡ suc (j - suc k) = omega (arith, t.0) in (omega (arith, t.0), rw z t.1)
-    by_case nowhere t (some p) e = let z : k - k ≡ 0 = omega arith in (omega arith, rw z e)
-    by_case nowhere t none e = tt
+    by_case nowhere t (Some p) e = let z : k - k ≡ 0 = omega arith in (omega arith, rw z e)
+    by_case nowhere t None e = tt
 
 -- so the segment that the index names has it
 pub named_last : (id : ℕ) (ss : List (List ℕ)) → named (index_number (last_of id ss)) id ss ≡ last_of id ss

@@ -1,8 +1,8 @@
 -- One round of the loops over a directory and an index, and what stands at an offset of them.
+use Rattle.std.specs.Prelude.{None, Option, Some}
 use mathlib.Core.Path.{◌≡◌, refl, ap, ap₂, ◌∙◌}
 use mathlib.Core.Bool.{true, false, ◌&&◌}
 use mathlib.Core.List.{List, [], ◌∷◌}
-use mathlib.Core.Option.{Option, none, some}
 use Prim.Native.Nat.{ℕ, zero, suc, ◌+◌, ◌*◌, ◌≤◌, ◌<◌}
 use native.Mathlib.Numerals.{add-one}
 use native.Mathlib.Omega.{arith}
@@ -104,5 +104,5 @@ found_in k (At p) = found (at k p)
 found_in k Nothing = found nowhere
 
 pub found_in_lem : (k : ℕ) (o : Option ℕ) → found_in k (offset_of o) ≡ found (or_in nowhere k o)
-found_in_lem k none = refl
-found_in_lem k (some p) = refl
+found_in_lem k None = refl
+found_in_lem k (Some p) = refl

@@ -1,6 +1,6 @@
 -- The question for the last packet of an ID: answered from header, directory, one index number and one segment.
+use Rattle.std.specs.Prelude.{None, Option, Some}
 use Rattle.std.specs.Prelude.{◌≡◌, true, List, [], ◌∷◌, ℕ, zero, suc, ◌+◌, ◌*◌, get_or, take}
-use Rattle.std.proofs.Math.Option.{Option, none, some}
 use Rattle.answers.specs.Refusals.{first_failing}
 use Rattle.answers.specs.declared.Refusal.{Refusal}
 use Rattle.answers.specs.declared.Refusal.TheVariants.{BadLog, BadLogId}
@@ -30,8 +30,8 @@ found (at k p) = At k p
 found nowhere = Nowhere
 
 abbrev pub found_unless : Option Refusal → Last → Found
-found_unless none l = found l
-found_unless (some refusal) l = Refused refusal
+found_unless None l = found l
+found_unless (Some refusal) l = Refused refusal
 
 -- [I18]
 abbrev pub question : List ℕ → ℕ → Found

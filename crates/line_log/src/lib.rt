@@ -8,7 +8,7 @@ ghost use Rattle.log_layout.specs.Layout.{entry_of, index_in, segment_by, segmen
 ghost use Rattle.line_log.specs.Soundness.{same_numbers, check_refusal};
 ghost use Rattle.line_log.specs.Question.{found, question};
 
-use answers::{Answer, Refusal};
+use answers::Refusal;
 use log_index::{INDEX_COUNT, Offset};
 use log_layout::{DIRECTORY, LOG_ENTRY};
 
@@ -53,16 +53,16 @@ fn index_right(file: &[u8], index: [usize; INDEX_COUNT]) -> bool
 }
 
 // Whether a file is a sound log, answered by 0. The layout is tested first. [I10 I16]
-pub fn check(file: &[u8]) -> Answer
+pub fn check(file: &[u8]) -> Result<usize, Refusal>
     ensures { result ≡ answered (check_refusal file.now) 0 }
 {
     if !log_layout::laid_out(file) {
-        return Answer::Refused(Refusal::BadLog);
+        return Err(Refusal::BadLog);
     }
     if index_right(file, index_of(file)) {
-        Answer::Count(0)
+        Ok(0)
     } else {
-        Answer::Refused(Refusal::WrongIndex)
+        Err(Refusal::WrongIndex)
     }
 }
 

@@ -1,8 +1,8 @@
 -- One round of the loops over the events of a segment, by the plain reader's answer.
+use Rattle.std.specs.Prelude.{None, Option, Some}
 use mathlib.Core.Path.{◌≡◌, refl, sym, ap, subst, ◌∙◌}
 use mathlib.Core.Bool.{cond}
 use mathlib.Core.List.{List}
-use mathlib.Core.Option.{Option, none, some}
 use Prim.Native.Nat.{ℕ, ◌-◌, ◌<◌}
 use native.Mathlib.Omega.{arith}
 use lib.Dec.{eqb}
@@ -27,17 +27,17 @@ all_left s = refl
 
 -- the later of what is left and what was found before
 abbrev pub or_else : Option ℕ → Offset → Offset
-or_else none last = last
-or_else (some p) last = At p
+or_else None last = last
+or_else (Some p) last = At p
 
 or_none : (l : Option ℕ) → or_else l Offset-as-Nothing ≡ offset_of l
-or_none none = refl
-or_none (some p) = refl
+or_none None = refl
+or_none (Some p) = refl
 
 or_later : (l f : Option ℕ) (last : Offset) → or_else (later l f) last ≡ or_else l (or_else f last)
-or_later none f last = refl
-or_later (some p) none last = refl
-or_later (some p) (some q) last = refl
+or_later None f last = refl
+or_later (Some p) None last = refl
+or_later (Some p) (Some q) last = refl
 
 pub last_start : (id : ℕ) (s : List ℕ) → offset_of (last_packet id (reading protocol2 s)) ≡ or_else (last_packet id (left s 0)) Offset-as-Nothing
 unfolding reading
@@ -57,12 +57,12 @@ module _ (s : List ℕ) (from p n q id : ℕ) (e : next_event s from ≡ Packet 
       ap (marked number index) stated.2 ∙ ap (λ (x : ℕ). marked number (set index (mark_of x) number) (left s q)) stated.1
 
   at_packet : (wanted : ℕ) (last : Offset) → or_else (last_packet wanted (left s from)) last
-      ≡ or_else (last_packet wanted (left s q)) (or_else (cond (eqb id wanted) (some p) none) last)
+      ≡ or_else (last_packet wanted (left s q)) (or_else (cond (eqb id wanted) (Some p) None) last)
   unfolding last_packet
   at_packet wanted last =
       ap (λ (fs : List EventAt). or_else (last_packet wanted fs) last) stated.2
-      ∙ or_later (last_packet wanted (left s q)) (cond (eqb (id_of stated.0) wanted) (some p) none) last
-      ∙ ap (λ (x : ℕ). or_else (last_packet wanted (left s q)) (or_else (cond (eqb x wanted) (some p) none) last)) stated.1
+      ∙ or_later (last_packet wanted (left s q)) (cond (eqb (id_of stated.0) wanted) (Some p) None) last
+      ∙ ap (λ (x : ℕ). or_else (last_packet wanted (left s q)) (or_else (cond (eqb x wanted) (Some p) None) last)) stated.1
 
   pub last_here : (wanted : ℕ) (last : Offset) → id ≡ wanted
       → or_else (last_packet wanted (left s from)) last ≡ or_else (last_packet wanted (left s q)) (At p)

@@ -1,6 +1,6 @@
 -- An index that is made in one pass over the segments: it holds the number of the last segment so far for each ID.
+use Rattle.std.specs.Prelude.{None, Option, Some}
 use Rattle.std.specs.Prelude.{List, [], ◌∷◌, ℕ, set}
-use Rattle.std.proofs.Math.Option.{Option, none, some}
 use Rattle.reading.specs.Reading.{EventAt, packet, bad_checksum}
 use Rattle.packet_front.specs.Front.{id_of}
 use Rattle.log_index.specs.Last.{mark_of}
@@ -15,5 +15,5 @@ marked number index ((p, bad_checksum id) ∷ fs) = marked number index fs
 
 -- an offset as the code has it [I6]
 abbrev pub offset_of : Option ℕ → Offset
-offset_of none = Nothing
-offset_of (some p) = At p
+offset_of None = Nothing
+offset_of (Some p) = At p

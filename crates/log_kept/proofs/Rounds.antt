@@ -1,8 +1,8 @@
 -- One round of a loop over the entries of a file, by how the next one is judged.
+use Rattle.std.specs.Prelude.{None, Option, Some}
 use mathlib.Core.Path.{◌≡◌, refl, sym, ap, ap₂, subst, ◌∙◌}
 use mathlib.Core.Bool.{Bool, true, false}
 use mathlib.Core.List.{List, [], ◌∷◌}
-use mathlib.Core.Option.{Option, none, some}
 use Prim.Native.Nat.{ℕ, suc, ◌+◌, ◌*◌, ◌-◌, ◌/◌, ◌≤◌, ◌<◌}
 use native.Mathlib.Numerals.{add-one}
 use native.Mathlib.Omega.{arith}
@@ -39,13 +39,13 @@ abbrev pub judged_at : List ℕ → ℕ → ℕ → KeptOrDropped
 judged_at file i limit = judged (fault (length file) limit (entry_of file i)) (entry_of file i)
 
 -- the entry that was judged
-was_kept : (o : Option ℕ) (e : LogEntry) (s m : ℕ) → judged o e ≡ Kept s m → (o ≡ none) × (e ≡ (s, m))
-was_kept none e s m q = let a : e.0 ≡ s = cc in let b : e.1 ≡ m = cc in (refl, ap₂ {C = LogEntry} (λ (x y : ℕ). (x, y)) a b)
-was_kept (some r) e s m q = let k : ◌≡◌ {A = ℕ} 0 1 = cc in absurd (omega arith)
+was_kept : (o : Option ℕ) (e : LogEntry) (s m : ℕ) → judged o e ≡ Kept s m → (o ≡ None) × (e ≡ (s, m))
+was_kept None e s m q = let a : e.0 ≡ s = cc in let b : e.1 ≡ m = cc in (refl, ap₂ {C = LogEntry} (λ (x y : ℕ). (x, y)) a b)
+was_kept (Some r) e s m q = let k : ◌≡◌ {A = ℕ} 0 1 = cc in absurd (omega arith)
 
-was_dropped : (o : Option ℕ) (e : LogEntry) (r : ℕ) → judged o e ≡ KeptOrDropped-as-Dropped r → o ≡ some r
-was_dropped none e r q = let k : ◌≡◌ {A = ℕ} 0 1 = cc in absurd (omega arith)
-was_dropped (some t) e r q = let a : t ≡ r = cc in rw a
+was_dropped : (o : Option ℕ) (e : LogEntry) (r : ℕ) → judged o e ≡ KeptOrDropped-as-Dropped r → o ≡ Some r
+was_dropped None e r q = let k : ◌≡◌ {A = ℕ} 0 1 = cc in absurd (omega arith)
+was_dropped (Some t) e r q = let a : t ≡ r = cc in rw a
 
 module _ (file : List ℕ) (n limit : ℕ) where
   pub kept_start : kept_of file n ≡ kept (length file) (segments_offset n) (left file n 0)
@@ -71,7 +71,7 @@ module _ (file : List ℕ) (n limit : ℕ) where
         rw (z, entries_turn file (16 + 8 * i) (n - (i + 1)), p)
 
     module _ (s m : ℕ) (j : judged_at file i limit ≡ Kept s m) where
-      stated : (fault (length file) limit (entry_of file i) ≡ none) × (entry_of file i ≡ (s, m))
+      stated : (fault (length file) limit (entry_of file i) ≡ None) × (entry_of file i ≡ (s, m))
       stated = was_kept (fault (length file) limit (entry_of file i)) (entry_of file i) s m j
 
       pub kept_within : (limit ≤ s) × (s + m ≤ length file)

@@ -1,6 +1,6 @@
 -- Which entries of a cut log's directory are kept, and for what the others are dropped.
+use Rattle.std.specs.Prelude.{None, Option, Some}
 use Rattle.std.specs.Prelude.{List, [], ◌∷◌, ℕ, suc, ◌+◌, ◌-◌, ◌/◌, min, leb, length, drop}
-use Rattle.std.proofs.Math.Option.{Option, none, some}
 use Rattle.answers.specs.Refusals.{first_failing}
 use Rattle.log_layout.specs.Log.{LogEntry, directory_offset, segments_offset}
 use Rattle.log_layout.specs.Layout.{count_in, entries, segments_by}
@@ -15,12 +15,12 @@ fault size limit e = first_failing ((leb limit e.0, 1) ∷ (leb (e.0 + e.1) size
 
 -- where the next one may start: at the end of a kept entry; a dropped one does not move it [I22]
 abbrev pub limit_after : Option ℕ → ℕ → LogEntry → ℕ
-limit_after none limit e = e.0 + e.1
-limit_after (some reason) limit e = limit
+limit_after None limit e = e.0 + e.1
+limit_after (Some reason) limit e = limit
 
 abbrev pub keeping : Option ℕ → LogEntry → List LogEntry → List LogEntry
-keeping none e es = e ∷ es
-keeping (some reason) e es = es
+keeping None e es = e ∷ es
+keeping (Some reason) e es = es
 
 -- the entries that are kept [I22]
 unfoldable pub kept : ℕ → ℕ → List LogEntry → List LogEntry
@@ -32,8 +32,8 @@ abbrev pub Dropped : Type 0
 Dropped = ℕ × ℕ
 
 abbrev pub dropping : Option ℕ → ℕ → List Dropped → List Dropped
-dropping none i ds = ds
-dropping (some reason) i ds = (i, reason) ∷ ds
+dropping None i ds = ds
+dropping (Some reason) i ds = (i, reason) ∷ ds
 
 -- the entries that are dropped, the first of them all being number i [I23]
 unfoldable pub dropped : ℕ → ℕ → ℕ → List LogEntry → List Dropped

@@ -1,6 +1,6 @@
 -- What the functions answer that judge entries, and the list of the dropped ones in the caller's report.
+use Rattle.std.specs.Prelude.{None, Option, Some}
 use Rattle.std.specs.Prelude.{List, [], ◌∷◌, ℕ, ◌/◌, leb, length}
-use Rattle.std.proofs.Math.Option.{Option, none, some}
 use Rattle.answers.specs.Refusals.{first_failing, unless_refused}
 use Rattle.answers.specs.declared.Refusal.{Refusal}
 use Rattle.answers.specs.declared.Refusal.TheVariants.{NoRoom as Refusal-as-NoRoom}
@@ -17,8 +17,8 @@ use Rattle.log_kept.specs.declared.Sorted.TheVariants.{Listed, NoRoom}
 
 -- an entry as the code judges it [I22 I23]
 abbrev pub judged : Option ℕ → LogEntry → KeptOrDropped
-judged none e = Kept e.0 e.1
-judged (some reason) e = Dropped reason
+judged None e = Kept e.0 e.1
+judged (Some reason) e = Dropped reason
 
 -- how many entries are kept, their bytes, and how many are dropped [I22 I25]
 abbrev pub counts : List ℕ → ℕ → Counts
@@ -30,8 +30,8 @@ unfoldable pub sort_refusal : List ℕ → List ℕ → Option Refusal
 sort_refusal file report = first_failing ((leb (entry_count file) (length report / 2), Refusal-as-NoRoom) ∷ [])
 
 abbrev pub sorted : Option Refusal → Counts → Sorted
-sorted none c = Listed c
-sorted (some refusal) c = NoRoom
+sorted None c = Listed c
+sorted (Some refusal) c = NoRoom
 
 -- [I25]
 abbrev pub sort_answer : List ℕ → List ℕ → Sorted

@@ -1,6 +1,6 @@
 -- The call that salvages a log, and what is promised of it over all files.
+use Rattle.std.specs.Prelude.{None, Option, Some}
 use Rattle.std.specs.Prelude.{◌≡◌, Bool, true, cond, ◌&&◌, ◌||◌, List, [], ◌∷◌, ℕ, zero, suc, ◌+◌, ◌*◌, ◌-◌, ◌/◌, ◌≤◌, leb, ltb, length, take}
-use Rattle.std.proofs.Math.Option.{Option, none, some}
 use Rattle.answers.specs.Refusals.{first_failing, unless_refused}
 use Rattle.answers.specs.declared.Refusal.{Refusal}
 use Rattle.answers.specs.declared.Refusal.TheVariants.{NoRoom, BadLogSize}
@@ -35,8 +35,8 @@ figures count r =
     }
 
 abbrev pub written_unless : Option Refusal → Figures → Salvaged
-written_unless none f = Written f
-written_unless (some refusal) f = Refused refusal
+written_unless None f = Written f
+written_unless (Some refusal) f = Refused refusal
 
 -- the bytes written and the figures of the report, or a refusal [I24-I28 I31]
 abbrev pub salvage_answer : List ℕ → List ℕ → List ℕ → Salvaged
@@ -68,10 +68,10 @@ bytes_in_none (suc n) i es = cond (in_none i es) 1 0 + bytes_in_none n (suc i) e
 -- What is promised of the call over all files.
 pub record Salvage : Type 0 where
   -- where it is not refused, what is written is a sound log, and no longer than the file [I24 I30]
-  pub sound : (file out report : List ℕ) → salvage_refusal file out report ≡ none
+  pub sound : (file out report : List ℕ) → salvage_refusal file out report ≡ None
       → Sound (take (length (salvaged file)) (salvage_out file out report)) × (length (salvaged file) ≤ length file)
   -- its segments are the kept ones, byte for byte as they stand in the file [I24]
-  pub unaltered : (file out report : List ℕ) → salvage_refusal file out report ≡ none → segments_in (salvaged file) ≡ kept_segments file
+  pub unaltered : (file out report : List ℕ) → salvage_refusal file out report ≡ None → segments_in (salvaged file) ≡ kept_segments file
   -- of the entries each is kept or dropped; the kept ones lie in the file behind the old index and do not overlap [I22 I23]
   pub each : (file : List ℕ) → length (kept_segments file) + length (dropped_in file) ≡ entry_count file
   -- [I22]
@@ -82,9 +82,9 @@ pub record Salvage : Type 0 where
       ≡ bytes_in_none (length file - segments_offset (entry_count file)) (segments_offset (entry_count file)) (kept_of file (entry_count file))
   -- a sound log is refused only for want of room; the same bytes are written, and there is nothing to report [I29]
   pub accepted : (file out report : List ℕ) → Sound file → length file ≤ length out → 2 * count_in file ≤ length report
-      → salvage_refusal file out report ≡ none
+      → salvage_refusal file out report ≡ None
   -- [I29]
   pub same : (file : List ℕ) → Sound file → (salvaged file ≡ file) × (report_of file ≡ empty_report)
   -- and so does whatever was written [I29]
-  pub again : (file out report : List ℕ) → salvage_refusal file out report ≡ none
+  pub again : (file out report : List ℕ) → salvage_refusal file out report ≡ None
       → (salvaged (salvaged file) ≡ salvaged file) × (report_of (salvaged file) ≡ empty_report)

@@ -7,7 +7,7 @@ ghost use Rattle.log_index.specs.Last.{index};
 ghost use Rattle.log_layout.specs.Log.{laid, numbers_of, segments_offset};
 ghost use Rattle.log_writer.specs.Writing.{sum, cut, directory_by, written, write_answer, write_out};
 
-use answers::{Answer, Refusal};
+use answers::Refusal;
 use log_index::INDEX_COUNT;
 use log_layout::{DIRECTORY, LOG_ENTRY, LOG_FRONT, LONGEST_FILE};
 
@@ -76,23 +76,23 @@ const MOST_SEGMENTS: usize = 536870782;
 
 // Writes the log of the segments whose bytes are joined in `bytes` and whose lengths are `lengths`. Refused, in this order: lengths
 // that do not add up to the bytes given, a file that would be too long, no room. A refusal writes nothing. [I11-I14 N15]
-pub fn write(bytes: &[u8], lengths: &[u32], out: &mut [u8]) -> Answer
+pub fn write(bytes: &[u8], lengths: &[u32], out: &mut [u8]) -> Result<usize, Refusal>
     ensures value { result ≡ write_answer bytes.now lengths.now out.old }
     ensures out_after { out.new ≡ write_out bytes.now lengths.now out.old }
 {
     if !adds_up(lengths, bytes.len()) {
-        return Answer::Refused(Refusal::BadLog);
+        return Err(Refusal::BadLog);
     }
     if MOST_SEGMENTS < lengths.len() {
-        return Answer::Refused(Refusal::BadLog);
+        return Err(Refusal::BadLog);
     }
     let first = LOG_FRONT + LOG_ENTRY * lengths.len();
     if LONGEST_FILE - first < bytes.len() {
-        return Answer::Refused(Refusal::BadLog);
+        return Err(Refusal::BadLog);
     }
     if out.len() < first + bytes.len() {
-        return Answer::Refused(Refusal::NoRoom);
+        return Err(Refusal::NoRoom);
     }
     put_log(out, bytes, lengths);
-    Answer::Count(first + bytes.len())
+    Ok(first + bytes.len())
 }

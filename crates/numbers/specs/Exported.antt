@@ -1,8 +1,8 @@
 -- Answers with more than a count as C gets them. A count or a refusal is one number of these, as `answers` has it.
+use Rattle.std.specs.Prelude.{Err, Ok}
 use Rattle.std.specs.Prelude.{cond, ℕ, ℤ, pos}
 use Rattle.answers.specs.Refusals.{number_of}
 use Rattle.answers.specs.Answers.{exported}
-use Rattle.answers.specs.declared.Answer.TheVariants.{Count, Refused as Answer-as-Refused}
 use Rattle.reader_core.specs.declared.Step.{Step}
 use Rattle.reader_core.specs.declared.StepEvent.{StepEvent}
 use Rattle.reader_core.specs.declared.StepEvent.TheVariants.{Packet, BadChecksum, Silent, Refused}
@@ -46,13 +46,13 @@ next_numbers Nothing = record { offset = 0; count = 0; next = 0; kind = 0; id = 
 
 -- the device's answer and the registered write that it leaves [G5]
 abbrev pub device_numbers : Replied → RegisteredWrite → DeviceNumbers
-device_numbers (Sent n slot) w = record { count = exported (Count n); slot = slot; registered = w }
-device_numbers (Replied-as-Refused refusal) w = record { count = exported (Answer-as-Refused refusal); slot = 0; registered = w }
+device_numbers (Sent n slot) w = record { count = exported (Ok n); slot = slot; registered = w }
+device_numbers (Replied-as-Refused refusal) w = record { count = exported (Err refusal); slot = 0; registered = w }
 
 -- of a call that sends nothing: 0, or minus the refusal number [D51 G5 N11]
 abbrev pub refusal_number : Replied → ℤ
 refusal_number (Sent n slot) = pos 0
-refusal_number (Replied-as-Refused refusal) = exported (Answer-as-Refused refusal)
+refusal_number (Replied-as-Refused refusal) = exported (Err refusal)
 
 -- with the reply that waits and the registered write [D50 G5]
 abbrev pub carried_numbers : Replied → Reply → RegisteredWrite → CarriedNumbers
@@ -62,16 +62,16 @@ carried_numbers answer reply w = record { refusal = refusal_number answer; reply
 abbrev pub found_numbers : Found → FoundNumbers
 found_numbers (At k p) = record { found = pos 1; segment = k; offset = p }
 found_numbers Nowhere = record { found = pos 0; segment = 0; offset = 0 }
-found_numbers (Found-as-Refused refusal) = record { found = exported (Answer-as-Refused refusal); segment = 0; offset = 0 }
+found_numbers (Found-as-Refused refusal) = record { found = exported (Err refusal); segment = 0; offset = 0 }
 
 -- the answer of the salvage: the bytes written and the figures of the report, or minus the refusal number and 0 in each [G5 I31 N11]
 abbrev pub salvaged_numbers : Salvaged → SalvagedNumbers
 salvaged_numbers (Written f) =
-    record { count = exported (Count f.count); dropped = f.dropped; index = f.index; leftover = f.leftover; header = cond f.header 1 0 }
-salvaged_numbers (Salvaged-as-Refused refusal) = record { count = exported (Answer-as-Refused refusal); dropped = 0; index = 0; leftover = 0; header = 0 }
+    record { count = exported (Ok f.count); dropped = f.dropped; index = f.index; leftover = f.leftover; header = cond f.header 1 0 }
+salvaged_numbers (Salvaged-as-Refused refusal) = record { count = exported (Err refusal); dropped = 0; index = 0; leftover = 0; header = 0 }
 
 -- what the test of a plan answers: 1 or 0, or minus the refusal number [G5 N11 W9]
 abbrev pub tested_number : Tested → ℤ
 tested_number Accepted = pos 1
 tested_number NotPlan = pos 0
-tested_number (Tested-as-Refused refusal) = exported (Answer-as-Refused refusal)
+tested_number (Tested-as-Refused refusal) = exported (Err refusal)

@@ -110,7 +110,7 @@ pub fn step(answer: Step) -> StepNumbers
         StepEvent::Refused(refusal) => StepNumbers {
             taken,
             count: 0,
-            kind: answers::number(refusal),
+            kind: u8::from(refusal),
             id: 0,
         },
     }

@@ -8,7 +8,7 @@ ghost use Rattle.packet_front.specs.Front.{header};
 ghost use Rattle.packet.specs.Packet.{body_of};
 ghost use Rattle.packet.specs.Verdict.{whole_answer};
 
-use answers::Answer;
+use answers::Refusal;
 use packet_rules::Verdict;
 use stuffing::Checked;
 
@@ -24,7 +24,7 @@ pub fn body(packet: &[u8]) -> &[u8]
 }
 
 // Writes the packet's body without its stuffing to the start of out; refused as `unstuff_into` is. [N3 N4 S7]
-pub fn unstuff(packet: &[u8], out: &mut [u8]) -> Answer
+pub fn unstuff(packet: &[u8], out: &mut [u8]) -> Result<usize, Refusal>
     ensures value { result ≡ removal_answer (body_of packet.now) out.old }
     ensures out_after { out.new ≡ removal_out (body_of packet.now) out.old }
 {

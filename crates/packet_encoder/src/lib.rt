@@ -8,7 +8,7 @@ ghost use Rattle.packet_front.specs.Front.{header};
 ghost use Rattle.packet_encoder.specs.Writing.{front, with_checksum, packet_of};
 ghost use Rattle.packet_encoder.specs.Encoding.{encode_answer, encode_out};
 
-use answers::{Answer, Refusal};
+use answers::Refusal;
 use stuffing_writer::Length;
 
 // Writes header, ID, length field and instruction, for a stuffed body of n bytes, to the start of out: as one array, so that the
@@ -59,26 +59,26 @@ fn write_packet(id: u8, instruction: u8, params: &[u8], n: usize, out: &mut [u8]
 // Writes the packet with this ID, instruction and parameters to out from `at` on. Refused, in this order: an ID that is not
 // allowed, a length field past 1,024, no room from `at` on (`at` may lie past the end). A refusal writes nothing.
 // [C4 N1 N2 N4 N10-N12 N14 P1-P9 S2]
-pub fn encode(id: u8, instruction: u8, params: &[u8], out: &mut [u8], at: usize) -> Answer
+pub fn encode(id: u8, instruction: u8, params: &[u8], out: &mut [u8], at: usize) -> Result<usize, Refusal>
     ensures value { result ≡ encode_answer id (instruction ∷ params.now) out.old at }
     ensures out_after { out.new ≡ encode_out id (instruction ∷ params.now) out.old at }
 {
     if !packet_front::good_id(id) {
-        return Answer::Refused(Refusal::BadId);
+        return Err(Refusal::BadId);
     }
     let Length::Within(n) = stuffing_writer::stuffed_len(
         instruction,
         params,
         packet_front::MAX_BODY,
     ) else {
-        return Answer::Refused(Refusal::TooLong);
+        return Err(Refusal::TooLong);
     };
     if out.len() < at {
-        return Answer::Refused(Refusal::NoRoom);
+        return Err(Refusal::NoRoom);
     }
     if out.len() - at < n + 9 {
-        return Answer::Refused(Refusal::NoRoom);
+        return Err(Refusal::NoRoom);
     }
     write_packet(id, instruction, params, n, &mut out[at..]);
-    Answer::Count(n + 9)
+    Ok(n + 9)
 }

@@ -8,7 +8,7 @@ ghost use Rattle.packet_v1.specs.Packet.{up_to, checksum_of};
 ghost use Rattle.packet_encoder_v1.specs.Writing.{packet_of};
 ghost use Rattle.packet_encoder_v1.specs.Encoding.{encode_answer, encode_out};
 
-use answers::{Answer, Refusal};
+use answers::Refusal;
 
 // Writes header, ID, length and instruction to the start of out.
 fn write_front(id: u8, count: u8, instruction: u8, out: &mut [u8])
@@ -44,23 +44,23 @@ fn write_packet(id: u8, instruction: u8, params: &[u8], out: &mut [u8])
 // Writes the packet with this ID, instruction or error byte and parameters to out from `at` on; the IDs of devices end with
 // `last`. Refused, in this order: an ID that is not allowed, a length past 255, no room from `at` on (`at` may lie past the end).
 // A refusal writes nothing. [N1 N2 N4 N10-N12 N14 O1-O5]
-pub fn encode(last: u8, id: u8, instruction: u8, params: &[u8], out: &mut [u8], at: usize) -> Answer
+pub fn encode(last: u8, id: u8, instruction: u8, params: &[u8], out: &mut [u8], at: usize) -> Result<usize, Refusal>
     ensures value { result ≡ encode_answer (up_to last) id (instruction ∷ params.now) out.old at }
     ensures out_after { out.new ≡ encode_out (up_to last) id (instruction ∷ params.now) out.old at }
 {
     if !packet_v1::good_id(last, id) {
-        return Answer::Refused(Refusal::BadId);
+        return Err(Refusal::BadId);
     }
     let n = params.len();
     if 253 < n {
-        return Answer::Refused(Refusal::TooLong);
+        return Err(Refusal::TooLong);
     }
     if out.len() < at {
-        return Answer::Refused(Refusal::NoRoom);
+        return Err(Refusal::NoRoom);
     }
     if out.len() - at < n + 6 {
-        return Answer::Refused(Refusal::NoRoom);
+        return Err(Refusal::NoRoom);
     }
     write_packet(id, instruction, params, &mut out[at..]);
-    Answer::Count(n + 6)
+    Ok(n + 6)
 }

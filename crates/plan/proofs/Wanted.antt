@@ -1,8 +1,8 @@
 -- Laws of the wanted goals.
+use Rattle.std.specs.Prelude.{None}
 use mathlib.Core.Path.{◌≡◌, refl}
 use mathlib.Core.Bool.{true, ◌&&◌}
 use mathlib.Core.List.{List, [], ◌∷◌}
-use mathlib.Core.Option.{none}
 use Prim.Native.Nat.{ℕ, zero, suc, ◌≤◌, ◌<◌}
 use native.Mathlib.Omega.{arith}
 use lib.Dec.{eqb}
@@ -30,13 +30,13 @@ goal_there [] id d e h = absurd (omega arith)
 goal_there (g ∷ goals) zero d e h = refl
 goal_there (g ∷ goals) (suc id) d e h = goal_there goals id d e (omega arith)
 
-pub goals_counted : (goals : List ℤ) → goals_refusal goals ≡ none → length goals ≡ 253
+pub goals_counted : (goals : List ℤ) → goals_refusal goals ≡ None → length goals ≡ 253
 unfolding goals_refusal
 goals_counted goals e = eqb-true (length goals) 253 (passed (eqb (length goals) 253) NotGoals _ e).0
 
-pub goals_within_lem : (goals : List ℤ) → goals_refusal goals ≡ none → goals_within goals ≡ true
+pub goals_within_lem : (goals : List ℤ) → goals_refusal goals ≡ None → goals_within goals ≡ true
 unfolding goals_refusal
-goals_within_lem goals e = (passed (goals_within goals) BadGoal none (passed (eqb (length goals) 253) NotGoals _ e).1).0
+goals_within_lem goals e = (passed (goals_within goals) BadGoal None (passed (eqb (length goals) 253) NotGoals _ e).1).0
 
 -- any number of the list; past it none is wanted
 pub within_at : (goals : List ℤ) (id : ℕ) → goals_within goals ≡ true → goal_within (get_or goals id unwanted) ≡ true

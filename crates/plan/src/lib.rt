@@ -5,7 +5,7 @@ ghost use Rattle.std.specs.Prelude.{◌≡◌};
 ghost use Rattle.answers.specs.Answers.{answered};
 ghost use Rattle.plan.specs.Goals.{goals_within, goals_refusal};
 
-use answers::{Answer, Refusal};
+use answers::Refusal;
 use packet_front::MAX_ID;
 use table_registers::{LAST_POSITION, REG_GOAL_POSITION, SIZE_GOAL_POSITION};
 
@@ -34,14 +34,14 @@ fn goals_within(goals: &[i32]) -> bool
 }
 
 // The refusals that the planner and the test of plans share, in this order. [W2]
-pub fn test_goals(goals: &[i32]) -> Answer
+pub fn test_goals(goals: &[i32]) -> Result<usize, Refusal>
     ensures { result ≡ answered (goals_refusal goals.now) 0 }
 {
     if goals.len() != IDS {
-        return Answer::Refused(Refusal::NotGoals);
+        return Err(Refusal::NotGoals);
     }
     if !goals_within(goals) {
-        return Answer::Refused(Refusal::BadGoal);
+        return Err(Refusal::BadGoal);
     }
-    Answer::Count(0)
+    Ok(0)
 }

@@ -1,16 +1,14 @@
 -- A well-formed packet's unstuffed body in a buffer of 1,022 bytes.
+use Rattle.std.specs.Prelude.{Err, None, Ok, Result}
 use mathlib.Core.Path.{◌≡◌, ap, ap₂, subst, ◌∙◌}
 use mathlib.Core.Bool.{Bool, true, false, not}
 use mathlib.Core.List.{List}
-use mathlib.Core.Option.{none}
 use Prim.Native.Nat.{ℕ, ◌≤◌}
 use native.Mathlib.Omega.{arith}
 use lib.IntN.{ℤ}
 use lib.ListN.{length, take, drop, length-append}
 use borrow.Author.Tests.{le-leb}
 use Rattle.answers.specs.declared.Refusal.{Refusal}
-use Rattle.answers.specs.declared.Answer.{Answer}
-use Rattle.answers.specs.declared.Answer.TheVariants.{Count, Refused}
 use Rattle.lists.specs.Write.{overwritten}
 use Rattle.lists.proofs.Write.{overwritten_take}
 use Rattle.stuffing.specs.Stuffing.{unstuff}
@@ -31,20 +29,20 @@ decided_not true P d e = let z : ◌≡◌ {A = ℕ} 0 1 = cc in absurd (omega a
 decided_not false P d e = d
 
 module _ (w buffer : List ℕ) (f : WellFormed w) (room : length buffer ≡ 1022) where
-  fits : removal_refusal (body_of w) buffer ≡ none
+  fits : removal_refusal (body_of w) buffer ≡ None
   unfolding removal_refusal
   fits =
       let b = packet_body_fits w f in
       rw (f.stuffed, le-leb (length (unstuff (body_of w))) (length buffer) (omega arith))
 
-  counts : (r : Answer) → r ≡ removal_answer (body_of w) buffer → r ≡ Count (length (unstuff (body_of w)))
+  counts : (r : Result ℕ Refusal) → r ≡ removal_answer (body_of w) buffer → r ≡ Ok (length (unstuff (body_of w)))
   counts r e = e ∙ rw fits
 
-  pub never_refused : (r : Answer) → r ≡ removal_answer (body_of w) buffer → (refusal : Refusal) → ¬ (r ≡ Refused refusal)
+  pub never_refused : (r : Result ℕ Refusal) → r ≡ removal_answer (body_of w) buffer → (refusal : Refusal) → ¬ (r ≡ Err refusal)
   never_refused r e refusal q = let h = counts r e in let z : ◌≡◌ {A = ℕ} 0 1 = cc in absurd (omega arith)
 
   -- the bytes that were counted are the body
-  pub body_taken : (r : Answer) (n : ℕ) (out : List ℕ) → r ≡ removal_answer (body_of w) buffer → r ≡ Count n
+  pub body_taken : (r : Result ℕ Refusal) (n : ℕ) (out : List ℕ) → r ≡ removal_answer (body_of w) buffer → r ≡ Ok n
       → out ≡ removal_out (body_of w) buffer → (n ≤ length out) × (take n out ≡ unstuff (body_of w))
   body_taken r n out e c o =
       let k : n ≡ length (unstuff (body_of w)) = cc (counts r e) in

@@ -1,6 +1,6 @@
 -- What the test of a plan answers.
+use Rattle.std.specs.Prelude.{None, Some}
 use Rattle.std.specs.Prelude.{◌≡◌, Bool, true, false, List, ℕ, ℤ}
-use Rattle.std.proofs.Math.Option.{none, some}
 use Rattle.plan.specs.Goals.{goals_refusal}
 use Rattle.plan.specs.Plan.{Plan}
 use Rattle.plan_check.specs.declared.Tested.{Tested}
@@ -13,6 +13,6 @@ SaysWhether false P = ¬ P
 
 -- the answer is a refusal where the goals are refused; else it says whether the bytes are a plan [W2 W9]
 abbrev pub TestSays : List ℤ → List ℕ → Tested → Type 0
-TestSays goals bytes Accepted = (goals_refusal goals ≡ none) × Plan goals bytes
-TestSays goals bytes NotPlan = (goals_refusal goals ≡ none) × (¬ Plan goals bytes)
-TestSays goals bytes (Refused refusal) = goals_refusal goals ≡ some refusal
+TestSays goals bytes Accepted = (goals_refusal goals ≡ None) × Plan goals bytes
+TestSays goals bytes NotPlan = (goals_refusal goals ≡ None) × (¬ Plan goals bytes)
+TestSays goals bytes (Refused refusal) = goals_refusal goals ≡ Some refusal

@@ -10,7 +10,7 @@ ghost use Rattle.plan.specs.Plan.{plan_head, Plan};
 ghost use Rattle.plan_check.specs.Checking.{fits, past, SomeFound, MarkSays, BodySays, PacketSays};
 ghost use Rattle.plan_check.specs.Tested.{SaysWhether, TestSays};
 
-use answers::{Answer, Refusal};
+use answers::Refusal;
 use device_parameters::OwnEntry;
 use packet_protocols::Protocol;
 use packet_rules::Verdict;
@@ -129,7 +129,7 @@ fn mark_packet(goals: &[i32], packet: &[u8], stood: &mut [u8]) -> bool
         return false;
     }
     let mut buffer = [0u8; packet_front::MAX_BODY];
-    let Answer::Count(n) = packet::unstuff(packet, &mut buffer) else {
+    let Ok(n) = packet::unstuff(packet, &mut buffer) else {
         return false;
     };
     let body: &[u8] = &buffer;
@@ -177,8 +177,8 @@ pub fn check(goals: &[i32], plan: &[u8]) -> Tested
     ensures { TestSays goals.now plan.now result }
 {
     match plan::test_goals(goals) {
-        Answer::Refused(refusal) => Tested::Refused(refusal),
-        Answer::Count(_) => {
+        Err(refusal) => Tested::Refused(refusal),
+        Ok(_) => {
             if is_plan(goals, plan) {
                 Tested::Accepted
             } else {

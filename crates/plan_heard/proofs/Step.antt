@@ -1,7 +1,7 @@
 -- What a device is after one packet of a plan.
+use Rattle.std.specs.Prelude.{None, Option}
 use mathlib.Core.Path.{◌≡◌, refl, sym, ap, subst, ◌∙◌}
 use mathlib.Core.List.{List, [], ◌∷◌, ◌++◌}
-use mathlib.Core.Option.{Option, none}
 use Prim.Native.Nat.{ℕ, ◌+◌, ◌≤◌}
 use native.Mathlib.Omega.{arith}
 use lib.ListN.{length, take, drop, length-append, length-take, length-drop, take-append-drop}
@@ -92,7 +92,7 @@ module _ (w : List ℕ) (g : GoalWrite w) where
       (with_head b g.head) (begins table r (drop 5 b) known)
 
   module _ (d : Device) (room : length (unstuff (body_of w)) ≤ length d.body) where
-    removed : removal_refusal (body_of w) d.body ≡ none
+    removed : removal_refusal (body_of w) d.body ≡ None
     unfolding removal_refusal
     removed = rw (g.well.stuffed, le-leb (length (unstuff (body_of w))) (length d.body) room)
 

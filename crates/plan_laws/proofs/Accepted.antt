@@ -1,10 +1,10 @@
 -- Our plans are accepted: what a device finds in the planner's packets.
+use Rattle.std.specs.Prelude.{None}
 use mathlib.Core.Path.{◌≡◌, refl, sym, ap, ap₂, subst, ◌∙◌}
 use mathlib.Core.Bool.{Bool, true, false, cond}
 use mathlib.Core.List.Memᴰ
 use mathlib.Core.List.{List, [], ◌∷◌, ◌++◌, append_assoc, Memᴰ}
 use mathlib.Core.Logic.{⊎_elim}
-use mathlib.Core.Option.{none}
 use Prim.Native.Nat.{ℕ, zero, suc, ◌+◌, ◌≤◌, ◌<◌}
 use native.Mathlib.Omega.{arith}
 use lib.Dec.{eqb}
@@ -235,7 +235,7 @@ all_write (suc steps) b (e ∷ es) r w m =
     (λ q. subst GoalWrite (sym q) (packet_writes b (take 203 (e ∷ es)) (rising_take 203 b (e ∷ es) r) (omega arith) (omega arith)))
     (λ i. all_write steps b (drop 203 (e ∷ es)) (rising_drop 203 b (e ∷ es) r) w i) (Memᴰ.cases_cons m)
 
-pub accepted : (goals : List ℤ) → goals_refusal goals ≡ none → Plan goals (plan_of goals)
+pub accepted : (goals : List ℤ) → goals_refusal goals ≡ None → Plan goals (plan_of goals)
 accepted goals e =
     let es = entries_from goals 0 in
     let n = goals_counted goals e in

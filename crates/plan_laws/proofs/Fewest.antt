@@ -1,8 +1,8 @@
 -- No plan has fewer packets than ours: a packet has goals for 203 IDs at the most.
+use Rattle.std.specs.Prelude.{None}
 use mathlib.Core.Path.{◌≡◌, refl, sym, ap, ◌∙◌}
 use mathlib.Core.Bool.{Bool, true, false, cond}
 use mathlib.Core.List.{List, [], ◌∷◌, Memᴰ}
-use mathlib.Core.Option.{none}
 use Prim.Native.Nat.{ℕ, zero, suc, ◌+◌, ◌*◌, ◌-◌, ◌≤◌, ◌<◌}
 use native.Mathlib.Omega.{arith}
 use lib.Dec.{leb, eqb}
@@ -133,7 +133,7 @@ entries_count (pos n ∷ goals) b =
 entries_count (negsuc n ∷ goals) b =
     sum_first (length goals) (λ i. length (goal_of (get_or (negsuc n ∷ goals) i unwanted))) ∙ omega (arith, entries_count goals (suc b))
 
-pub fewest : (goals : List ℤ) (bytes : List ℕ) → goals_refusal goals ≡ none → (plan : Plan goals bytes)
+pub fewest : (goals : List ℤ) (bytes : List ℕ) → goals_refusal goals ≡ None → (plan : Plan goals bytes)
     → length (plan_packets goals) ≤ length plan.packets
 fewest goals bytes e plan =
     let n = goals_counted goals e in

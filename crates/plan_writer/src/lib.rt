@@ -8,7 +8,7 @@ ghost use Rattle.plan.specs.Planner.{entries_from, entry_bytes, list_bytes, goal
 ghost use Rattle.plan.proofs.Packets.{Rising};
 ghost use Rattle.plan_writer.specs.Filling.{entries_at};
 
-use answers::{Answer, Refusal};
+use answers::Refusal;
 
 // The most entries that a packet holds: 5 bytes each behind instruction, address and length, in a body of 1,022; and the parameters
 // of such a packet.
@@ -90,7 +90,7 @@ fn write_packet(goals: &[i32], from: usize, k: usize, out: &mut [u8], at: usize)
     let mut params = [0u8; MOST_PARAMS];
     let next = write_params(goals, from, k, &mut params);
     let written: &[u8] = &params;
-    packet_encoder::encode(
+    let _ = packet_encoder::encode(
         packet_front::BROADCAST_ID,
         device_codes::INST_SYNC_WRITE,
         &written[..4 + 5 * k],
@@ -118,19 +118,19 @@ fn write_packets(goals: &[i32], n: usize, out: &mut [u8])
 
 // Writes the plan of the wanted goals to the start of out. Refused, in this order: a list that is not 253 long, a number below -1 or
 // above 4,095, no room. A refusal writes nothing. [N4 N12 N14 W1 W2 W6 W7]
-pub fn write_plan(goals: &[i32], out: &mut [u8]) -> Answer
+pub fn write_plan(goals: &[i32], out: &mut [u8]) -> Result<usize, Refusal>
     ensures value { result ≡ plan_answer goals.now out.old }
     ensures out_after { out.new ≡ plan_out goals.now out.old }
 {
     let tested = plan::test_goals(goals);
-    let Answer::Count(_) = tested else {
+    let Ok(_) = tested else {
         return tested;
     };
     let n = count_wanted(goals);
     let size = 14 * ((n + 202) / MOST) + 5 * n;
     if out.len() < size {
-        return Answer::Refused(Refusal::NoRoom);
+        return Err(Refusal::NoRoom);
     }
     write_packets(goals, n, out);
-    Answer::Count(size)
+    Ok(size)
 }

@@ -1,7 +1,7 @@
 -- What the parts of a call come to is what the call answers and leaves, once the buffers' ends are cleared.
+use Rattle.std.specs.Prelude.{None, Option, Some}
 use mathlib.Core.Path.{◌≡◌, refl, sym, ap, ap₂, ◌∙◌}
 use mathlib.Core.List.{List, ◌++◌}
-use mathlib.Core.Option.{Option, none, some}
 use Prim.Native.Nat.{ℕ, ◌-◌, ◌≤◌, ◌<◌}
 use native.Mathlib.Omega.{arith}
 use borrow.Author.Tests.{le-leb}
@@ -49,11 +49,11 @@ some_room One = omega arith
 some_room Mercury = omega arith
 
 -- the buffer's ID is the packet's, which has so many bytes
-event_is : (p : Protocol) (a : Option Event) (bytes : List ℕ) → ((w : List ℕ) → a ≡ some (packet w) → (rules_of p).WellFormed w)
+event_is : (p : Protocol) (a : Option Event) (bytes : List ℕ) → ((w : List ℕ) → a ≡ Some (packet w) → (rules_of p).WellFormed w)
     → take (length (packet_bytes a)) bytes ≡ packet_bytes a → event_with (id_in p bytes) a ≡ event_for p a
-event_is p none bytes g b = refl
-event_is p (some (bad_checksum id)) bytes g b = refl
-event_is p (some (packet w)) bytes g b =
+event_is p None bytes g b = refl
+event_is p (Some (bad_checksum id)) bytes g b = refl
+event_is p (Some (packet w)) bytes g b =
     let h = id_inside p w (g w refl) in
     let e : id_in p bytes ≡ id_in p w =
     sym (id_at_lem p bytes) ∙ sym (get_or-take (length w) bytes (id_offset p) 0 h) ∙ ap (λ (s : List ℕ). get_or s (id_offset p) 0) b ∙ id_at_lem p w in

@@ -1,7 +1,7 @@
 -- A step says what the result says, once the event's bytes and the held ones stand in their buffers.
+use Rattle.std.specs.Prelude.{None, Option, Some}
 use mathlib.Core.Path.{◌≡◌, refl, sym, ap, ap₂, subst, ◌∙◌}
 use mathlib.Core.List.{List}
-use mathlib.Core.Option.{Option, none, some}
 use Prim.Native.Nat.{ℕ, ◌+◌, ◌-◌, ◌≤◌}
 use native.Mathlib.Omega.{arith}
 use lib.ListN.{length, take, drop, length-drop}
@@ -37,9 +37,9 @@ front old new buffer n e l = ap (λ (b : List ℕ). take n b) e ∙ take_at new 
 -- ---- the event
 
 pub size_is : (id : ℕ) (a : Option Event) → size_in (event_with id a) ≡ length (packet_bytes a)
-size_is id none = refl
-size_is id (some (packet w)) = refl
-size_is id (some (bad_checksum id')) = refl
+size_is id None = refl
+size_is id (Some (packet w)) = refl
+size_is id (Some (bad_checksum id')) = refl
 
 module _ (p : Protocol) (src : List ℕ) (v : Scanned) (old bytes : List ℕ) where
   abbrev Reports : StepEvent → Type 0
@@ -74,7 +74,7 @@ module _ (p : Protocol) (src : List ℕ) (v : Scanned) (old bytes : List ℕ) wh
 answer_within : (src : List ℕ) (end : ℕ) (v : Scanned) → on_from v ≤ end → end ≤ length src
     → answer_of (take end src) v ≡ answer_of src v
 answer_within src end (Seen-as-Packet at n) h k =
-    ap (λ (w : List ℕ). some (packet w))
+    ap (λ (w : List ℕ). Some (packet w))
     (ap (λ (l : List ℕ). take n l) (sym (part_is at end src (omega arith) (omega arith)))
     ∙ take-take n (end - at) (drop at src) (omega arith))
 answer_within src end (Seen-as-BadChecksum at id) h k = refl

@@ -1,6 +1,6 @@
 -- What the parts of a call come to before the buffers' ends are cleared.
+use Rattle.std.specs.Prelude.{None, Option, Some}
 use Rattle.std.specs.Prelude.{◌≡◌, List, ℕ, ◌+◌, ◌≤◌, length, take, drop}
-use Rattle.std.proofs.Math.Option.{Option, none, some}
 use Rattle.reading.specs.Reading.{Event, packet, bad_checksum}
 use Rattle.reading.specs.Calls.{CallResult}
 use Rattle.packet_protocols.specs.declared.Protocol.{Protocol}
@@ -12,9 +12,9 @@ use Rattle.reader_core.specs.Results.{packet_bytes}
 
 -- the event, where a packet's ID is read from its buffer
 abbrev pub event_with : ℕ → Option Event → StepEvent
-event_with id (some (packet w)) = Packet id (length w)
-event_with _ (some (bad_checksum id)) = BadChecksum id
-event_with _ none = Silent
+event_with id (Some (packet w)) = Packet id (length w)
+event_with _ (Some (bad_checksum id)) = BadChecksum id
+event_with _ None = Silent
 
 -- the byte count of the event's packet
 abbrev pub size_in : StepEvent → ℕ

@@ -1,7 +1,7 @@
 -- What a feeding or gap call answers, by the result of the rules, and what it leaves of the bytes that are lent to it. `count` is
 -- how many of the lent bytes are held; a count above what can be held is refused, and a refusal leaves everything as it was.
+use Rattle.std.specs.Prelude.{None, Option, Some}
 use Rattle.std.specs.Prelude.{cond, List, [], ◌++◌, ℕ, ◌+◌, ◌-◌, min, leb, length, drop, replicate}
-use Rattle.std.proofs.Math.Option.{Option, none, some}
 use Rattle.answers.specs.declared.Refusal.TheVariants.{BadReader}
 use Rattle.lists.specs.Write.{overwritten, padded}
 use Rattle.reading.specs.Reading.{Event, packet, bad_checksum}
@@ -18,15 +18,15 @@ most_held p = (rules_of p).longest - 1
 
 -- a packet with its ID and its byte count, a bad checksum with its ID, or no event (of a gap call: nothing is left) [F9 K5]
 abbrev pub event_for : Protocol → Option Event → StepEvent
-event_for p (some (packet w)) = Packet (id_in p w) (length w)
-event_for p (some (bad_checksum id)) = BadChecksum id
-event_for p none = Silent
+event_for p (Some (packet w)) = Packet (id_in p w) (length w)
+event_for p (Some (bad_checksum id)) = BadChecksum id
+event_for p None = Silent
 
 -- the packet's bytes as received, none beside any other answer [F9 F10]
 abbrev pub packet_bytes : Option Event → List ℕ
-packet_bytes (some (packet w)) = w
-packet_bytes (some (bad_checksum id)) = []
-packet_bytes none = []
+packet_bytes (Some (packet w)) = w
+packet_bytes (Some (bad_checksum id)) = []
+packet_bytes None = []
 
 -- the answer: how many bytes were taken, how many are held then, and the event [F2 F16 N9 N11]
 abbrev pub step_for : Protocol → ℕ → CallResult → Step

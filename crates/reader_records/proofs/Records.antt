@@ -1,7 +1,7 @@
 -- The records keep to the rules, so demand 3 holds of them; from a fresh one on no call is refused.
+use Rattle.std.specs.Prelude.{None, Option, Some}
 use mathlib.Core.Path.{◌≡◌, refl, sym, ap, ◌∙◌}
 use mathlib.Core.List.{List, [], ◌∷◌}
-use mathlib.Core.Option.{Option, none, some}
 use Prim.Native.Nat.{ℕ, ◌-◌, ◌≤◌}
 use native.Mathlib.Omega.{arith}
 use borrow.Author.Tests.{le-leb, eq-eqb}
@@ -66,19 +66,19 @@ module _ (p : Protocol) (r : Reader) (c : Call) (h : r.count ≤ most_held p) wh
   event_answered = rw (step_is, packet_padded (replicate (rules_of p).longest 0)) (by result.answer)
     where
       by : (a : Option Event) → event_in p (event_for p a) (padded (rules_of p).longest (packet_bytes a)) ≡ a
-      by none = refl
-      by (some (packet w)) =
+      by None = refl
+      by (Some (packet w)) =
           let e : take (length w) (padded (rules_of p).longest w) ≡ w = take_at w (replicate ((rules_of p).longest - length w) 0) (length w) refl in
           rw (e, eq-eqb (id_in p w) (id_in p w) refl)
-      by (some (bad_checksum id)) = refl
+      by (Some (bad_checksum id)) = refl
 
   no_refusal : (refusal : Refusal) → ¬ ((step_in p r c).event ≡ Refused refusal)
   no_refusal refusal e = by result.answer (rw step_is at e)
     where
       by : (a : Option Event) → ¬ (event_for p a ≡ Refused refusal)
-      by none e = let z : ◌≡◌ {A = ℕ} 0 1 = cc in omega arith
-      by (some (packet w)) e = let z : ◌≡◌ {A = ℕ} 0 1 = cc in omega arith
-      by (some (bad_checksum id)) e = let z : ◌≡◌ {A = ℕ} 0 1 = cc in omega arith
+      by None e = let z : ◌≡◌ {A = ℕ} 0 1 = cc in omega arith
+      by (Some (packet w)) e = let z : ◌≡◌ {A = ℕ} 0 1 = cc in omega arith
+      by (Some (bad_checksum id)) e = let z : ◌≡◌ {A = ℕ} 0 1 = cc in omega arith
 
 -- ---- lists of calls
 

@@ -1,7 +1,7 @@
 -- The reader's record and the calls on it, and demand 3 over lists of these calls. The contracts of `feed` and `gap`, and of the
 -- exports to C, cite `step_on` and `left_by`, of which the reader `records` is made.
+use Rattle.std.specs.Prelude.{None, Option, Some}
 use Rattle.std.specs.Prelude.{◌≡◌, cond, List, ℕ, ◌≤◌, eqb, length, take, replicate}
-use Rattle.std.proofs.Math.Option.{Option, none, some}
 use Rattle.answers.specs.declared.Refusal.{Refusal}
 use Rattle.reading.specs.Reading.{Event, packet, bad_checksum}
 use Rattle.reading.specs.Calls.{Call, call}
@@ -51,10 +51,10 @@ packet_on r c old = packet_in Two r c old
 -- the event that an answer gives, beside the packet buffer: the bytes of a packet, where the answer has their ID, or the ID of a
 -- bad checksum [F9 Q5]
 abbrev pub event_in : Protocol → StepEvent → List ℕ → Option Event
-event_in p (Packet id n) bytes = cond (eqb id (id_in p (take n bytes))) (some (packet (take n bytes))) none
-event_in p (BadChecksum id) bytes = some (bad_checksum id)
-event_in p Silent bytes = none
-event_in p (Refused refusal) bytes = none
+event_in p (Packet id n) bytes = cond (eqb id (id_in p (take n bytes))) (Some (packet (take n bytes))) None
+event_in p (BadChecksum id) bytes = Some (bad_checksum id)
+event_in p Silent bytes = None
+event_in p (Refused refusal) bytes = None
 
 -- The records as a reader, of which demand 3 is promised: a fresh one is any with count 0, whatever lies past it. Each list of
 -- calls keeps to one protocol. [F1 F2 O15 Q1]

@@ -1,11 +1,10 @@
 -- What the functions of this crate answer and leave.
+use Rattle.std.specs.Prelude.{Option, Result}
 use Rattle.std.specs.Prelude.{cond, List, [], ◌∷◌, ℕ, leb, length}
-use Rattle.std.proofs.Math.Option.{Option}
 use Rattle.answers.specs.Refusals.{first_failing, unless_refused}
 use Rattle.answers.specs.Answers.{answered}
 use Rattle.answers.specs.declared.Refusal.{Refusal}
 use Rattle.answers.specs.declared.Refusal.TheVariants.{BadStuffing, NoRoom}
-use Rattle.answers.specs.declared.Answer.{Answer}
 use Rattle.lists.specs.Write.{overwritten}
 use Rattle.stuffing.specs.Stuffing.{well_stuffed, unstuff}
 use Rattle.stuffing.specs.declared.Checked.{Checked}
@@ -23,7 +22,7 @@ removal_refusal body out =
     ∷ [])
 
 -- [S8]
-abbrev pub removal_answer : List ℕ → List ℕ → Answer
+abbrev pub removal_answer : List ℕ → List ℕ → Result ℕ Refusal
 removal_answer body out = answered (removal_refusal body out) (length (unstuff body))
 
 -- the bytes after the result stay [S8-S10]

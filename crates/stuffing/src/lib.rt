@@ -6,7 +6,7 @@ ghost use Rattle.lists.specs.Write.{overwritten};
 ghost use Rattle.stuffing.specs.Stuffing.{mark_at, well_stuffed, unstuff, NoFd};
 ghost use Rattle.stuffing.specs.Answers.{checked, removal_answer, removal_out};
 
-use answers::{Answer, Refusal};
+use answers::Refusal;
 
 // Whether a body is well stuffed, and its unstuffed byte count.
 #[derive(Clone, Copy)]
@@ -116,20 +116,20 @@ fn write_unstuffed(body: &[u8], out: &mut [u8])
 
 // Writes the body without its stuffing to the start of out. Refused, in this order: a body that is not well stuffed, a buffer
 // without room. A refusal writes nothing. A body that has no stuffing is copied. [N3 N4 N10-N12 N14 S6-S11]
-pub fn unstuff_into(body: &[u8], out: &mut [u8]) -> Answer
+pub fn unstuff_into(body: &[u8], out: &mut [u8]) -> Result<usize, Refusal>
     ensures value { result ≡ removal_answer body.now out.old }
     ensures out_after { out.new ≡ removal_out body.now out.old }
 {
     let Checked::Good(n) = check(body) else {
-        return Answer::Refused(Refusal::BadStuffing);
+        return Err(Refusal::BadStuffing);
     };
     if out.len() < n {
-        return Answer::Refused(Refusal::NoRoom);
+        return Err(Refusal::NoRoom);
     }
     if n == body.len() {
         buffers::place(out, 0, body);
     } else {
         write_unstuffed(body, out);
     }
-    Answer::Count(n)
+    Ok(n)
 }

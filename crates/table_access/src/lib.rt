@@ -8,7 +8,7 @@ ghost use Rattle.table_rules.specs.Rules.{read_rule, write_rule};
 ghost use Rattle.table_rules.specs.Outcomes.{refusal_of, in_table, size_refusal};
 ghost use Rattle.table_access.specs.Answers.{fresh_out, measure_out, read_bytes, write_out};
 
-use answers::{Answer, Refusal};
+use answers::Refusal;
 use table_registers::{
     FRESH_BAUD_CODE, FRESH_FIRMWARE_VERSION, FRESH_ID, FRESH_MAX_POSITION, FRESH_MODEL_NUMBER,
     FRESH_STATUS_RETURN_LEVEL, MAX_DATA, PERMITS_READ, REG_BAUD_CODE, REG_FIRMWARE_VERSION,
@@ -77,12 +77,12 @@ pub fn read(table: &[u8], address: u16, count: u16) -> Reading
 }
 
 // The table as it comes from the factory: each register has its fresh value, undefined bytes are 0. [N5 N12 N13 T4]
-pub fn fresh(table: &mut [u8]) -> Answer
+pub fn fresh(table: &mut [u8]) -> Result<usize, Refusal>
     ensures value { result ≡ answered (size_refusal table.old) 0 }
     ensures table_after { table.new ≡ fresh_out table.old }
 {
     if table.len() != TABLE_BYTES {
-        return Answer::Refused(Refusal::NotATable);
+        return Err(Refusal::NotATable);
     }
     buffers::clear(table, 0);
     table[REG_MODEL_NUMBER] = (FRESH_MODEL_NUMBER % 256) as u8;
@@ -93,16 +93,16 @@ pub fn fresh(table: &mut [u8]) -> Answer
     table[REG_MAX_POSITION] = (FRESH_MAX_POSITION % 256) as u8;
     table[REG_MAX_POSITION + 1] = (FRESH_MAX_POSITION / 256) as u8;
     table[REG_STATUS_RETURN_LEVEL] = FRESH_STATUS_RETURN_LEVEL;
-    Answer::Count(0)
+    Ok(0)
 }
 
 // The measurement call: present position and hardware error. [N5 N12 N13 T3 T5]
-pub fn measure(table: &mut [u8], position: i32, error: u8) -> Answer
+pub fn measure(table: &mut [u8], position: i32, error: u8) -> Result<usize, Refusal>
     ensures value { result ≡ answered (size_refusal table.old) 0 }
     ensures table_after { table.new ≡ measure_out table.old position error }
 {
     if table.len() != TABLE_BYTES {
-        return Answer::Refused(Refusal::NotATable);
+        return Err(Refusal::NotATable);
     }
     let bytes = buffers::bytes_of(table_items::unsigned_of(position) as usize);
     table[REG_PRESENT_POSITION] = bytes[0];
@@ -110,5 +110,5 @@ pub fn measure(table: &mut [u8], position: i32, error: u8) -> Answer
     table[REG_PRESENT_POSITION + 2] = bytes[2];
     table[REG_PRESENT_POSITION + 3] = bytes[3];
     table[REG_HARDWARE_ERROR] = error;
-    Answer::Count(0)
+    Ok(0)
 }

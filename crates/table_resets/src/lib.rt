@@ -6,7 +6,7 @@ ghost use Rattle.answers.specs.Answers.{answered};
 ghost use Rattle.table_rules.specs.Outcomes.{size_refusal, on_table};
 ghost use Rattle.table_resets.specs.Resets.{rebooted, reset_rom, keeping};
 
-use answers::{Answer, Refusal};
+use answers::Refusal;
 use table_registers::{
     FRESH_BAUD_CODE, FRESH_ID, FRESH_MAX_POSITION, FRESH_STATUS_RETURN_LEVEL, REG_BAUD_CODE,
     REG_GOAL_POSITION, REG_GOAL_VELOCITY, REG_HARDWARE_ERROR, REG_HOMING_OFFSET, REG_ID, REG_LAMP,
@@ -15,12 +15,12 @@ use table_registers::{
 };
 
 // RAM items fresh, present position as it was, min position as the goal.
-pub fn reboot(table: &mut [u8]) -> Answer
+pub fn reboot(table: &mut [u8]) -> Result<usize, Refusal>
     ensures value { result ≡ answered (size_refusal table.old) 0 }
     ensures table_after { table.new ≡ on_table table.old (rebooted table.old) }
 {
     if table.len() != TABLE_BYTES {
-        return Answer::Refused(Refusal::NotATable);
+        return Err(Refusal::NotATable);
     }
     let a = table[REG_MIN_POSITION];
     let b = table[REG_MIN_POSITION + 1];
@@ -39,7 +39,7 @@ pub fn reboot(table: &mut [u8]) -> Answer
     table[REG_GOAL_POSITION + 1] = b;
     table[REG_GOAL_POSITION + 2] = c;
     table[REG_GOAL_POSITION + 3] = d;
-    Answer::Count(0)
+    Ok(0)
 }
 
 // The byte where it is kept, the fresh one where it is not.
@@ -50,12 +50,12 @@ fn kept_or(keeps: bool, byte: u8, fresh: u8) -> u8
 }
 
 // Factory Reset: homing offset and both limits fresh, and of ID and baud code what is not kept.
-pub fn reset_rom(table: &mut [u8], keeps_id: bool, keeps_baud: bool) -> Answer
+pub fn reset_rom(table: &mut [u8], keeps_id: bool, keeps_baud: bool) -> Result<usize, Refusal>
     ensures value { result ≡ answered (size_refusal table.old) 0 }
     ensures table_after { table.new ≡ on_table table.old (reset_rom (keeping keeps_id keeps_baud) table.old) }
 {
     if table.len() != TABLE_BYTES {
-        return Answer::Refused(Refusal::NotATable);
+        return Err(Refusal::NotATable);
     }
     table[REG_ID] = kept_or(keeps_id, table[REG_ID], FRESH_ID);
     table[REG_BAUD_CODE] = kept_or(keeps_baud, table[REG_BAUD_CODE], FRESH_BAUD_CODE);
@@ -71,5 +71,5 @@ pub fn reset_rom(table: &mut [u8], keeps_id: bool, keeps_baud: bool) -> Answer
     table[REG_MIN_POSITION + 1] = 0;
     table[REG_MIN_POSITION + 2] = 0;
     table[REG_MIN_POSITION + 3] = 0;
-    Answer::Count(0)
+    Ok(0)
 }

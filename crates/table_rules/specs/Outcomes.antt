@@ -1,6 +1,6 @@
 -- What becomes of a read or a write, as a number of RULES.
+use Rattle.std.specs.Prelude.{None, Option, Some}
 use Rattle.std.specs.Prelude.{Bool, true, false, cond, List, [], ◌∷◌, ℕ, eqb, length}
-use Rattle.std.proofs.Math.Option.{Option, none, some}
 use Rattle.answers.specs.Refusals.{number_of, first_failing, unless_refused}
 use Rattle.answers.specs.declared.Refusal.{Refusal}
 use Rattle.answers.specs.declared.Refusal.TheVariants.{NotATable}
@@ -10,12 +10,12 @@ use Rattle.table_rules.specs.declared.Outcome.TheVariants.{Done, DataRange, Data
 
 -- the numbers of the outcomes: error numbers of a status packet, and 21, which is the caller's fault [K5 N5 N11]
 abbrev pub refusal_of : Outcome → Option ℕ
-refusal_of Done = none
-refusal_of DataRange = some 0x04
-refusal_of DataLength = some 0x05
-refusal_of DataLimit = some 0x06
-refusal_of NoAccess = some 0x07
-refusal_of NotTable = some (number_of NotATable)
+refusal_of Done = None
+refusal_of DataRange = Some 0x04
+refusal_of DataLength = Some 0x05
+refusal_of DataLimit = Some 0x06
+refusal_of NoAccess = Some 0x07
+refusal_of NotTable = Some (number_of NotATable)
 
 -- [K5]
 abbrev pub is_done : Outcome → Bool
@@ -29,7 +29,7 @@ is_done NotTable = false
 -- A table of another size is refused before anything else, and stays as it is: every function on a table goes by these.
 -- [N5 N13]
 abbrev pub in_table : List ℕ → Option ℕ → Option ℕ
-in_table table next = cond (eqb (length table) table_size) next (some (number_of NotATable))
+in_table table next = cond (eqb (length table) table_size) next (Some (number_of NotATable))
 
 -- the refusal of a change that any table takes [N5 N13]
 abbrev pub size_refusal : List ℕ → Option Refusal

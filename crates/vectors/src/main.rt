@@ -8,7 +8,7 @@
 // Before the first device the control table is all 0.
 #![tactic(auto)]
 
-use answers::Answer;
+use answers::Refusal;
 use device::Replied;
 use device_instructions::RegisteredWrite;
 use device_status::{MIN_REPLY, Reply};
@@ -77,14 +77,14 @@ fn print_reply(rt: &impl Print, reply: Reply) {
     let mut out = [0u8; MIN_REPLY];
     let slot = reply.slot;
     match device_status::send(reply, &mut out) {
-        Answer::Count(n) => {
+        Ok(n) => {
             if n == 0 {
                 print_silence(rt);
             } else {
                 print_status(rt, slot, first(&out, n));
             }
         }
-        Answer::Refused(_) => print_refusal(rt),
+        Err(_) => print_refusal(rt),
     }
 }
 
@@ -128,10 +128,10 @@ fn answer(
     kept
 }
 
-fn unstuffed(got: Answer) -> usize {
+fn unstuffed(got: Result<usize, Refusal>) -> usize {
     match got {
-        Answer::Count(n) => n,
-        Answer::Refused(_) => 0,
+        Ok(n) => n,
+        Err(_) => 0,
     }
 }
 
@@ -241,8 +241,8 @@ fn hear_segment(
 
 fn new_device(rt: &impl Print, table: &mut [u8; TABLE_BYTES], id: u8, low: u8, high: u8) {
     let position = (low as u16) + (high as u16) * 256;
-    table_access::fresh(table);
-    table_access::measure(table, position as i32, 0);
+    let _ = table_access::fresh(table);
+    let _ = table_access::measure(table, position as i32, 0);
     table[7] = id;
     print_device(rt, id, position as u64);
 }

@@ -1,6 +1,6 @@
+use Rattle.std.specs.Prelude.{None}
 use mathlib.Core.Path.{◌≡◌, sym, ap, ◌∙◌}
 use mathlib.Core.Bool.{true, false}
-use mathlib.Core.Option.{none}
 use Prim.Native.Nat.{ℕ}
 use native.Mathlib.Omega.{arith}
 use lib.ListN.{length}
@@ -22,7 +22,7 @@ returns-then-number-ne0 c =
     c.args.packet.now c.refusal-number.result c.refusal-number.ensures c.if-number-ne0.true c.idle_step.result c.idle_step.ensures in record { value = both.0; count_after = both.1 }
 
 -- nothing is refused
-ok : (u : After-gap_lean-step) → board_refusal (board_of (lent u.args.held.now u.args.count.now) u.args.table.now u.args.registered) ≡ none
+ok : (u : After-gap_lean-step) → board_refusal (board_of (lent u.args.held.now u.args.count.now) u.args.table.now u.args.registered) ≡ None
 ok u =
     never_0 (board_of (lent u.args.held.now u.args.count.now) u.args.table.now u.args.registered)
     (sym u.refusal-number.ensures ∙ u.if-number-ne0.false)

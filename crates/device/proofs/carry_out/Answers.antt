@@ -1,5 +1,5 @@
+use Rattle.std.specs.Prelude.{None}
 use mathlib.Core.Path.{◌≡◌, ap, ◌∙◌}
-use mathlib.Core.Option.{none}
 use Rattle.device.specs.Answers.{state_refusal}
 use Rattle.device.specs.declared.CarriedOut.{CarriedOut}
 use Rattle.device.proofs.Calls.{state_accepted, fault_answered, no_fault}
@@ -20,7 +20,7 @@ returns-in_default c =
 
 -- nothing is refused, once the match is passed
 passes : (t : In-Sent) → let a = t.args in
-    state_refusal a.table.now a.registered ≡ none
+    state_refusal a.table.now a.registered ≡ None
 passes t =
     let a = t.args in
     let i = t.state_refusal-refused in

@@ -1,5 +1,6 @@
+use Rattle.std.specs.Prelude.{Result}
+use Rattle.answers.specs.declared.Refusal.{Refusal}
 use mathlib.Core.Path.{ap, ◌∙◌}
-use Rattle.answers.specs.declared.Answer.{Answer}
 use Rattle.device.specs.Answers.{with_slot}
 use Rattle.device.proofs.send.Goals as goal
 
@@ -7,6 +8,6 @@ pub returns : goal.returns
 returns c =
     let slot = c.args.reply.slot in
     record {
-      value = c.with_slot.ensures ∙ ap (λ (x : Answer). with_slot x slot) c.send.ensures.value;
+      value = c.with_slot.ensures ∙ ap (λ (x : Result ℕ Refusal). with_slot x slot) c.send.ensures.value;
       out_after = c.send.ensures.out_after;
     }

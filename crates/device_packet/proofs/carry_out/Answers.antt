@@ -10,7 +10,7 @@ use Rattle.device_packet.specs.Exchange.{Message}
 use Rattle.device_packet.proofs.Hearing.{unstuffed, first_count, message_is, first_answered, silences_first, keeps_first, leaves_first}
 use borrow.Author.Rules.{rules}
 use Rattle.device_packet.proofs.carry_out.Goals as goal
-use Rattle.device_packet.proofs.carry_out.Goals.{In-Count}
+use Rattle.device_packet.proofs.carry_out.Goals.{In-Ok}
 
 pub returns-in_default : goal.returns-in_default
 returns-in_default c =
@@ -26,35 +26,35 @@ returns-in_default c =
     }
 
 -- the removal is done
-gone : (t : In-Count) → let a = t.args in
-    Removed (body_of a.packet.now) a.body.now t.in-Count.n
-gone t = removed _ _ _ (sym t.unstuff.ensures.value ∙ t.in-Count.is)
+gone : (t : In-Ok) → let a = t.args in
+    Removed (body_of a.packet.now) a.body.now t.in-Ok.n
+gone t = removed _ _ _ (sym t.unstuff.ensures.value ∙ t.in-Ok.is)
 
 pub id_heard-id-requires : goal.id_heard-id-requires
 id_heard-id-requires c = (gone c).well
 
 pub slice_bounds-carry_out-end : goal.slice_bounds-carry_out-end
-slice_bounds-carry_out-end c = let r = (gone (goal.at.slice_bounds-carry_out-end c).In-Count).room in search rules
+slice_bounds-carry_out-end c = let r = (gone (goal.at.slice_bounds-carry_out-end c).In-Ok).room in search rules
 
-pub slice_bounds-carry_out-end-in-Count : goal.slice_bounds-carry_out-end-in-Count
-slice_bounds-carry_out-end-in-Count c = first_count _ _ _ (gone (goal.at.slice_bounds-carry_out-end-in-Count c).In-Count) _ c.unstuff.ensures.out_after
+pub slice_bounds-carry_out-end-in-Ok : goal.slice_bounds-carry_out-end-in-Ok
+slice_bounds-carry_out-end-in-Ok c = first_count _ _ _ (gone (goal.at.slice_bounds-carry_out-end-in-Ok c).In-Ok) _ c.unstuff.ensures.out_after
 
-pub returns-in-Refused : goal.returns-in-Refused
-returns-in-Refused c =
+pub returns-in-Err : goal.returns-in-Err
+returns-in-Err c =
     let a = c.args in
-    let e = refused (removal_refusal (body_of a.packet.now) a.body.now) _ _ (sym c.unstuff.ensures.value ∙ c.in-Refused.is) in
+    let e = refused (removal_refusal (body_of a.packet.now) a.body.now) _ _ (sym c.unstuff.ensures.value ∙ c.in-Err.is) in
     record {
       refused_value = rw e;
-      reply_value = rw e c.silence-in-Refused.ensures;
+      reply_value = rw e c.silence-in-Err.ensures;
       registered_value = rw e;
       table_after = rw e;
       body_after = rw e (rw e at c.unstuff.ensures.out_after);
     }
 
-pub returns-in-Count : goal.returns-in-Count
-returns-in-Count c =
+pub returns-in-Ok : goal.returns-in-Ok
+returns-in-Ok c =
     let a = c.args in
-    let g = gone (goal.at.returns-in-Count c).In-Count in
+    let g = gone (goal.at.returns-in-Ok c).In-Ok in
     let e = g.unrefused in
     let f = no_fault (state_refusal a.table.now a.registered) c.state_refusal-fault.result c.state_refusal-fault.ensures _ _ c.in-Sent.is in
     let m = message_is a.packet.now a.body.now _ g _ c.unstuff.ensures.out_after c.id_heard-id.result c.id_heard-id.ensures in

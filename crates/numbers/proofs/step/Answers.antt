@@ -19,4 +19,4 @@ returns-in-Silent c = ap (event_numbers _) (sym c.in-Silent.is)
 pub returns-in-Refused : goal.returns-in-Refused
 returns-in-Refused c =
     let taken = c.args.answer.taken in
-    ap (refusing taken) c.number.ensures ∙ ap (event_numbers taken) (sym c.in-Refused.is)
+    ap (refusing taken) c.from.ensures ∙ ap (event_numbers taken) (sym c.in-Refused.is)

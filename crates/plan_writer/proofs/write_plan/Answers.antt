@@ -1,5 +1,5 @@
+use Rattle.std.specs.Prelude.{None}
 use mathlib.Core.Path.{◌≡◌, sym, ◌∙◌}
-use mathlib.Core.Option.{none}
 use Prim.Native.Nat.{◌+◌, ◌*◌, ◌/◌, ◌≤◌}
 use native.Mathlib.Omega.{arith}
 use lib.ListN.{length}
@@ -23,9 +23,9 @@ returns-in_default c =
 
 -- the goals are not refused, and the size is the plan's
 module _ (k : After-count_wanted-n) where
-  good : goals_refusal k.args.goals.now ≡ none
+  good : goals_refusal k.args.goals.now ≡ None
   good =
-      (counted (goals_refusal k.args.goals.now) 0 _ (sym k.test_goals-tested.ensures ∙ k.in-Count.is)).0
+      (counted (goals_refusal k.args.goals.now) 0 _ (sym k.test_goals-tested.ensures ∙ k.in-Ok.is)).0
 
   few : k.count_wanted-n.result ≤ 253
   few = count_few k.args.goals.now good k.count_wanted-n.result k.count_wanted-n.ensures

@@ -1,3 +1,4 @@
+use Rattle.std.specs.Prelude.{Ok}
 use mathlib.Core.Path.{◌≡◌, sym, ap, ◌∙◌}
 use mathlib.Core.Bool.{true}
 use Prim.Native.Nat.{◌-◌}
@@ -5,7 +6,6 @@ use native.Mathlib.Omega.{arith}
 use lib.ListN.{length}
 use lib.Seq.{take_all}
 use borrow.Author.Tests.{le-leb, lt-leb}
-use Rattle.answers.specs.declared.Answer.TheVariants.{Count}
 use Rattle.lists.specs.Write.{overwritten}
 use Rattle.stuffing.specs.Stuffing.{well_stuffed, unstuff}
 use Rattle.stuffing.specs.Answers.{removal_refusal}
@@ -51,7 +51,7 @@ returns-then-n-body c =
     let l = le-leb (length (unstuff a.body.now)) (length a.out.now) (omega arith) in
     let same = unstuff_same a.body.now g.0 (omega arith) in
     let all = take_all (length a.out.now - 0) a.body.now (omega arith) in record {
-      value = rw (g.0, l) (ap Count (sym g.1));
+      value = rw (g.0, l) (ap Ok (sym g.1));
       out_after = rw (g.0, l) (c.place.ensures ∙ ap (overwritten a.out.now) (all ∙ sym same));
     }
 
@@ -62,6 +62,6 @@ returns-else-n-body c =
     let g = good (goal.at.returns-else-n-body c).In-Good in
     let l = le-leb (length (unstuff a.body.now)) (length a.out.now) (omega arith) in
     record {
-      value = rw (g.0, l) (ap Count (sym g.1));
+      value = rw (g.0, l) (ap Ok (sym g.1));
       out_after = rw (g.0, l) c.write_unstuffed.ensures;
     }

@@ -1,5 +1,5 @@
+use Rattle.std.specs.Prelude.{None, Option}
 use mathlib.Core.Path.{◌≡◌, sym, ap, ◌∙◌}
-use mathlib.Core.Option.{Option, none}
 use Prim.Native.Nat.{ℕ}
 use Rattle.answers.specs.Refusals.{unless_refused}
 use Rattle.buffers.proofs.Parts.{placed_whole}
@@ -23,7 +23,7 @@ returns-then-not-is_done c =
 -- the write was good
 good : (c : Else-not-is_done)
     → let a = c.args in
-    in_table a.table.now (write_rule a.table.now a.address a.bytes.now) ≡ none
+    in_table a.table.now (write_rule a.table.now a.address a.bytes.now) ≡ None
 good c =
     sym c.judge-outcome.ensures ∙ done_none c.judge-outcome.result (sym c.is_done.ensures ∙ c.if-not-is_done.false)
 

@@ -1,6 +1,6 @@
+use Rattle.std.specs.Prelude.{None, Some}
 use mathlib.Core.Path.{◌≡◌, sym, ap, ◌∙◌}
 use mathlib.Core.Bool.{true, cond}
-use mathlib.Core.Option.{none, some}
 use Prim.Native.Nat.{ℕ, ◌+◌, ◌≤◌}
 use native.Mathlib.Omega.{arith}
 use lib.ListN.{length}
@@ -75,7 +75,7 @@ limits_kept-requires c = (inside (goal.at.limits_kept-requires c).Else-not-every
 limits : (c : Else-not-is_done)
     → let a = c.args in
     in_table a.table.now (write_rule a.table.now a.address a.bytes.now)
-    ≡ cond (limits_kept a.address (length a.bytes.now) (stored a.table.now a.address a.bytes.now)) none (some 0x06)
+    ≡ cond (limits_kept a.address (length a.bytes.now) (stored a.table.now a.address a.bytes.now)) None (Some 0x06)
 limits c =
     let a = c.args in
     by_limits a.table.now a.address a.bytes.now c.if-table-ne-TABLE_BYTES.false c.if-bytes-eq0.false (granted (goal.at.limits_kept-requires c).Else-not-every_byte) c.judge_items-items.result (sym c.is_done.ensures ∙ c.if-not-is_done.false)

@@ -169,7 +169,7 @@ module _ (R : Rules) (L : Laws R) where
 
   -- what waits is patient
   pub waiting_patient : (t : List ℕ) → R.verdict t ≡ is_waiting → Patient R t (R.lacks t)
-  waiting_patient t e = record { Some = L.lacking t e; room = L.room t e; silent_while = λ x l. by x (L.patient t x e l) }
+  waiting_patient t e = record { some = L.lacking t e; room = L.room t e; silent_while = λ x l. by x (L.patient t x e l) }
     where
       by : (x : List ℕ) → (R.verdict (t ++ x) ≡ is_waiting) ⊎ ((a u : List ℕ) → t ++ x ≡ a ++ u → Undecided (R.verdict u))
           → (u : List ℕ) × (first R open' (t ++ x) ≡ silent u)
@@ -183,8 +183,8 @@ module _ (R : Rules) (L : Laws R) where
       let w = take n s in
       let l : length w ≡ n = length-take-le n s g.1 in
       let whole : take (n - 1) w ++ drop (n - 1) w ≡ w = take-append-drop (n - 1) w in
-      let Some : 0 < length (drop (n - 1) w) = simp length-drop (omega (arith, g.0)) in
-      let waits = L.partial_waits (take (n - 1) w) (drop (n - 1) w) (rw whole g.2) Some in
+      let some : 0 < length (drop (n - 1) w) = simp length-drop (omega (arith, g.0)) in
+      let waits = L.partial_waits (take (n - 1) w) (drop (n - 1) w) (rw whole g.2) some in
       omega (arith, short R L (take (n - 1) w) waits, length-take-le (n - 1) w (omega arith), g.0)
 
   -- a packet that is decided by a byte ends with it
@@ -211,7 +211,7 @@ module _ (R : Rules) where
   pub silent_patient : (t : List ℕ) → length t < R.longest → first R open' t ≡ silent t → Patient R t 1
   silent_patient t h e =
       record {
-        Some = omega arith;
+        some = omega arith;
         room = omega arith;
         silent_while = λ x l. let z : x ≡ [] = empty x l in (t, rw (z, append-nil) e);
       }

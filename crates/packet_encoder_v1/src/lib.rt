@@ -10,6 +10,9 @@ ghost use Rattle.packet_encoder_v1.specs.Encoding.{encode_answer, encode_out};
 
 use answers::Refusal;
 
+// As many as a length of 255 counts, with the instruction and the checksum.
+const MOST_PARAMETERS: usize = 253;
+
 // Writes header, ID, length and instruction to the start of out.
 fn write_front(id: u8, count: u8, instruction: u8, out: &mut [u8])
     requires { 5 ≤ length out.old }
@@ -55,7 +58,7 @@ pub fn encode(
         return Err(Refusal::BadId);
     }
     let n = params.len();
-    if 253 < n {
+    if MOST_PARAMETERS < n {
         return Err(Refusal::TooLong);
     }
     if out.len().saturating_sub(at) < n + 6 {

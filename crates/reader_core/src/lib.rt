@@ -394,7 +394,7 @@ fn clear_reached(held: &mut [u8], count: usize, packet: &mut [u8], step: Step)
     let from = step.held;
     let taken = step.taken;
     let room = held.len() - count;
-    let end = count + buffers::least(room, taken);
+    let end = count + room.min(taken);
     buffers::clear(&mut held[from..end], 0);
     if room < taken {
         let event = step.event;

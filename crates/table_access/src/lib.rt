@@ -104,7 +104,7 @@ pub fn measure(table: &mut [u8], position: i32, error: u8) -> Result<usize, Refu
     if table.len() != TABLE_BYTES {
         return Err(Refusal::NotATable);
     }
-    let bytes = buffers::bytes_of(table_items::unsigned_of(position) as usize);
+    let bytes = table_items::unsigned_of(position).to_le_bytes();
     table[REG_PRESENT_POSITION] = bytes[0];
     table[REG_PRESENT_POSITION + 1] = bytes[1];
     table[REG_PRESENT_POSITION + 2] = bytes[2];

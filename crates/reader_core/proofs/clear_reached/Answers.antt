@@ -8,12 +8,12 @@ use Rattle.reader_core.proofs.clear_reached.Goals as goal
 
 pub returns-then-room-taken : goal.returns-then-room-taken
 returns-then-room-taken c = (
-  part_cleared c.args.held.now _ c.args.count c.args.step.held c.args.step.taken c.least.result c.least.ensures c.requires.0 c.requires.1 c.requires.2 c.clear.ensures,
+  part_cleared c.args.held.now _ c.args.count c.args.step.held c.args.step.taken c.min.result c.min.ensures c.requires.0 c.requires.1 c.requires.2 c.clear.ensures,
   rw (lt-leb (c.args.count + c.args.step.taken) (length c.args.held.now) (search rules)) (rw c.size_of-past.ensures at c.clear-then-room-taken.ensures),
 )
 
 pub returns-else-room-taken : goal.returns-else-room-taken
 returns-else-room-taken c = (
-  part_cleared c.args.held.now _ c.args.count c.args.step.held c.args.step.taken c.least.result c.least.ensures c.requires.0 c.requires.1 c.requires.2 c.clear.ensures,
+  part_cleared c.args.held.now _ c.args.count c.args.step.held c.args.step.taken c.min.result c.min.ensures c.requires.0 c.requires.1 c.requires.2 c.clear.ensures,
   rw (le-leb (c.args.count + c.args.step.taken) (length c.args.held.now) (search rules)) refl,
 )

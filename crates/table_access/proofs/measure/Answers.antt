@@ -1,5 +1,6 @@
 use mir.Facts.{to_z-of_z}
 use Rattle.lists.specs.Numbers.{bytes_of}
+use Rattle.lists.proofs.Numbers.{written_is}
 use Rattle.table_items.specs.Items.{unsigned}
 use Rattle.table_access.proofs.Put.{measured_sets}
 use mathlib.Core.Path.{ap, ◌∙◌}
@@ -28,6 +29,6 @@ returns c =
     let e = eq-eqb _ _ l in
     let a = c.args in record {
       value = rw e;
-      table_after = rw e (measured_sets a.table.now c.bytes_of-bytes.result a.position a.error l (search rules)
-          (c.bytes_of-bytes.ensures ∙ ap (bytes_of 4) (c.unsigned_of.ensures ∙ ap unsigned (to_z-of_z c.ranges.position))));
+      table_after = rw e (measured_sets a.table.now c.to_le_bytes-bytes.result a.position a.error l (search rules)
+          (c.to_le_bytes-bytes.ensures ∙ written_is _ ∙ ap (bytes_of 4) (c.unsigned_of.ensures ∙ ap unsigned (to_z-of_z c.ranges.position))));
     }

@@ -66,7 +66,7 @@ fn id_in(protocol: Protocol, packet: &[u8]) -> u8
     requires { length packet.now ≡ (rules_of protocol).longest }
     ensures { result ≡ id_in protocol packet.now }
 {
-    packet[packet_protocols::id_offset(protocol)]
+    packet[protocol.id_offset()]
 }
 
 // The event for what was found in src. A packet's bytes are copied to the packet buffer, and its ID is read there.
@@ -142,7 +142,7 @@ fn judge_longest(protocol: Protocol, held: &mut [u8], byte: u8, packet: &mut [u8
     packet[n] = byte;
     buffers::shift(held, 1, n);
     held[n - 1] = byte;
-    packet_protocols::judge(protocol, packet, 0)
+    protocol.judge(packet, 0)
 }
 
 // Reads the chunk from `from` on, where no bytes are held.

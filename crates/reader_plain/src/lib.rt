@@ -32,7 +32,7 @@ pub fn next_event(segment: &[u8], from: usize) -> Next
 {
     let mut offset = from;
     while offset < segment.len() {
-        match packet_protocols::judge(Protocol::Two, segment, offset) {
+        match Protocol::Two.judge(segment, offset) {
             Verdict::Packet(count) => return Next::Packet {
                 offset,
                 count,

@@ -1,13 +1,13 @@
--- What a function that may refuse answers: a count or a refusal, and either as C gets it.
+-- What a function that may refuse answers: what it has done or a refusal, and a count or a refusal as C gets it.
 use Rattle.std.specs.Prelude.{Err, None, Ok, Option, Result, Some}
 use Rattle.std.specs.Prelude.{ℕ, ◌-◌, ◌^◌, min, ℤ, pos, neg_ℤ}
 use Rattle.answers.specs.Refusals.{number_of}
 use Rattle.answers.specs.declared.Refusal.{Refusal}
 
 -- by the refusal, if there is one [N11]
-abbrev pub answered : Option Refusal → ℕ → Result ℕ Refusal
-answered None n = Ok n
-answered (Some refusal) n = Err refusal
+abbrev pub answered : {A : Type 0} → Option Refusal → A → Result A Refusal
+answered None done = Ok done
+answered (Some refusal) done = Err refusal
 
 -- one signed 64-bit number: the count, or minus the refusal's number; a count that no such number holds is the largest of them (no
 -- buffer of a real machine is that long) [G5 N11]

@@ -1,5 +1,5 @@
 -- Answers with more than a count as C gets them. A count or a refusal is one number of these, as `answers` has it.
-use Rattle.std.specs.Prelude.{Err, Ok, Result}
+use Rattle.std.specs.Prelude.{Err, None, Ok, Option, Result, Some}
 use Rattle.std.specs.Prelude.{Bool, true, false, cond, ℕ, ℤ, pos}
 use Rattle.answers.specs.Refusals.{number_of}
 use Rattle.answers.specs.Answers.{exported}
@@ -7,8 +7,8 @@ use Rattle.answers.specs.declared.Refusal.{Refusal}
 use Rattle.reader_core.specs.declared.Step.{Step}
 use Rattle.reader_core.specs.declared.StepEvent.{StepEvent}
 use Rattle.reader_core.specs.declared.StepEvent.TheVariants.{Packet, BadChecksum, Silent, Refused}
-use Rattle.reader_plain.specs.declared.Next.{Next}
-use Rattle.reader_plain.specs.declared.Next.TheVariants.{Packet as Next-as-Packet, BadChecksum as Next-as-BadChecksum, Nothing}
+use Rattle.reader_plain.specs.declared.Event.{Event as Event-of-segment}
+use Rattle.reader_plain.specs.declared.Event.TheVariants.{Packet as Segment-as-Packet, BadChecksum as Segment-as-BadChecksum}
 use Rattle.device.specs.declared.Replied.{Replied}
 use Rattle.device.specs.declared.Replied.TheVariants.{Sent, Refused as Replied-as-Refused}
 use Rattle.device_instructions.specs.declared.RegisteredWrite.{RegisteredWrite}
@@ -38,10 +38,10 @@ step_numbers s = event_numbers s.taken s.event
 
 -- what the plain reader answers: where the event begins, of a packet its byte count, where reading goes on, the kind (1 a packet, 2 a
 -- bad checksum) and the ID; all 0 where there is no event [G5 N11 R3-R5]
-abbrev pub next_numbers : Next → EventNumbers
-next_numbers (Next-as-Packet p n q id) = record { offset = p; count = n; next = q; kind = 1; id = id }
-next_numbers (Next-as-BadChecksum p q id) = record { offset = p; count = 0; next = q; kind = 2; id = id }
-next_numbers Nothing = record { offset = 0; count = 0; next = 0; kind = 0; id = 0 }
+abbrev pub next_numbers : Option Event-of-segment → EventNumbers
+next_numbers (Some (Segment-as-Packet p n q id)) = record { offset = p; count = n; next = q; kind = 1; id = id }
+next_numbers (Some (Segment-as-BadChecksum p q id)) = record { offset = p; count = 0; next = q; kind = 2; id = id }
+next_numbers None = record { offset = 0; count = 0; next = 0; kind = 0; id = 0 }
 
 -- the device's answer and the registered write that it leaves [G5]
 abbrev pub device_numbers : Replied → RegisteredWrite → DeviceNumbers

@@ -14,7 +14,7 @@ use device_status::Reply;
 use line_log::Found;
 use log_salvage::{Figures, Salvaged};
 use reader_core::{Step, StepEvent};
-use reader_plain::Next;
+use reader_plain::Event;
 
 // What a feeding or gap call returns. kind 0: no event, from a gap call: nothing is left; 1: a packet of `count` bytes; 2: a bad
 // checksum; else the number of a refusal. `id` is that of the packet or of the bad checksum.
@@ -117,30 +117,32 @@ pub fn step(answer: Step) -> StepNumbers
 }
 
 // The packet's bytes are in the caller's segment.
-pub fn next(answer: Next) -> EventNumbers
+pub fn next(answer: Option<Event>) -> EventNumbers
     ensures { result ≡ next_numbers answer }
 {
     match answer {
-        Next::Packet {
-            offset,
-            count,
-            next,
-            id,
-        } => EventNumbers {
+        Some(
+            Event::Packet {
+                offset,
+                count,
+                next,
+                id,
+            },
+        ) => EventNumbers {
             offset,
             count,
             next,
             kind: 1,
             id,
         },
-        Next::BadChecksum { offset, next, id } => EventNumbers {
+        Some(Event::BadChecksum { offset, next, id }) => EventNumbers {
             offset,
             count: 0,
             next,
             kind: 2,
             id,
         },
-        Next::Nothing => EventNumbers {
+        None => EventNumbers {
             offset: 0,
             count: 0,
             next: 0,

@@ -123,10 +123,7 @@ pub fn write_plan(goals: &[i32], out: &mut [u8]) -> Result<usize, Refusal>
     ensures value { result ≡ plan_answer goals.now out.old }
     ensures out_after { out.new ≡ plan_out goals.now out.old }
 {
-    let tested = plan::test_goals(goals);
-    let Ok(_) = tested else {
-        return tested;
-    };
+    plan::test_goals(goals)?;
     let n = count_wanted(goals);
     let size = 14 * ((n + 202) / MOST) + 5 * n;
     if out.len() < size {

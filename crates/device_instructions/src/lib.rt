@@ -15,9 +15,7 @@ ghost use Rattle.device_instructions.specs.Instructions.{reboot as instructions_
 ghost use Rattle.device_instructions.specs.Results.{done_with, done_by, done_of, sized, HasRead};
 
 use answers::NOT_A_TABLE;
-use device_codes::{
-    ERROR_ACCESS, ERROR_DATA_LENGTH, ERROR_DATA_LIMIT, ERROR_DATA_RANGE, ERROR_INSTRUCTION,
-};
+use device_codes::ErrorNumber;
 use table_registers::{
     MAX_DATA, REG_FIRMWARE_VERSION, REG_MODEL_NUMBER, REG_REGISTERED_INSTRUCTION,
     SIZE_FIRMWARE_VERSION, SIZE_MODEL_NUMBER, TABLE_BYTES,
@@ -107,10 +105,10 @@ fn error_of(denied: Denied) -> u8
     ensures { result ≡ denial_number denied }
 {
     match denied {
-        Denied::DataRange => ERROR_DATA_RANGE,
-        Denied::DataLength => ERROR_DATA_LENGTH,
-        Denied::DataLimit => ERROR_DATA_LIMIT,
-        Denied::NoAccess => ERROR_ACCESS,
+        Denied::DataRange => ErrorNumber::DataRange as u8,
+        Denied::DataLength => ErrorNumber::DataLength as u8,
+        Denied::DataLimit => ErrorNumber::DataLimit as u8,
+        Denied::NoAccess => ErrorNumber::Access as u8,
         Denied::NotTable => NOT_A_TABLE,
     }
 }
@@ -196,12 +194,12 @@ pub fn action(table: &mut [u8], registered: RegisteredWrite) -> Done
         return without_data(NOT_A_TABLE, registered);
     }
     if registered.count == 0 {
-        return without_data(ERROR_INSTRUCTION, registered);
+        return without_data(ErrorNumber::Instruction as u8, registered);
     }
     let same = same_limits(&table[..], registered);
     table[REG_REGISTERED_INSTRUCTION] = 0;
     if !same {
-        return without_data(ERROR_DATA_LIMIT, dropped());
+        return without_data(ErrorNumber::DataLimit as u8, dropped());
     }
     let n = byte_count(registered.count);
     let held = registered.bytes;
@@ -247,7 +245,7 @@ pub fn factory_reset(table: &mut [u8], registered: RegisteredWrite, option: u8) 
         RESET_ALL => reset_with(table, registered, false, false),
         RESET_BUT_ID => reset_with(table, registered, true, false),
         RESET_BUT_ID_AND_BAUD => reset_with(table, registered, true, true),
-        _ => without_data(ERROR_DATA_RANGE, registered),
+        _ => without_data(ErrorNumber::DataRange as u8, registered),
     }
 }
 

@@ -11,7 +11,7 @@ ghost use Rattle.plan_check.specs.Checking.{fits, past, SomeFound, MarkSays, Bod
 ghost use Rattle.plan_check.specs.Tested.{SaysWhether, TestSays};
 
 use answers::Refusal;
-use device_parameters::OwnEntry;
+use device_codes::Instruction;
 use packet_protocols::Protocol;
 use packet_rules::Verdict;
 
@@ -71,7 +71,7 @@ fn mark_entries(goals: &[i32], params: &[u8], stood: &mut [u8]) -> bool
     if params.len() <= LIST {
         return false;
     }
-    let OwnEntry::At(_, _) = device_parameters::sync_search(params, 4, params[LIST]) else {
+    let Some(_) = device_parameters::sync_search(params, 4, params[LIST]) else {
         return false;
     };
     mark_list(goals, params, stood)
@@ -84,7 +84,7 @@ fn has_head(body: &[u8]) -> bool
     if body.len() < 5 {
         return false;
     }
-    if body[0] != device_codes::INST_SYNC_WRITE {
+    if body[0] != Instruction::SyncWrite as u8 {
         return false;
     }
     if body[1] != plan::ADDRESS {

@@ -5,9 +5,9 @@ use Rattle.answers.specs.Refusals.{number_of}
 use Rattle.answers.specs.declared.Refusal.{Refusal}
 
 -- by the refusal, if there is one [N11]
-abbrev pub answered : Option Refusal → ℕ → Result ℕ Refusal
-answered None n = Ok n
-answered (Some refusal) n = Err refusal
+abbrev pub answered : {A : Type 0} → Option Refusal → A → Result A Refusal
+answered None a = Ok a
+answered (Some refusal) a = Err refusal
 
 -- one signed 64-bit number: the count, or minus the refusal's number; a count that no such number holds is the largest of them (no
 -- buffer of a real machine is that long) [G5 N11]

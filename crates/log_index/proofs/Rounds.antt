@@ -11,7 +11,7 @@ use borrow.Author.Tests.{eq-eqb, ne_eqb}
 use Rattle.reading.specs.Reading.{EventAt, reading}
 use Rattle.packet_front.specs.Front.{id_of}
 use Rattle.packet.specs.Verdict.{protocol2}
-use Rattle.reader_plain.specs.declared.Next.TheVariants.{Packet, BadChecksum, Nothing}
+use Rattle.reader_plain.specs.declared.Event.TheVariants.{Packet, BadChecksum}
 use Rattle.reader_plain.specs.Next.{next_event}
 use Rattle.reader_plain.specs.Plain.{Within}
 use Rattle.reader_plain.proofs.Plain.{within}
@@ -36,8 +36,8 @@ pub last_start : (id : ℕ) (s : List ℕ) → last_packet id (reading protocol2
 unfolding reading
 last_start id s = sym (or_none (last_packet id (left s 0)))
 
-module _ (s : List ℕ) (from p n q id : ℕ) (e : next_event s from ≡ Packet p n q id) where
-  stated : Left s from (Packet p n q id)
+module _ (s : List ℕ) (from p n q id : ℕ) (e : next_event s from ≡ Some (Packet p n q id)) where
+  stated : Left s from (Some (Packet p n q id))
   stated = subst (Left s from) e (left_is s from)
 
   pub packet_less : length s - q < length s - from
@@ -65,7 +65,7 @@ module _ (s : List ℕ) (from p n q id : ℕ) (e : next_event s from ≡ Packet 
       → later (last_packet wanted (left s from)) last ≡ later (last_packet wanted (left s q)) last
   last_other wanted last h = at_packet wanted last ∙ rw (ne_eqb id wanted h)
 
-module _ (s : List ℕ) (from p q id : ℕ) (e : next_event s from ≡ BadChecksum p q id) where
+module _ (s : List ℕ) (from p q id : ℕ) (e : next_event s from ≡ Some (BadChecksum p q id)) where
   pub bad_less : length s - q < length s - from
   bad_less = let w = subst (Within s from) e (within s from) in omega (arith, w.0, w.1, w.2)
 
@@ -77,7 +77,7 @@ module _ (s : List ℕ) (from p q id : ℕ) (e : next_event s from ≡ BadChecks
   unfolding last_packet
   last_bad wanted last = ap (λ (fs : List EventAt). later (last_packet wanted fs) last) (subst (Left s from) e (left_is s from))
 
-module _ (s : List ℕ) (from : ℕ) (e : next_event s from ≡ Nothing) where
+module _ (s : List ℕ) (from : ℕ) (e : next_event s from ≡ None) where
   pub mark_end : (number : ℕ) (index : List ℕ) → marked number index (left s from) ≡ index
   unfolding marked
   mark_end number index = ap (marked number index) (subst (Left s from) e (left_is s from))

@@ -12,9 +12,8 @@ use device_packet::CarriedPacket;
 use device_status::Reply;
 use line_log::Place;
 use log_salvage::Figures;
-use plan_check::Tested;
 use reader_core::{Step, StepEvent};
-use reader_plain::Next;
+use reader_plain::Event;
 
 // What a feeding or gap call returns. kind 0: no event, from a gap call: nothing is left; 1: a packet of `count` bytes; 2: a bad
 // checksum; else the number of a refusal. `id` is that of the packet or of the bad checksum.
@@ -117,30 +116,32 @@ pub fn step(answer: Step) -> StepNumbers
 }
 
 // The packet's bytes are in the caller's segment.
-pub fn next(answer: Next) -> EventNumbers
+pub fn next(answer: Option<Event>) -> EventNumbers
     ensures { result ≡ next_numbers answer }
 {
     match answer {
-        Next::Packet {
-            offset,
-            count,
-            next,
-            id,
-        } => EventNumbers {
+        Some(
+            Event::Packet {
+                offset,
+                count,
+                next,
+                id,
+            },
+        ) => EventNumbers {
             offset,
             count,
             next,
             kind: 1,
             id,
         },
-        Next::BadChecksum { offset, next, id } => EventNumbers {
+        Some(Event::BadChecksum { offset, next, id }) => EventNumbers {
             offset,
             count: 0,
             next,
             kind: 2,
             id,
         },
-        Next::Nothing => EventNumbers {
+        None => EventNumbers {
             offset: 0,
             count: 0,
             next: 0,
@@ -263,12 +264,11 @@ pub fn salvaged(answer: Result<Figures, Refusal>) -> SalvagedNumbers
     }
 }
 
-pub fn tested(answer: Tested) -> i64
+pub fn tested(answer: Result<bool, Refusal>) -> i64
     ensures { result ≡ tested_number answer }
 {
     match answer {
-        Tested::Accepted => 1,
-        Tested::NotPlan => 0,
-        Tested::Refused(refusal) => answers::exported_refusal(refusal),
+        Ok(is_plan) => i64::from(is_plan),
+        Err(refusal) => answers::exported_refusal(refusal),
     }
 }

@@ -9,7 +9,6 @@ ghost use Rattle.packet_encoder.specs.Writing.{front, with_checksum, packet_of};
 ghost use Rattle.packet_encoder.specs.Encoding.{encode_answer, encode_out};
 
 use answers::Refusal;
-use stuffing_writer::Length;
 
 // Writes header, ID, length field and instruction, for a stuffed body of n bytes, to the start of out: as one array, so that the
 // compiler makes one store of it, and the checksum does not wait for several.
@@ -59,18 +58,20 @@ fn write_packet(id: u8, instruction: u8, params: &[u8], n: usize, out: &mut [u8]
 // Writes the packet with this ID, instruction and parameters to out from `at` on. Refused, in this order: an ID that is not
 // allowed, a length field past 1,024, no room from `at` on (`at` may lie past the end). A refusal writes nothing.
 // [C4 N1 N2 N4 N10-N12 N14 P1-P9 S2]
-pub fn encode(id: u8, instruction: u8, params: &[u8], out: &mut [u8], at: usize) -> Result<usize, Refusal>
+pub fn encode(
+    id: u8,
+    instruction: u8,
+    params: &[u8],
+    out: &mut [u8],
+    at: usize,
+) -> Result<usize, Refusal>
     ensures value { result ≡ encode_answer id (instruction ∷ params.now) out.old at }
     ensures out_after { out.new ≡ encode_out id (instruction ∷ params.now) out.old at }
 {
     if !packet_front::good_id(id) {
         return Err(Refusal::BadId);
     }
-    let Length::Within(n) = stuffing_writer::stuffed_len(
-        instruction,
-        params,
-        packet_front::MAX_BODY,
-    ) else {
+    let Some(n) = stuffing_writer::stuffed_len(instruction, params, packet_front::MAX_BODY) else {
         return Err(Refusal::TooLong);
     };
     if out.len() < at {

@@ -16,7 +16,7 @@ ghost use Rattle.board.specs.Numbers.{board_step, buffer_left};
 ghost use Rattle.board.specs.Inside.{number_if_any, Fits, buffer_by, body_by, body_to, kind_by, id_by, size_by, heard_by, step_of, came_of};
 
 use answers::{BAD_READER, BAD_REGISTERED, BAD_TABLE_ID};
-use device_codes::ERROR_CHECKSUM;
+use device_codes::ErrorNumber;
 use device_dispatch::Heard;
 use device_instructions::{MAX_REGISTERED, RegisteredWrite};
 use device_status::Reply;
@@ -83,7 +83,7 @@ fn checksum_error(table: &[u8], id: u8) -> u8
     ensures { result ≡ cond (eqb id (own_id table.now)) 3 0 }
 {
     if id == table[REG_ID] {
-        return ERROR_CHECKSUM;
+        return ErrorNumber::Checksum as u8;
     }
     0
 }

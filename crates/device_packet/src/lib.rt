@@ -14,7 +14,6 @@ use device_instructions::RegisteredWrite;
 use device_status::{MIN_REPLY, Reply};
 use packet_protocols::Protocol;
 use packet_rules::Front;
-use stuffing::Checked;
 
 // An ID that no device has.
 const NO_ID: u8 = 255;
@@ -42,7 +41,7 @@ fn id_heard(packet: &[u8]) -> u8
 fn first_refusal(packet: &[u8], body: &[u8], refused: Replied) -> Replied
     ensures { result ≡ refused_or (removal_refusal (body_of packet.now) body.now) refused }
 {
-    let Checked::Good(n) = stuffing::check(packet::body(packet)) else {
+    let Some(n) = stuffing::check(packet::body(packet)) else {
         return Replied::Refused(Refusal::BadStuffing);
     };
     if body.len() < n {

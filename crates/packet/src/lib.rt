@@ -10,7 +10,6 @@ ghost use Rattle.packet.specs.Verdict.{whole_answer};
 
 use answers::Refusal;
 use packet_rules::Verdict;
-use stuffing::Checked;
 
 // The body as a part of the packet, between length field and checksum; empty if there is no room for both. [S2 S7]
 pub fn body(packet: &[u8]) -> &[u8]
@@ -55,7 +54,7 @@ pub fn judge_whole(packet: &[u8]) -> Verdict
     if crc != packet_front::word(packet[end], packet[end + 1]) {
         return Verdict::BadChecksum(packet[4]);
     }
-    let Checked::Good(_) = stuffing::check(body(packet)) else {
+    let Some(_) = stuffing::check(body(packet)) else {
         return Verdict::Nothing;
     };
     Verdict::Packet(n)

@@ -9,7 +9,6 @@ ghost use Rattle.packet_encoder.specs.Writing.{front, with_checksum, packet_of};
 ghost use Rattle.packet_encoder.specs.Encoding.{encode_answer, encode_out};
 
 use answers::Refusal;
-use stuffing_writer::Length;
 
 // Writes header, ID, length field and instruction, for a stuffed body of n bytes, to the start of out: as one array, so that the
 // compiler makes one store of it, and the checksum does not wait for several.
@@ -69,11 +68,7 @@ pub fn encode(
     if !packet_front::good_id(id) {
         return Err(Refusal::BadId);
     }
-    let Length::Within(n) = stuffing_writer::stuffed_len(
-        instruction,
-        params,
-        packet_front::MAX_BODY,
-    ) else {
+    let Some(n) = stuffing_writer::stuffed_len(instruction, params, packet_front::MAX_BODY) else {
         return Err(Refusal::TooLong);
     };
     if out.len().saturating_sub(at) < n + 9 {

@@ -41,7 +41,7 @@ const HEADER: u32 = 0x00FDFFFF;
 fn has_header(s: &[u8]) -> bool
     ensures { result ≡ headed s.now }
 {
-    4 <= s.len() && buffers::number_of(s[0], s[1], s[2], s[3]) == HEADER
+    4 <= s.len() && u32::from_le_bytes([s[0], s[1], s[2], s[3]]) == HEADER
 }
 
 // Whether the bytes that are there agree with the header.

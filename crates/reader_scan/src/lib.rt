@@ -7,7 +7,6 @@ ghost use Rattle.reading.specs.Calls.{fed};
 ghost use Rattle.packet_protocols.specs.Protocols.{shape_of, rules_of};
 ghost use Rattle.reader_scan.specs.Scan.{Seen, Wants, Ends, Filled};
 
-use buffers::greatest;
 use packet_protocols::Protocol;
 use packet_rules::{Front, Verdict};
 
@@ -60,12 +59,6 @@ fn ending(seen: Scanned, end: usize) -> Window
     ensures { result ≡ record { seen = seen; end = end } }
 {
     Window { seen, end }
-}
-
-pub fn least(a: usize, b: usize) -> usize
-    ensures { result ≡ min a b }
-{
-    buffers::least(a, b)
 }
 
 // The bytes of s from `from` on, offset by offset; those before the next at which a packet may begin say nothing.
@@ -126,7 +119,7 @@ pub fn advance(protocol: Protocol, chunk: &[u8]) -> Window
         × Ends (rules_of protocol) [] chunk.now (take result.end chunk.now) result.end result.seen }
 {
     let mut past = 0;
-    let mut end = 0;
+    let mut end = 0usize;
     loop {
         let at = protocol.next_start(chunk, past);
         if chunk.len() <= at {
@@ -137,7 +130,7 @@ pub fn advance(protocol: Protocol, chunk: &[u8]) -> Window
         match front {
             Front::Nothing => {}
             Front::Waiting(_) => return ending(Scanned::Waiting { at }, chunk.len()),
-            Front::Whole(size) => end = greatest(end, at + size),
+            Front::Whole(size) => end = end.max(at + size),
         }
         if let Front::Whole(size) = front {
             match protocol.judge_whole(&chunk[at..at + size]) {
@@ -183,7 +176,7 @@ pub fn fill(protocol: Protocol, held: &mut [u8], count: usize, chunk: &[u8]) -> 
     ensures held_unchanged { drop (count + (fed (rules_of protocol) (take count held.old) chunk.now).taken) held.new
         ≡ drop (count + (fed (rules_of protocol) (take count held.old) chunk.now).taken) held.old }
 {
-    let mut end = least(count, held.len());
+    let mut end = count.min(held.len());
     if end == 0 {
         return Stop::Passed { taken: 0 };
     }
@@ -209,7 +202,7 @@ pub fn fill(protocol: Protocol, held: &mut [u8], count: usize, chunk: &[u8]) -> 
         if room == 0 {
             return Stop::Full { taken };
         }
-        let more = least(least(live.lacks, room), left);
+        let more = live.lacks.min(room).min(left);
         at = append(held, start, end, &chunk[taken..taken + more]);
         end = at + waiting + more;
         taken += more;

@@ -65,15 +65,13 @@ pub fn fresh(table: &mut [u8]) -> Result<(), Refusal>
         return Err(Refusal::NotATable);
     }
     table.fill(0);
-    table[REG_MODEL_NUMBER..REG_MODEL_NUMBER + SIZE_MODEL_NUMBER].copy_from_slice(
-        &FRESH_MODEL_NUMBER.to_le_bytes(),
-    );
+    let model = FRESH_MODEL_NUMBER.to_le_bytes();
+    table[REG_MODEL_NUMBER..REG_MODEL_NUMBER + SIZE_MODEL_NUMBER].copy_from_slice(&model);
     table[REG_FIRMWARE_VERSION] = FRESH_FIRMWARE_VERSION;
     table[REG_ID] = FRESH_ID;
     table[REG_BAUD_CODE] = FRESH_BAUD_CODE;
-    table[REG_MAX_POSITION..REG_MAX_POSITION + SIZE_MAX_POSITION].copy_from_slice(&u32::from(
-        FRESH_MAX_POSITION,
-    ).to_le_bytes());
+    let most = u32::from(FRESH_MAX_POSITION).to_le_bytes();
+    table[REG_MAX_POSITION..REG_MAX_POSITION + SIZE_MAX_POSITION].copy_from_slice(&most);
     table[REG_STATUS_RETURN_LEVEL] = FRESH_STATUS_RETURN_LEVEL;
     Ok(())
 }
@@ -86,8 +84,9 @@ pub fn measure(table: &mut [u8], position: i32, error: u8) -> Result<(), Refusal
     if table.len() != TABLE_BYTES {
         return Err(Refusal::NotATable);
     }
+    let bytes = position.to_le_bytes();
     table[REG_PRESENT_POSITION..REG_PRESENT_POSITION + SIZE_PRESENT_POSITION].copy_from_slice(
-        &position.to_le_bytes(),
+        &bytes,
     );
     table[REG_HARDWARE_ERROR] = error;
     Ok(())

@@ -15,6 +15,6 @@ unfolding registers bytes_of put freshened
 returns-clause-table_after c =
     let l = c.if-table-ne-TABLE_BYTES.false in
     let zeros = c.fill.ensures.after (λ y e. e) ∙ ap (λ (n : ℕ). replicate n 0) l in
-    let model = c.copy_from_slice.ensures.after ∙ c.to_le_bytes.ensures in
-    let most = c.copy_from_slice-2.ensures.after ∙ c.to_le_bytes-2.ensures ∙ cut _ ∙ ap (bytes_of 4) c.from.ensures in
+    let model = c.copy_from_slice.ensures.after ∙ c.to_le_bytes-model.ensures in
+    let most = c.copy_from_slice-2.ensures.after ∙ c.to_le_bytes-most.ensures ∙ cut _ ∙ ap (bytes_of 4) c.from.ensures in
     rw (eq-eqb _ _ l, zeros, model, most)

@@ -13,6 +13,6 @@ unfolding bytes_of
 returns-clause-table_after c =
     let a = c.args in
     let l = c.if-table-ne-TABLE_BYTES.false in
-    let bytes = c.copy_from_slice.ensures.after ∙ c.to_le_bytes.ensures ∙ cut _
+    let bytes = c.copy_from_slice.ensures.after ∙ c.to_le_bytes-bytes.ensures ∙ cut _
     ∙ ap (bytes_of 4) (ap (of_z w32) (to_z-of_z c.ranges.position) ∙ bits_of a.position) in
     rw (eq-eqb _ _ l, bytes) (measured_placed a.table.now a.position a.error l (search rules))

@@ -24,7 +24,7 @@ fn id_heard(packet: &[u8]) -> u8
     requires { well_stuffed (body_of packet.now) ≡ true }
     ensures { result ≡ id_heard packet.now }
 {
-    let Front::Whole(n) = packet_protocols::peek(Protocol::Two, packet) else {
+    let Front::Whole(n) = Protocol::Two.peek(packet) else {
         return NO_ID;
     };
     if n != packet.len() {

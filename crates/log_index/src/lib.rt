@@ -33,7 +33,7 @@ pub fn mark_of(id: u8) -> usize
 fn next_event(segment: &[u8], from: usize) -> Option<Event>
     ensures { result ≡ next_event segment.now from }
 {
-    let start = packet_protocols::next_start(Protocol::Two, segment, from);
+    let start = Protocol::Two.next_start(segment, from);
     reader_plain::next_event(segment, start)
 }
 

@@ -27,7 +27,7 @@ fn byte_at(s: &[u8], i: usize) -> u8
 fn cut_number(s: &[u8]) -> u32
     ensures { result ≡ u32_at s.now 0 }
 {
-    buffers::number_of(byte_at(s, 0), byte_at(s, 1), byte_at(s, 2), byte_at(s, 3))
+    u32::from_le_bytes([byte_at(s, 0), byte_at(s, 1), byte_at(s, 2), byte_at(s, 3)])
 }
 
 // The number of 32 bits at an offset, low byte first. Bytes behind the file's end count as 0. [I1]
@@ -40,12 +40,12 @@ pub fn number_at(file: &[u8], offset: usize) -> u32
     if file.len() - offset < 4 {
         return cut_number(&file[offset..]);
     }
-    buffers::number_of(
+    u32::from_le_bytes([
         file[offset],
         file[offset + 1],
         file[offset + 2],
         file[offset + 3],
-    )
+    ])
 }
 
 // A segment by its start and length, as far as the file has its bytes. [I3]

@@ -1,15 +1,14 @@
 -- Answers with more than a count as C gets them. A count or a refusal is one number of these, as `answers` has it.
-use Rattle.std.specs.Prelude.{Err, Ok, None, Option, Some}
-use Rattle.std.specs.Prelude.{cond, ℕ, ℤ, pos}
+use Rattle.std.specs.Prelude.{Err, None, Ok, Option, Result, Some}
+use Rattle.std.specs.Prelude.{Bool, true, false, cond, ℕ, ℤ, pos}
 use Rattle.answers.specs.Refusals.{number_of}
 use Rattle.answers.specs.Answers.{exported}
+use Rattle.answers.specs.declared.Refusal.{Refusal}
 use Rattle.reader_core.specs.declared.Step.{Step}
 use Rattle.reader_core.specs.declared.StepEvent.{StepEvent}
 use Rattle.reader_core.specs.declared.StepEvent.TheVariants.{Packet, BadChecksum, Silent, Refused}
 use Rattle.reader_plain.specs.declared.Event.{Event as Event-of-segment}
 use Rattle.reader_plain.specs.declared.Event.TheVariants.{Packet as Segment-as-Packet, BadChecksum as Segment-as-BadChecksum}
-use Rattle.plan_check.specs.declared.Tested.{Tested}
-use Rattle.plan_check.specs.declared.Tested.TheVariants.{Accepted, NotPlan, Refused as Tested-as-Refused}
 use Rattle.device.specs.declared.Replied.{Replied}
 use Rattle.device.specs.declared.Replied.TheVariants.{Sent, Refused as Replied-as-Refused}
 use Rattle.device_instructions.specs.declared.RegisteredWrite.{RegisteredWrite}
@@ -71,7 +70,7 @@ salvaged_numbers (Written f) =
 salvaged_numbers (Salvaged-as-Refused refusal) = record { count = exported (Err refusal); dropped = 0; index = 0; leftover = 0; header = 0 }
 
 -- what the test of a plan answers: 1 or 0, or minus the refusal number [G5 N11 W9]
-abbrev pub tested_number : Tested → ℤ
-tested_number Accepted = pos 1
-tested_number NotPlan = pos 0
-tested_number (Tested-as-Refused refusal) = exported (Err refusal)
+abbrev pub tested_number : Result Bool Refusal → ℤ
+tested_number (Ok true) = pos 1
+tested_number (Ok false) = pos 0
+tested_number (Err refusal) = exported (Err refusal)

@@ -6,13 +6,13 @@ ghost use Rattle.std.specs.Prelude.{◌≡◌, cond};
 ghost use Rattle.log_salvage.specs.declared.Salvaged.TheVariants.{Written as Salvaged-as-Written};
 ghost use Rattle.numbers.specs.Exported.{step_numbers, next_numbers, device_numbers, refusal_number, carried_numbers, found_numbers, salvaged_numbers, tested_number};
 
+use answers::Refusal;
 use device::{CarriedOut, Replied, Response};
 use device_instructions::RegisteredWrite;
 use device_packet::CarriedPacket;
 use device_status::Reply;
 use line_log::Found;
 use log_salvage::{Figures, Salvaged};
-use plan_check::Tested;
 use reader_core::{Step, StepEvent};
 use reader_plain::Event;
 
@@ -277,12 +277,11 @@ pub fn salvaged(answer: Salvaged) -> SalvagedNumbers
     }
 }
 
-pub fn tested(answer: Tested) -> i64
+pub fn tested(answer: Result<bool, Refusal>) -> i64
     ensures { result ≡ tested_number answer }
 {
     match answer {
-        Tested::Accepted => 1,
-        Tested::NotPlan => 0,
-        Tested::Refused(refusal) => answers::exported_refusal(refusal),
+        Ok(is_plan) => i64::from(is_plan),
+        Err(refusal) => answers::exported_refusal(refusal),
     }
 }

@@ -7,8 +7,7 @@ use native.Mathlib.Omega.{arith}
 use lib.Dec.{leb, ltb, eqb}
 use lib.ListN.{length, get_or}
 use borrow.Author.Tests.{eqb-true, eqb-false, eq-eqb, ne_eqb, le-leb, lt-leb, lt-ltb, le-ltb}
-use Rattle.lists.specs.Numbers.{number_at}
-use Rattle.lists.proofs.Numbers.{sum_is}
+use Rattle.std.specs.Int.{w32, from_le_bytes}
 use Rattle.packet_rules.specs.Shape.{so_far}
 use Rattle.packet_front.specs.Header.{header_agrees, headed, may_begin}
 
@@ -18,10 +17,9 @@ module _ (a b c d : ℕ) where
 
   -- four bytes are the header's where their number is
   pub as_number : a ≤ 255 → b ≤ 255 → c ≤ 255 → d ≤ 255
-      → eqb (number_at (a ∷ b ∷ c ∷ d ∷ []) 0 4) 0x00FDFFFF ≡ (eqb 0xFF a && (eqb 0xFF b && (eqb 0xFD c && eqb 0x00 d)))
+      → eqb (from_le_bytes w32 (a ∷ b ∷ c ∷ d ∷ [])) 0x00FDFFFF ≡ (eqb 0xFF a && (eqb 0xFF b && (eqb 0xFD c && eqb 0x00 d)))
   as_number h i j k =
-      ap (λ (n : ℕ). eqb n 0x00FDFFFF) (sym (sum_is a b c d))
-      ∙ go (eqb 0xFF a) (eqb 0xFF b) (eqb 0xFD c) (eqb 0x00 d) refl refl refl refl
+      go (eqb 0xFF a) (eqb 0xFF b) (eqb 0xFD c) (eqb 0x00 d) refl refl refl refl
     where
       go : (p q r s : Bool) → eqb 0xFF a ≡ p → eqb 0xFF b ≡ q → eqb 0xFD c ≡ r → eqb 0x00 d ≡ s
           → eqb number 0x00FDFFFF ≡ (p && (q && (r && s)))

@@ -63,7 +63,7 @@ fn has_header(s: &[u8]) -> bool
     if s.len() < 4 {
         return false;
     }
-    buffers::number_of(s[0], s[1], s[2], s[3]) == HEADER
+    u32::from_le_bytes([s[0], s[1], s[2], s[3]]) == HEADER
 }
 
 // Whether the bytes that are there agree with the header.

@@ -20,13 +20,6 @@ const LIST: usize = 4;
 
 const ENTRY: usize = 5;
 
-#[derive(Clone, Copy)]
-pub enum Tested {
-    Accepted,
-    NotPlan,
-    Refused(Refusal),
-}
-
 // The four bytes of a goal.
 fn goal_at(params: &[u8], k: usize) -> i32
     requires { k + 4 ≤ length params.now }
@@ -161,7 +154,7 @@ fn is_plan(goals: &[i32], plan: &[u8]) -> bool
     let mut stood = [0u8; plan::IDS];
     let mut at = 0;
     while at < plan.len() {
-        let Verdict::Packet(n) = packet_protocols::judge(Protocol::Two, plan, at) else {
+        let Verdict::Packet(n) = Protocol::Two.judge(plan, at) else {
             return false;
         };
         if !mark_packet(goals, &plan[at..at + n], &mut stood) {
@@ -173,17 +166,9 @@ fn is_plan(goals: &[i32], plan: &[u8]) -> bool
 }
 
 // Whether the bytes are a plan of the wanted goals. [W2 W3-W5 W9]
-pub fn check(goals: &[i32], plan: &[u8]) -> Tested
+pub fn check(goals: &[i32], plan: &[u8]) -> Result<bool, Refusal>
     ensures { TestSays goals.now plan.now result }
 {
-    match plan::test_goals(goals) {
-        Err(refusal) => Tested::Refused(refusal),
-        Ok(_) => {
-            if is_plan(goals, plan) {
-                Tested::Accepted
-            } else {
-                Tested::NotPlan
-            }
-        }
-    }
+    plan::test_goals(goals)?;
+    Ok(is_plan(goals, plan))
 }

@@ -125,7 +125,7 @@ fn id_in(protocol: Protocol, packet: &[u8]) -> u8
     requires { length packet.now ≡ (rules_of protocol).longest }
     ensures { result ≡ id_in protocol packet.now }
 {
-    packet[packet_protocols::id_offset(protocol)]
+    packet[protocol.id_offset()]
 }
 
 // The event for what was found in src. A packet's bytes are copied to the packet buffer, and its ID is read there.
@@ -209,7 +209,7 @@ fn judge_longest(protocol: Protocol, held: &mut [u8], byte: u8, packet: &mut [u8
     packet[n] = byte;
     buffers::shift(held, 1, n);
     held[n - 1] = byte;
-    packet_protocols::judge(protocol, packet, 0)
+    protocol.judge(packet, 0)
 }
 
 // Reads the chunk from `from` on, where no bytes are held.
@@ -375,14 +375,14 @@ fn clear_reached(held: &mut [u8], count: usize, packet: &mut [u8], step: Step)
         (take (size_in step.event) packet.old ++ replicate (length packet.old - size_in step.event) 0)) }
 {
     let room = held.len() - count;
-    let end = count + buffers::least(room, step.taken);
+    let end = count + room.min(step.taken);
     buffers::clear(&mut held[step.held..end], 0);
     if room < step.taken {
         buffers::clear(packet, step.size());
     }
 }
 
-// A feeding call that clears no more than it has to. It answers what `feed_in` answers.
+// A feeding call that clears no more than it has to. It answers what `feed` of Protocol 2.0 answers.
 pub fn feed_lean(
     held: &mut [u8; MAX_HELD],
     count: usize,

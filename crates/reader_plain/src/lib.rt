@@ -24,13 +24,13 @@ pub enum Event {
     },
 }
 
-// The next event at the offset `from` or behind it, if there is one. At each offset stands a packet, or a bad checksum, or it is passed by one byte;
-// so is one that waits for more bytes, since none follow a whole segment. [R1-R5]
+// The next event at the offset `from` or behind it, if there is one. At each offset stands a packet, or a bad checksum, or it is
+// passed by one byte; so is one that waits for more bytes, since none follow a whole segment. [R1-R5]
 pub fn next_event(segment: &[u8], from: usize) -> Option<Event>
     ensures { result ≡ next_event segment.now from }
 {
     for offset in from..segment.len() {
-        match packet_protocols::judge(Protocol::Two, segment, offset) {
+        match Protocol::Two.judge(segment, offset) {
             Verdict::Packet(count) => return Some(Event::Packet {
                 offset,
                 count,

@@ -8,7 +8,7 @@ ghost use Rattle.table_registers.specs.Rows.{one_or_four};
 ghost use Rattle.lists.specs.Numbers.{number_at};
 ghost use Rattle.table_items.specs.Items.{signed, value_at};
 ghost use Rattle.table_rules.specs.Rules.{covers, every_touched, least_to_write, touches_limits, limits_kept, stored, write_rule};
-ghost use Rattle.table_rules.specs.Outcomes.{is_done, refusal_of, in_table};
+ghost use Rattle.table_rules.specs.Outcomes.{refusal_of, in_table};
 ghost use Rattle.table_rules.specs.Limits.{limits_in};
 ghost use Rattle.table_rules.specs.Stages.{whole, items_rule};
 
@@ -18,28 +18,14 @@ use table_registers::{
     REG_TORQUE_ENABLE, Row, SIZE_GOAL_POSITION, SIZE_MAX_POSITION, SIZE_MIN_POSITION, TABLE_BYTES,
 };
 
-// What became of a read or a write: an error of the status packet where it is not done, or a table of another size.
-#[derive(Clone, Copy)]
-pub enum Outcome {
-    Done,
+// Why a read or a write is denied: an error of the status packet, or a table of another size.
+#[derive(Clone, Copy, PartialEq, Eq, Debug)]
+pub enum Denied {
     DataRange,
     DataLength,
     DataLimit,
     NoAccess,
     NotTable,
-}
-
-pub fn is_done(outcome: Outcome) -> bool
-    ensures { result ≡ is_done outcome }
-{
-    match outcome {
-        Outcome::Done => true,
-        Outcome::DataRange => false,
-        Outcome::DataLength => false,
-        Outcome::DataLimit => false,
-        Outcome::NoAccess => false,
-        Outcome::NotTable => false,
-    }
 }
 
 // The four bytes at k as a signed number.
@@ -116,7 +102,7 @@ fn in_range(bytes: &[u8], k: usize, row: Row) -> bool
 // The stages that go by items, in one walk over the touched registers: an item that is covered in part comes before any value
 // out of range. Each touched byte can be written, so that each has a register; and the value of an item that is covered is in the
 // data, so that the table is not read.
-fn judge_items(table: &[u8], address: usize, bytes: &[u8]) -> Outcome
+fn judge_items(table: &[u8], address: usize, bytes: &[u8]) -> Result<(), Denied>
     requires { (0 < length bytes.now) × (address + length bytes.now ≤ length table.now) × (every_byte 2 address (length bytes.now) ≡ true) }
     ensures { refusal_of result ≡ items_rule address (length bytes.now) (stored table.now address bytes.now) }
 {
@@ -126,18 +112,14 @@ fn judge_items(table: &[u8], address: usize, bytes: &[u8]) -> Outcome
     while a < end {
         let row = table_registers::register_at(a);
         if !covered(row.start, row.bytes, address, end) {
-            return Outcome::DataLength;
+            return Err(Denied::DataLength);
         }
         if !in_range(bytes, row.start - address, row) {
             good = false;
         }
         a = row.start + row.bytes;
     }
-    if good {
-        Outcome::Done
-    } else {
-        Outcome::DataRange
-    }
+    if good { Ok(()) } else { Err(Denied::DataRange) }
 }
 
 // The write has a byte of a limit of the position, or of the goal position.
@@ -182,25 +164,22 @@ fn least_to_write(table: &[u8]) -> u8
 }
 
 // The write rule, on a table that stays as it is. [M5 T3 T6-T11]
-pub fn judge(table: &[u8], address: u16, bytes: &[u8]) -> Outcome
+pub fn judge(table: &[u8], address: u16, bytes: &[u8]) -> Result<(), Denied>
     ensures { refusal_of result ≡ in_table table.now (write_rule table.now address bytes.now) }
 {
     if table.len() != TABLE_BYTES {
-        return Outcome::NotTable;
+        return Err(Denied::NotTable);
     }
-    if bytes.len() == 0 {
-        return Outcome::DataLength;
+    if bytes.is_empty() {
+        return Err(Denied::DataLength);
     }
     let at = address as usize;
     if !table_registers::every_byte(least_to_write(table), at, bytes.len()) {
-        return Outcome::NoAccess;
+        return Err(Denied::NoAccess);
     }
-    let items = judge_items(table, at, bytes);
-    if !is_done(items) {
-        return items;
-    }
+    judge_items(table, at, bytes)?;
     if !limits_kept(table, at, bytes) {
-        return Outcome::DataLimit;
+        return Err(Denied::DataLimit);
     }
-    Outcome::Done
+    Ok(())
 }

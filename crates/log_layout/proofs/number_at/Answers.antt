@@ -1,6 +1,6 @@
 use mathlib.Core.Path.{sym, ◌∙◌}
 use native.Mathlib.Omega.{arith}
-use Rattle.lists.proofs.Numbers.{four_bytes}
+use Rattle.lists.proofs.Numbers.{read_is, four_bytes}
 use Rattle.log_layout.proofs.Rounds.{u32_behind, u32_tail}
 use Rattle.log_layout.proofs.number_at.Goals as goal
 
@@ -11,4 +11,4 @@ pub returns-then-file-offset-lt4 : goal.returns-then-file-offset-lt4
 returns-then-file-offset-lt4 c = let a = c.args in c.cut_number.ensures ∙ u32_tail a.file.now a.offset
 
 pub returns : goal.returns
-returns c = c.number_of.ensures ∙ four_bytes _ _
+returns c = c.from_le_bytes.ensures ∙ read_is _ _ _ _ ∙ four_bytes _ _

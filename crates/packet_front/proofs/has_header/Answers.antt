@@ -13,6 +13,6 @@ pub returns : goal.returns
 returns c =
     let s = c.args.s.now in
     let b = c.type_inv.s in
-    ap (λ (n : ℕ). eqb n 0x00FDFFFF) c.number_of.ensures
+    ap (λ (n : ℕ). eqb n 0x00FDFFFF) c.from_le_bytes.ensures
     ∙ as_number (get_or s 0 0) (get_or s 1 0) (get_or s 2 0) (get_or s 3 0) (omega (arith, (b 0).fits)) (omega (arith, (b 1).fits)) (omega (arith, (b 2).fits)) (omega (arith, (b 3).fits))
     ∙ sym (headed_by s c.if-s-lt4.false)

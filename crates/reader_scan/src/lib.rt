@@ -68,16 +68,16 @@ fn scan(protocol: Protocol, s: &[u8], from: usize) -> Live
 {
     let mut next = from;
     loop {
-        let at = packet_protocols::next_start(protocol, s, next);
+        let at = protocol.next_start(s, next);
         if s.len() <= at {
             return wanting(Scanned::Waiting { at }, 0);
         }
-        let front = packet_protocols::peek(protocol, &s[at..]);
+        let front = protocol.peek(&s[at..]);
         if let Front::Waiting(lacks) = front {
             return wanting(Scanned::Waiting { at }, lacks);
         }
         if let Front::Whole(size) = front {
-            match packet_protocols::judge_whole(protocol, &s[at..at + size]) {
+            match protocol.judge_whole(&s[at..at + size]) {
                 Verdict::Packet(count) => return wanting(Scanned::Packet { at, count }, 0),
                 Verdict::BadChecksum(id) => return wanting(Scanned::BadChecksum { at, id }, 0),
                 _ => {}
@@ -94,15 +94,15 @@ pub fn scan_closed(protocol: Protocol, segment: &[u8]) -> Scanned
 {
     let mut from = 0;
     loop {
-        let at = packet_protocols::next_start(protocol, segment, from);
+        let at = protocol.next_start(segment, from);
         if segment.len() <= at {
             return Scanned::Waiting { at };
         }
-        if segment.len() - at < packet_protocols::shortest(protocol) {
+        if segment.len() - at < protocol.shortest() {
             return Scanned::Waiting { at: segment.len() };
         }
-        if let Front::Whole(size) = packet_protocols::peek(protocol, &segment[at..]) {
-            match packet_protocols::judge_whole(protocol, &segment[at..at + size]) {
+        if let Front::Whole(size) = protocol.peek(&segment[at..]) {
+            match protocol.judge_whole(&segment[at..at + size]) {
                 Verdict::Packet(count) => return Scanned::Packet { at, count },
                 Verdict::BadChecksum(id) => return Scanned::BadChecksum { at, id },
                 _ => {}
@@ -121,11 +121,11 @@ pub fn advance(protocol: Protocol, chunk: &[u8]) -> Window
     let mut past = 0;
     let mut end = 0usize;
     loop {
-        let at = packet_protocols::next_start(protocol, chunk, past);
+        let at = protocol.next_start(chunk, past);
         if chunk.len() <= at {
             return ending(Scanned::Waiting { at }, chunk.len());
         }
-        let front = packet_protocols::peek(protocol, &chunk[at..]);
+        let front = protocol.peek(&chunk[at..]);
         // A match, not a second `if let`: so compiled, noise is passed by one test.
         match front {
             Front::Nothing => {}
@@ -133,7 +133,7 @@ pub fn advance(protocol: Protocol, chunk: &[u8]) -> Window
             Front::Whole(size) => end = end.max(at + size),
         }
         if let Front::Whole(size) = front {
-            match packet_protocols::judge_whole(protocol, &chunk[at..at + size]) {
+            match protocol.judge_whole(&chunk[at..at + size]) {
                 Verdict::Packet(count) => return ending(Scanned::Packet { at, count }, end),
                 Verdict::BadChecksum(id) => return ending(Scanned::BadChecksum { at, id }, end),
                 _ => {}
@@ -165,7 +165,7 @@ fn append(held: &mut [u8], at: usize, end: usize, bytes: &[u8]) -> usize
 fn back_in_chunk(protocol: Protocol, waiting: usize, taken: usize) -> bool
     ensures { result ≡ (leb waiting taken && ltb waiting (shape_of protocol).shortest) }
 {
-    waiting <= taken && waiting < packet_protocols::shortest(protocol)
+    waiting <= taken && waiting < protocol.shortest()
 }
 
 // The held bytes, and where they wait as many of the chunk's as they wait for, as far as there is room. Once those that were held

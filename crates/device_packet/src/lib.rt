@@ -31,7 +31,7 @@ fn id_heard(packet: &[u8]) -> u8
     }
     let end = n - 2;
     let crc = packet::checksum(&packet[4..end]);
-    if (crc as usize) != packet_front::word(packet[end], packet[end + 1]) {
+    if crc != packet_front::word(packet[end], packet[end + 1]) {
         return NO_ID;
     }
     packet[4]

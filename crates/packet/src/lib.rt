@@ -16,7 +16,7 @@ pub fn body(packet: &[u8]) -> &[u8]
     ensures { result.now ≡ body_of packet.now }
 {
     if packet.len() < 9 {
-        &packet[..0]
+        &[]
     } else {
         &packet[7..packet.len() - 2]
     }
@@ -51,7 +51,7 @@ pub fn judge_whole(packet: &[u8]) -> Verdict
     }
     let end = n - 2;
     let crc = checksum(&packet[4..end]);
-    if (crc as usize) != packet_front::word(packet[end], packet[end + 1]) {
+    if crc != packet_front::word(packet[end], packet[end + 1]) {
         return Verdict::BadChecksum(packet[4]);
     }
     let Some(_) = stuffing::check(body(packet)) else {

@@ -382,7 +382,7 @@ fn clear_reached(held: &mut [u8], count: usize, packet: &mut [u8], step: Step)
     }
 }
 
-// A feeding call that clears no more than it has to. It answers what `feed_in` answers.
+// A feeding call that clears no more than it has to. It answers what `feed` of Protocol 2.0 answers.
 pub fn feed_lean(
     held: &mut [u8; MAX_HELD],
     count: usize,

@@ -47,33 +47,20 @@ returns-in_default c =
       out_after = rw (g, l);
     }
 
-pub returns-then-out-at : goal.returns-then-out-at
-unfolding encode_refusal
-returns-then-out-at c =
-    let a = c.args in
-    let b = a.instruction ∷ a.params.now in
-    let m = measured (goal.at.returns-then-out-at c).In-Some in
-    let l = le-leb (length (stuff b) + 2) 1024 (omega arith) in
-    let r = lt-leb (a.at + length (packet_of a.id b)) (length a.out.now) (omega (arith, packet_length a.id b, c.if-out-at.true)) in
-    record {
-      value = rw (good (goal.at.returns-then-out-at c).In-Some, l, r);
-      out_after = rw (good (goal.at.returns-then-out-at c).In-Some, l, r);
-    }
-
 pub overflow_add-n : goal.overflow_add-n
 overflow_add-n c = omega (arith, measured (goal.at.overflow_add-n c).In-Some)
 
-pub returns-then-out-at-2 : goal.returns-then-out-at-2
+pub returns-then-saturating_sub-n : goal.returns-then-saturating_sub-n
 unfolding encode_refusal
-returns-then-out-at-2 c =
+returns-then-saturating_sub-n c =
     let a = c.args in
     let b = a.instruction ∷ a.params.now in
-    let m = measured (goal.at.returns-then-out-at-2 c).In-Some in
+    let m = measured (goal.at.returns-then-saturating_sub-n c).In-Some in
     let l = le-leb (length (stuff b) + 2) 1024 (omega arith) in
-    let r = lt-leb (a.at + length (packet_of a.id b)) (length a.out.now) (omega (arith, packet_length a.id b, c.if-out-at-2.true)) in
+    let r = lt-leb (a.at + length (packet_of a.id b)) (length a.out.now) (omega (arith, packet_length a.id b, c.if-saturating_sub-n.true)) in
     record {
-      value = rw (good (goal.at.returns-then-out-at-2 c).In-Some, l, r);
-      out_after = rw (good (goal.at.returns-then-out-at-2 c).In-Some, l, r);
+      value = rw (good (goal.at.returns-then-saturating_sub-n c).In-Some, l, r);
+      out_after = rw (good (goal.at.returns-then-saturating_sub-n c).In-Some, l, r);
     }
 
 pub write_packet-requires : goal.write_packet-requires
@@ -87,11 +74,11 @@ returns c =
     let a = c.args in
     let b = a.instruction ∷ a.params.now in
     let m = measured (goal.at.returns c).In-Some in
-    let h = c.if-out-at.false in
+    let h : a.at ≤ length a.out.now = omega arith in
     let l = le-leb (length (stuff b) + 2) 1024 (omega arith) in
     let r =
     le-leb (a.at + length (packet_of a.id b)) (length a.out.now)
-    (omega (arith, packet_length a.id b, c.if-out-at-2.false)) in
+    (omega (arith, packet_length a.id b, c.if-saturating_sub-n.false)) in
     let n : length (packet_of a.id b) ≡ c.in-Some.n + 9 = omega (arith, packet_length a.id b) in record {
       value = rw (good (goal.at.returns c).In-Some, l, r, n);
       out_after = rw (good (goal.at.returns c).In-Some, l, r) (tail_placed a.at a.out.now _ (packet_of a.id b) h c.write_packet.ensures);

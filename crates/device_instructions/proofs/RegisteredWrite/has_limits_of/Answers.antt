@@ -16,7 +16,7 @@ use Rattle.table_rules.specs.declared.PositionLimits.{PositionLimits}
 use Rattle.device_instructions.specs.Registered.{same_limits}
 use Rattle.device_instructions.specs.declared.RegisteredWrite.{RegisteredWrite}
 use borrow.Author.Rules.{rules}
-use Rattle.device_instructions.proofs.same_limits.Goals as goal
+use Rattle.device_instructions.proofs.RegisteredWrite.has_limits_of.Goals as goal
 
 -- the tests of the words, one after the other, of limits that are those in the table
 module _ (table : List ℕ) (w : RegisteredWrite) (l : PositionLimits) (e : l ≡ limits_in table) (s : length table ≡ table_size)
@@ -32,13 +32,13 @@ module _ (table : List ℕ) (w : RegisteredWrite) (l : PositionLimits) (e : l �
       → eqb (of_z w32 l.max) (of_z w32 w.max) ≡ same_limits table w
   same_min h k t = same_words l.max w.max h k ∙ (rw (sym (same_words l.min w.min f g) ∙ eq-eqb _ _ t) at by_both)
 
-pub returns-then-limits-registered : goal.returns-then-limits-registered
-returns-then-limits-registered c =
-    same_min c.args.table.now c.args.registered c.limits_in-limits.result c.limits_in-limits.ensures c.requires
+pub returns-then-limits-self : goal.returns-then-limits-self
+returns-then-limits-self c =
+    same_min c.args.table.now c.args.self c.limits_in-limits.result c.limits_in-limits.ensures c.requires
     (search rules) (search rules) (search rules)
-    (search rules) c.if-limits-registered.true
+    (search rules) c.if-limits-self.true
 
-pub returns-else-limits-registered : goal.returns-else-limits-registered
-returns-else-limits-registered c =
-    other_min c.args.table.now c.args.registered c.limits_in-limits.result c.limits_in-limits.ensures c.requires
-    (search rules) (search rules) c.if-limits-registered.false
+pub returns-else-limits-self : goal.returns-else-limits-self
+returns-else-limits-self c =
+    other_min c.args.table.now c.args.self c.limits_in-limits.result c.limits_in-limits.ensures c.requires
+    (search rules) (search rules) c.if-limits-self.false

@@ -81,6 +81,7 @@ pub fn carry_out(
 }
 
 // The call in one: the test of the reply buffer, the first call and the second. [D38 D39 N3 N4 N10 N12 N14]
+#[tactic(auto, unfolding(device::specs::Answers::call_refusal, device::specs::Answers::room_refusal))]
 pub fn answer(
     table: &mut [u8],
     registered: &mut RegisteredWrite,

@@ -18,7 +18,6 @@ use device_instructions::RegisteredWrite;
 use device_status::{MIN_REPLY, Reply};
 use packet_protocols::Protocol;
 use packet_rules::Front;
-use stuffing::Checked;
 
 // An ID that no device has.
 const NO_ID: u8 = 255;
@@ -28,7 +27,7 @@ fn id_heard(packet: &[u8]) -> Option<u8>
     requires { well_stuffed (body_of packet.now) ≡ true }
     ensures { unwrap_or result 255 ≡ id_heard packet.now }
 {
-    let Front::Whole(n) = packet_protocols::peek(Protocol::Two, packet) else {
+    let Front::Whole(n) = Protocol::Two.peek(packet) else {
         return None;
     };
     if n != packet.len() {
@@ -36,7 +35,7 @@ fn id_heard(packet: &[u8]) -> Option<u8>
     }
     let end = n - 2;
     let crc = packet::checksum(&packet[4..end]);
-    if (crc as usize) != packet_front::word(packet[end], packet[end + 1]) {
+    if crc != packet_front::word(packet[end], packet[end + 1]) {
         return None;
     }
     Some(packet[4])
@@ -46,7 +45,7 @@ fn id_heard(packet: &[u8]) -> Option<u8>
 fn removal_refusal(packet: &[u8], body: &[u8]) -> Result<(), Refusal>
     ensures { result ≡ answered (removal_refusal (body_of packet.now) body.now) tt }
 {
-    let Checked::Good(n) = stuffing::check(packet::body(packet)) else {
+    let Some(n) = stuffing::check(packet::body(packet)) else {
         return Err(Refusal::BadStuffing);
     };
     if body.len() < n {

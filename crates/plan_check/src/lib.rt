@@ -154,7 +154,7 @@ fn is_plan(goals: &[i32], plan: &[u8]) -> bool
     let mut stood = [0u8; plan::IDS];
     let mut at = 0;
     while at < plan.len() {
-        let Verdict::Packet(n) = packet_protocols::judge(Protocol::Two, plan, at) else {
+        let Verdict::Packet(n) = Protocol::Two.judge(plan, at) else {
             return false;
         };
         if !mark_packet(goals, &plan[at..at + n], &mut stood) {

@@ -36,7 +36,7 @@ fn write_entry(id: u8, goal: i32, out: &mut [u8])
     requires { 5 ≤ length out.old }
     ensures { out.new ≡ overwritten out.old (entry_bytes (id, unsigned goal)) }
 {
-    let bytes = buffers::bytes_of(table_items::unsigned_of(goal) as usize);
+    let bytes = table_items::unsigned_of(goal).to_le_bytes();
     out[0] = id;
     out[1] = bytes[0];
     out[2] = bytes[1];
@@ -110,7 +110,7 @@ fn write_packets(goals: &[i32], n: usize, out: &mut [u8])
     let mut next = 0;
     let mut at = 0;
     while 0 < left {
-        let k = buffers::least(left, MOST);
+        let k = left.min(MOST);
         next = write_packet(goals, next, k, out, at);
         at += 14 + 5 * k;
         left -= k;

@@ -38,8 +38,9 @@ fn index_right(file: &[u8], index: &[usize; INDEX_COUNT]) -> bool
     ensures { result ≡ list_all (λ e. nat_eq (u32_at file.now (index_offset (count_in file.now) + 4 * e.0)) e.1) (enumerate_from 0 index.now) }
 {
     let offset = log_layout::index_offset(log_layout::number_at(file, 0));
-    index.iter().enumerate().all(|(i, &number)| log_layout::number_at(file, offset + 4 * i) as usize
-        == number)
+    index.iter().enumerate().all(|(i, &number)| {
+        log_layout::number_at(file, offset + 4 * i) as usize == number
+    })
 }
 
 // Whether a file is a sound log. The layout is tested first. [I10 I16]
@@ -60,8 +61,8 @@ pub fn check(file: &[u8]) -> Result<(), Refusal>
 fn last_named(file: &[u8], number: u32, id: u8) -> Option<Place>
     ensures { Ok result ≡ found (or_in nowhere number (last_in id (segment_by file.now (entry_of file.now number)))) }
 {
-    let segment = log_layout::entry(file, number).bytes_in(file);
-    let offset = log_index::last_in(segment, id)?;
+    let entry = log_layout::entry(file, number);
+    let offset = log_index::last_in(entry.bytes_in(file), id)?;
     Some(Place {
         segment: number as usize,
         offset,

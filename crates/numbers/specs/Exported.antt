@@ -5,8 +5,8 @@ use Rattle.answers.specs.Refusals.{number_of}
 use Rattle.answers.specs.Answers.{exported}
 use Rattle.answers.specs.declared.Refusal.{Refusal}
 use Rattle.reader_core.specs.declared.Step.{Step}
-use Rattle.reader_core.specs.declared.StepEvent.{StepEvent}
-use Rattle.reader_core.specs.declared.StepEvent.TheVariants.{Packet, BadChecksum, Silent, Refused}
+use Rattle.reader_core.specs.declared.Event.{Event}
+use Rattle.reader_core.specs.declared.Event.TheVariants.{Packet, BadChecksum}
 use Rattle.reader_plain.specs.declared.Event.{Event as Event-of-segment}
 use Rattle.reader_plain.specs.declared.Event.TheVariants.{Packet as Segment-as-Packet, BadChecksum as Segment-as-BadChecksum}
 use Rattle.device_instructions.specs.declared.RegisteredWrite.{RegisteredWrite}
@@ -23,15 +23,15 @@ use Rattle.device.specs.declared.Sent.{Sent}
 
 -- what a feeding or gap call answers beside its buffers: the bytes taken, and by the event the packet's byte count, the kind (1 a
 -- packet, 2 a bad checksum, 0 no event, or the number of the refusal) and the ID [N9 N11]
-abbrev pub event_numbers : ℕ → StepEvent → StepNumbers
-event_numbers taken (Packet id n) = record { taken = taken; count = n; kind = 1; id = id }
-event_numbers taken (BadChecksum id) = record { taken = taken; count = 0; kind = 2; id = id }
-event_numbers taken Silent = record { taken = taken; count = 0; kind = 0; id = 0 }
-event_numbers taken (Refused refusal) = record { taken = taken; count = 0; kind = number_of refusal; id = 0 }
+abbrev pub event_numbers : ℕ → Option Event → StepNumbers
+event_numbers taken (Some (Packet id n)) = record { taken = taken; count = n; kind = 1; id = id }
+event_numbers taken (Some (BadChecksum id)) = record { taken = taken; count = 0; kind = 2; id = id }
+event_numbers taken None = record { taken = taken; count = 0; kind = 0; id = 0 }
 
 -- [G5]
-abbrev pub step_numbers : Step → StepNumbers
-step_numbers s = event_numbers s.taken s.event
+abbrev pub step_numbers : Result Step Refusal → StepNumbers
+step_numbers (Ok s) = event_numbers s.taken s.event
+step_numbers (Err refusal) = record { taken = 0; count = 0; kind = number_of refusal; id = 0 }
 
 -- what the plain reader answers: where the event begins, of a packet its byte count, where reading goes on, the kind (1 a packet, 2 a
 -- bad checksum) and the ID; all 0 where there is no event [G5 N11 R3-R5]

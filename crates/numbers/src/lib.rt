@@ -14,8 +14,8 @@ use device_instructions::RegisteredWrite;
 use device_status::Reply;
 use line_log::Place;
 use log_salvage::Figures;
-use reader_core::{Step, StepEvent};
-use reader_plain::Event;
+use reader_core::{Event, Step};
+use reader_plain::Event as SegmentEvent;
 
 // What a feeding or gap call returns. kind 0: no event, from a gap call: nothing is left; 1: a packet of `count` bytes; 2: a bad
 // checksum; else the number of a refusal. `id` is that of the packet or of the bad checksum.
@@ -84,71 +84,73 @@ pub struct SalvagedNumbers {
 }
 
 // The packet's bytes are in the caller's buffer.
-pub fn step(answer: Step) -> StepNumbers
+pub fn step(answer: Result<Step, Refusal>) -> StepNumbers
     ensures { result ≡ step_numbers answer }
 {
-    let taken = answer.taken;
-    let event = answer.event;
-    match event {
-        StepEvent::Packet { id, size } => StepNumbers {
+    let step = match answer {
+        Ok(step) => step,
+        Err(refusal) => return StepNumbers {
+            taken: 0,
+            count: 0,
+            kind: u8::from(refusal),
+            id: 0,
+        },
+    };
+    let taken = step.taken;
+    match step.event {
+        Some(Event::Packet { id, size }) => StepNumbers {
             taken,
             count: size,
             kind: 1,
             id,
         },
-        StepEvent::BadChecksum { id } => StepNumbers {
+        Some(Event::BadChecksum { id }) => StepNumbers {
             taken,
             count: 0,
             kind: 2,
             id,
         },
-        StepEvent::Silent => StepNumbers {
+        None => StepNumbers {
             taken,
             count: 0,
             kind: 0,
-            id: 0,
-        },
-        StepEvent::Refused(refusal) => StepNumbers {
-            taken,
-            count: 0,
-            kind: u8::from(refusal),
             id: 0,
         },
     }
 }
 
 // The packet's bytes are in the caller's segment.
-pub fn next(answer: Option<Event>) -> EventNumbers
+pub fn next(answer: Option<SegmentEvent>) -> EventNumbers
     ensures { result ≡ next_numbers answer }
 {
-    match answer {
-        Some(
-            Event::Packet {
-                offset,
-                count,
-                next,
-                id,
-            },
-        ) => EventNumbers {
+    let Some(event) = answer else {
+        return EventNumbers {
+            offset: 0,
+            count: 0,
+            next: 0,
+            kind: 0,
+            id: 0,
+        };
+    };
+    match event {
+        SegmentEvent::Packet {
+            offset,
+            count,
+            next,
+            id,
+        } => EventNumbers {
             offset,
             count,
             next,
             kind: 1,
             id,
         },
-        Some(Event::BadChecksum { offset, next, id }) => EventNumbers {
+        SegmentEvent::BadChecksum { offset, next, id } => EventNumbers {
             offset,
             count: 0,
             next,
             kind: 2,
             id,
-        },
-        None => EventNumbers {
-            offset: 0,
-            count: 0,
-            next: 0,
-            kind: 0,
-            id: 0,
         },
     }
 }

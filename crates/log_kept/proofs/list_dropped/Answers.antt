@@ -1,8 +1,8 @@
-use mathlib.Core.Path.{refl, sym, ◌∙◌}
+use mathlib.Core.Path.{refl, sym}
 use native.Mathlib.Omega.{arith}
 use lib.ListN.{length-set}
 use Rattle.lists.proofs.Filling.{fill_length}
-use Rattle.log_kept.proofs.Rounds.{kept_within, counts_of, listing_start, listing_bytes, listing_kept, listing_room, listing_dropped, listing_count, listing_counts, listing_done}
+use Rattle.log_kept.proofs.Rounds.{counts_of, listing_start, listing_bytes, listing_kept, listing_room, listing_dropped, listing_count, listing_counts, listing_done}
 use borrow.Author.Rules.{rules}
 use Rattle.log_kept.proofs.list_dropped.Goals as goal
 use Rattle.log_kept.proofs.list_dropped.Goals.{in-Ok, in-Err}

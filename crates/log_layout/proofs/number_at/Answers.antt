@@ -1,7 +1,6 @@
-use mathlib.Core.Path.{◌≡◌, ap, ◌∙◌}
+use mathlib.Core.Path.{ap, ◌∙◌}
 use Prim.Native.Nat.{ℕ}
 use mathlib.Core.List.{List}
-use borrow.Author.Rules.{rules}
 use Rattle.lists.proofs.Numbers.{read_is, four_bytes}
 use Rattle.log_layout.specs.Layout.{u32_at}
 use Rattle.log_layout.proofs.Rounds.{u32_here}

@@ -1,11 +1,11 @@
 use mathlib.Core.Path.{◌≡◌, sym, ap, ◌∙◌}
 use mathlib.Core.List.{List}
-use Prim.Native.Nat.{ℕ, ◌+◌}
+use Prim.Native.Nat.{◌+◌}
 use lib.ListN.{length}
 use borrow.Author.Rules.{rules}
 use Rattle.log_layout.specs.Log.{LogEntry}
 use Rattle.log_layout.specs.Layout.{entry_of, chained}
-use Rattle.log_layout.proofs.Rounds.{entries_left, left_end, chained_apart, chained_next}
+use Rattle.log_layout.proofs.Rounds.{left_end, chained_apart, chained_next}
 use Rattle.log_layout.proofs.segments_chained.Goals as goal
 
 pub returns-then-next-end : goal.returns-then-next-end

@@ -9,7 +9,6 @@ use Rattle.packet.specs.Verdict.{protocol2}
 use Rattle.buffers.proofs.Parts.{placed_whole}
 use Rattle.log_index.specs.Marks.{marked}
 use Rattle.log_parts.proofs.Numbers.{put_fits}
-use Rattle.log_kept.proofs.Rounds.{kept_within}
 use Rattle.log_salvage.proofs.Packing.{packing_start, packing_room, whole, packing_kept, packing_dropped, packing_marks, packing_done}
 use borrow.Author.Rules.{rules}
 use Rattle.log_salvage.proofs.pack.Goals as goal

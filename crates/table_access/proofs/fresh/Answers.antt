@@ -6,7 +6,7 @@ use Rattle.lists.specs.Numbers.{bytes_of}
 use Rattle.table_registers.specs.Registers.{registers}
 use Rattle.table_items.specs.Items.{put}
 use Rattle.table_access.specs.Fresh.{freshened}
-use Rattle.table_access.proofs.Put.{cut}
+use Rattle.table_items.proofs.Signed.{cut}
 use Rattle.table_access.proofs.fresh.Goals as goal
 
 -- computed, byte for byte

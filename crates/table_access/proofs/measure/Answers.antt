@@ -5,7 +5,8 @@ use mir.Facts.{to_z-of_z}
 use borrow.Author.Tests.{eq-eqb}
 use borrow.Author.Rules.{rules}
 use Rattle.lists.specs.Numbers.{bytes_of}
-use Rattle.table_access.proofs.Put.{cut, bits_of, measured_placed}
+use Rattle.table_items.proofs.Signed.{cut, bits_of}
+use Rattle.table_access.proofs.Put.{measured_placed}
 use Rattle.table_access.proofs.measure.Goals as goal
 
 pub returns-clause-table_after : goal.returns-clause-table_after

@@ -5,7 +5,7 @@ use lib.ListN.{set, length-append, length-take, length-drop}
 use borrow.Rule.Slice.PartMut.{put_mid}
 use Rattle.lists.specs.Numbers.{bytes_of}
 use Rattle.table_registers.specs.Registers.{registers}
-use Rattle.table_access.proofs.Put.{cut}
+use Rattle.table_items.proofs.Signed.{cut}
 use Rattle.table_resets.proofs.Resets.{filled, rom_stores}
 use Rattle.table_resets.proofs.reset_rom.Goals as goal
 use Rattle.table_resets.proofs.reset_rom.Goals.{then-not-keeps_id, else-not-keeps_id, then-not-keeps_baud, else-not-keeps_baud}

@@ -11,11 +11,11 @@ use Rattle.answers.specs.Answers.{answered}
 use Rattle.answers.specs.declared.Refusal.{Refusal}
 use Rattle.answers.specs.declared.Refusal.TheVariants.{BadId, TooLong, BadStuffing, NoRoom, NotATable, BadTableId, BadRegistered, ShortReply, BadReader, BadLog, BadLogId, BadLogSize, WrongIndex, NotGoals, BadGoal}
 
-pub counted : (o : Option Refusal) (k n : ℕ) → answered o k ≡ Ok n → (o ≡ None) × (k ≡ n)
+pub counted : {A : Type 0} (o : Option Refusal) (k n : A) → answered o k ≡ Ok n → (o ≡ None) × (k ≡ n)
 counted None k n e = (refl, cc)
 counted (Some refusal) k n e = let z : ◌≡◌ {A = ℕ} 0 1 = cc in absurd (omega arith)
 
-pub refused : (o : Option Refusal) (k : ℕ) (refusal : Refusal) → answered o k ≡ Err refusal → o ≡ Some refusal
+pub refused : {A : Type 0} (o : Option Refusal) (k : A) (refusal : Refusal) → answered o k ≡ Err refusal → o ≡ Some refusal
 refused None k refusal e = let z : ◌≡◌ {A = ℕ} 0 1 = cc in absurd (omega arith)
 refused (Some other) k refusal e = cc
 

@@ -24,11 +24,10 @@ use Rattle.reader_core.specs.Results.{event_for, packet_bytes, step_for, lean_he
 use Rattle.reader_records.specs.declared.Reader.{Reader}
 use Rattle.reader_records.specs.Records.{held_in, lent}
 use Rattle.board.specs.declared.BoardStep.{BoardStep}
-use Rattle.board.specs.Board.{Board, reader_left, carried_if_any, report_of, board_refusal, outcome}
-use Rattle.board.specs.Numbers.{step_with, refused_step, step_unless, board_step, buffer_for, buffer_left}
-use Rattle.board.specs.Inside.{number_if_any, event_by, Fits, buffer_by}
+use Rattle.board.specs.Board.{Board, reader_left, carried_if_any, board_refusal, outcome}
+use Rattle.board.specs.Numbers.{refused_step, step_unless, board_step, buffer_for, buffer_left}
+use Rattle.board.specs.Inside.{event_by, Fits, buffer_by, step_after}
 use Rattle.board.proofs.Refusals.{accepted}
-use Rattle.board.proofs.ByAnswer.{Left}
 use Rattle.board.proofs.Sound.{call_good}
 
 -- ---- the reader's answer and the packet buffer, by the event
@@ -75,17 +74,10 @@ module _ (b : Board) (c : Call) (old : List ℕ) where
       (r ≡ board_step b c)
       × ((reader ≡ (outcome b c).board.reader) × (table ≡ (outcome b c).board.table) × (buffer ≡ buffer_left b c old))
 
-  pub refused_call : (number : ℕ) → number ≡ number_if_any (board_refusal b) → ¬ (number ≡ 0) → (r : BoardStep)
-      → r ≡ refused_step number b.registered
+  pub refused_call : (refusal : Refusal) → board_refusal b ≡ Some refusal → (r : BoardStep) → r ≡ refused_step (number_of refusal) b.registered
       → Says r b.reader b.table old
   unfolding board_step outcome buffer_left
-  refused_call number n Some-number r e = by (board_refusal b) refl
-    where
-      by : (s : Option Refusal) → board_refusal b ≡ s → Says r b.reader b.table old
-      by None i = absurd (Some-number (n ∙ ap number_if_any i))
-      by (Some refusal) i =
-          let m : number ≡ number_of refusal = n ∙ ap number_if_any i in
-          (rw (i, ← m) e, (rw i, rw i, rw i))
+  refused_call refusal i r e = (rw i e, (rw i, rw i, rw i))
 
   module _ (ok : board_refusal b ≡ None) where
     abbrev result : CallResult
@@ -122,18 +114,16 @@ module _ (b : Board) (c : Call) (old : List ℕ) where
       left_buffer : buffer_by step.event buffer ≡ buffer_for (lean_packet Two b.reader.count old result) result.answer
       left_buffer = rw (step_is, buffer_is) (buffer_back base result.answer)
 
-      pub received_call : (r : BoardStep) (table' buffer' : List ℕ) → Left b.table b.registered step.taken buffer step.event r table' buffer'
+      pub received_call : (r : BoardStep) (table' buffer' : List ℕ) → r ≡ step_after b.table b.registered step.taken (event_by step.event buffer)
+          → table' ≡ (carried_if_any b.table b.registered (event_by step.event buffer)).table → buffer' ≡ buffer_by step.event buffer
           → Says r (lent bytes step.held) table' buffer'
       unfolding board_step outcome buffer_left
-      received_call r table' buffer' left =
-          let t = b.table in
+      received_call r table' buffer' e t p =
           let w = b.registered in (
-            left.0
-                ∙ (λ i. step_with (report_of t w (taken_is i) (event_is i)) (carried_if_any t w (event_is i)).registered)
-                ∙ rw ok refl,
+            e ∙ (λ i. step_after b.table w (taken_is i) (event_is i)) ∙ rw ok refl,
             (
               reader_is ∙ rw ok refl,
-              left.1.0 ∙ ap (λ (a : Option Event). (carried_if_any t w a).table) event_is ∙ rw ok refl,
-              left.1.1 ∙ left_buffer ∙ rw ok refl,
+              t ∙ ap (λ (a : Option Event). (carried_if_any b.table w a).table) event_is ∙ rw ok refl,
+              p ∙ left_buffer ∙ rw ok refl,
             ),
           )

@@ -4,7 +4,6 @@ use mathlib.Core.Path.{◌≡◌, refl, sym, ap, ◌∙◌}
 use mathlib.Core.Bool.{Bool, true, false, cond}
 use mathlib.Core.List.{List, [], ◌∷◌}
 use Prim.Native.Nat.{ℕ}
-use native.Mathlib.Omega.{arith}
 use lib.Dec.{eqb}
 use Rattle.answers.specs.Refusals.{number_of}
 use Rattle.answers.specs.Answers.{answered}
@@ -13,15 +12,15 @@ use Rattle.answers.specs.declared.Refusal.TheVariants.{BadId, TooLong, BadStuffi
 
 pub counted : {A : Type 0} (o : Option Refusal) (k n : A) → answered o k ≡ Ok n → (o ≡ None) × (k ≡ n)
 counted None k n e = (refl, cc)
-counted (Some refusal) k n e = let z : ◌≡◌ {A = ℕ} 0 1 = cc in absurd (omega arith)
+counted (Some refusal) k n e = absurd cc
 
 pub refused : {A : Type 0} (o : Option Refusal) (k : A) (refusal : Refusal) → answered o k ≡ Err refusal → o ≡ Some refusal
-refused None k refusal e = let z : ◌≡◌ {A = ℕ} 0 1 = cc in absurd (omega arith)
+refused None k refusal e = absurd cc
 refused (Some other) k refusal e = cc
 
 pub passed : {R : Type 0} (b : Bool) (x : R) (rest : Option R) → cond b rest (Some x) ≡ None → (b ≡ true) × (rest ≡ None)
 passed true x rest e = (refl, e)
-passed false x rest e = let z : ◌≡◌ {A = ℕ} 0 1 = cc in absurd (omega arith)
+passed false x rest e = absurd cc
 
 -- ---- no two refusals have the same number
 

@@ -1,5 +1,5 @@
 -- What a call on a board comes to: where it is refused, and where the reader's event is carried out.
-use Rattle.std.specs.Prelude.{None, Option, Some}
+use Rattle.std.specs.Prelude.{None, Ok, Option, Some}
 use mathlib.Core.Path.{◌≡◌, refl, ap, ◌∙◌}
 use mathlib.Core.List.{List}
 use mathlib.Core.Bool.{cond}
@@ -83,14 +83,18 @@ module _ (b : Board) (c : Call) (old : List ℕ) where
     abbrev result : CallResult
     result = call protocol2 (held_in b.reader) c
 
-    module _ (step : Step) (bytes buffer : List ℕ) (s : step ≡ step_for Two b.reader.count result)
+    -- the reader's call is not refused either
+    pub answered_step : step_for Two b.reader.count result ≡ Ok (record { taken = result.taken; held = length result.held; event = event_for Two result.answer })
+    answered_step = rw (le-leb b.reader.count 1030 (accepted b ok).held) refl
+
+    module _ (step : Step) (bytes buffer : List ℕ) (s : Ok step ≡ step_for Two b.reader.count result)
         (h : bytes ≡ lean_held_for Two b.reader.count b.reader.bytes result) (p : buffer ≡ lean_packet_for Two b.reader.count old result) where
       -- what the packet's bytes stand in
       abbrev base : List ℕ
       base = cond (leb (b.reader.count + result.taken) 1030) old (replicate 1031 0)
 
       step_is : step ≡ record { taken = result.taken; held = length result.held; event = event_for Two result.answer }
-      step_is = s ∙ rw (le-leb b.reader.count 1030 (accepted b ok).held) refl
+      step_is = let e = s ∙ answered_step in cc
 
       bytes_are : bytes ≡ lean_held Two b.reader.count b.reader.bytes result
       bytes_are = h ∙ rw (le-leb b.reader.count 1030 (accepted b ok).held) refl

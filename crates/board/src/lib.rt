@@ -1,7 +1,7 @@
 // From the line to the table: a call takes bytes up to the next event and carries it out at once.
 #![tactic(auto)]
 
-ghost use Rattle.std.specs.Prelude.{◌≡◌, cond, ◌+◌, ◌≤◌, eqb, length, take, get_or};
+ghost use Rattle.std.specs.Prelude.{Some, ◌≡◌, cond, ◌+◌, ◌≤◌, eqb, length, take, get_or};
 ghost use Rattle.lists.specs.Write.{placed};
 ghost use Rattle.stuffing.specs.Stuffing.{unstuff};
 ghost use Rattle.reading.specs.Calls.{feed as call_feed, gap as call_gap};
@@ -17,12 +17,12 @@ ghost use Rattle.board.specs.Numbers.{refused_step, board_step, buffer_left};
 ghost use Rattle.board.specs.Inside.{event_by, Fits, buffer_by, body_to, received_by, came_of, step_after};
 
 use answers::Refusal;
-use device_codes::ERROR_CHECKSUM;
+use device_codes::ErrorNumber;
 use device_dispatch::Heard;
 use device_instructions::{MAX_REGISTERED, RegisteredWrite};
 use device_status::Reply;
 use packet_front::{BROADCAST_ID, MAX_ID, MAX_PACKET};
-use reader_core::{MAX_HELD, Step, StepEvent};
+use reader_core::{Event, MAX_HELD, Step};
 use table_registers::{REG_ID, TABLE_BYTES};
 
 // What a call returns: how many bytes it took; the event as of `dxl_feed`, or the number of a refusal as its kind; the instruction, if
@@ -106,7 +106,7 @@ fn checksum_error(table: &[u8], id: u8) -> u8
     ensures { result ≡ cond (eqb id (own_id table.now)) 3 0 }
 {
     if id == table[REG_ID] {
-        ERROR_CHECKSUM
+        ErrorNumber::Checksum as u8
     } else {
         0
     }
@@ -133,28 +133,27 @@ struct Received {
     end: usize,
 }
 
-// The event of a call, if any; the stuffing of a packet is removed. What is no packet has an empty body.
-fn receive(event: StepEvent, packet: &mut [u8]) -> Option<Received>
-    requires { Fits event packet.old }
+// The stuffing of a packet is removed; what is no packet has an empty body.
+fn receive(event: Event, packet: &mut [u8]) -> Received
+    requires { Fits (Some event) packet.old }
     ensures value { result ≡ received_by event packet.old }
-    ensures packet_after { packet.new ≡ buffer_by event packet.old }
+    ensures packet_after { packet.new ≡ buffer_by (Some event) packet.old }
 {
     match event {
-        StepEvent::Packet { id, size } => Some(Received {
+        Event::Packet { id, size } => Received {
             kind: KIND_PACKET,
             id,
             count: size,
             heard: Heard::Packet,
             end: strip_packet(packet, size),
-        }),
-        StepEvent::BadChecksum { id } => Some(Received {
+        },
+        Event::BadChecksum { id } => Received {
             kind: KIND_BAD_CHECKSUM,
             id,
             count: 0,
             heard: Heard::BadChecksum,
             end: 7,
-        }),
-        StepEvent::Silent | StepEvent::Refused(_) => None,
+        },
     }
 }
 
@@ -218,9 +217,10 @@ fn follow(
     ensures table_after { table.new ≡ (carried_if_any table.old registered (event_by step.event packet.old)).table }
     ensures packet_after { packet.new ≡ buffer_by step.event packet.old }
 {
-    let Some(event) = receive(step.event, packet) else {
+    let Some(event) = step.event else {
         return BoardStep::idle(step.taken, registered);
     };
+    let event = receive(event, packet);
     let came = if is_for(&table[..], event.id) {
         carry_out(table, registered, event, &packet[..])
     } else {
@@ -259,7 +259,9 @@ pub fn feed(
     if let Some(fault) = refusal(*count, &table[..], registered) {
         return BoardStep::refused(fault, registered);
     }
-    let step = reader_core::feed_lean(held, *count, chunk, packet);
+    let Ok(step) = reader_core::feed_lean(held, *count, chunk, packet) else {
+        unreachable!()
+    };
     *count = step.held;
     follow(step, packet, table, registered)
 }
@@ -283,7 +285,9 @@ pub fn gap(
     if let Some(fault) = refusal(*count, &table[..], registered) {
         return BoardStep::refused(fault, registered);
     }
-    let step = reader_core::gap_lean(held, *count, packet);
+    let Ok(step) = reader_core::gap_lean(held, *count, packet) else {
+        unreachable!()
+    };
     *count = step.held;
     follow(step, packet, table, registered)
 }

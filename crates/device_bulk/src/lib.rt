@@ -7,7 +7,7 @@ ghost use Rattle.device_replies.specs.Results.{reacted_of, sized_reaction};
 ghost use Rattle.device_bulk.specs.Bulk.{heard_bulk_read, heard_bulk_write};
 
 use answers::NOT_A_TABLE;
-use device_codes::ERROR_INSTRUCTION;
+use device_codes::ErrorNumber;
 use device_instructions::RegisteredWrite;
 use device_parameters::{EntryKind, OwnEntry};
 use device_replies::{LEVEL_ALL, LEVEL_READ, Reacted};
@@ -26,9 +26,9 @@ pub fn heard_bulk_read(
         return device_replies::quiet(registered, NOT_A_TABLE);
     }
     if !all {
-        return device_replies::nothing_done(registered, ERROR_INSTRUCTION, false, LEVEL_READ);
+        return device_replies::nothing_done(registered, ErrorNumber::Instruction as u8, false, LEVEL_READ);
     }
-    let OwnEntry::At(slot, at) = device_parameters::search(
+    let Some(OwnEntry { slot, offset }) = device_parameters::search(
         params,
         0,
         EntryKind::BulkRead,
@@ -36,8 +36,8 @@ pub fn heard_bulk_read(
     ) else {
         return device_replies::quiet(registered, 0);
     };
-    let address = device_parameters::word_at(params, at + 1);
-    let n = device_parameters::word_at(params, at + 3);
+    let address = device_parameters::word_at(params, offset + 1);
+    let n = device_parameters::word_at(params, offset + 3);
     device_sync::sync_read_by(table, registered, slot, address, n)
 }
 
@@ -55,9 +55,9 @@ pub fn heard_bulk_write(
         return device_replies::quiet(registered, NOT_A_TABLE);
     }
     if !all {
-        return device_replies::nothing_done(registered, ERROR_INSTRUCTION, false, LEVEL_ALL);
+        return device_replies::nothing_done(registered, ErrorNumber::Instruction as u8, false, LEVEL_ALL);
     }
-    let OwnEntry::At(_, at) = device_parameters::search(
+    let Some(OwnEntry { slot: _, offset }) = device_parameters::search(
         params,
         0,
         EntryKind::BulkWrite,
@@ -65,9 +65,9 @@ pub fn heard_bulk_write(
     ) else {
         return device_replies::quiet(registered, 0);
     };
-    let address = device_parameters::word_at(params, at + 1);
-    let n = device_parameters::word_at(params, at + 3);
-    let from = at + 5;
+    let address = device_parameters::word_at(params, offset + 1);
+    let n = device_parameters::word_at(params, offset + 3);
+    let from = offset + 5;
     let to = from + n as usize;
     device_sync::sync_write_by(table, registered, address, &params[from..to])
 }

@@ -9,11 +9,7 @@ ghost use Rattle.device_dispatch.specs.Reactions.{heard_instruction};
 ghost use Rattle.device_dispatch.specs.Reactions.{reaction as reactions_reaction};
 
 use answers::NOT_A_TABLE;
-use device_codes::{
-    ERROR_CHECKSUM, ERROR_INSTRUCTION, INST_ACTION, INST_BULK_READ, INST_BULK_WRITE,
-    INST_FACTORY_RESET, INST_PING, INST_READ, INST_REBOOT, INST_REG_WRITE, INST_STATUS,
-    INST_SYNC_READ, INST_SYNC_WRITE, INST_WRITE,
-};
+use device_codes::{ErrorNumber, Instruction};
 use device_instructions::RegisteredWrite;
 use device_replies::{LEVEL_ALL, Reacted};
 use table_registers::TABLE_BYTES;
@@ -29,27 +25,36 @@ fn react(
     table: &mut [u8],
     registered: RegisteredWrite,
     all: bool,
-    instruction: u8,
+    code: u8,
     params: &[u8],
 ) -> Reacted
     requires { length table.old ≡ table_size }
-    ensures value { result ≡ reacted_of (heard_instruction instruction all table.old registered params.now) }
-    ensures table_after { table.new ≡ (heard_instruction instruction all table.old registered params.now).effect.table }
+    ensures value { result ≡ reacted_of (heard_instruction code all table.old registered params.now) }
+    ensures table_after { table.new ≡ (heard_instruction code all table.old registered params.now).effect.table }
 {
+    let Some(instruction) = Instruction::from_code(code) else {
+        return device_replies::nothing_done(
+            registered,
+            ErrorNumber::Instruction as u8,
+            all,
+            LEVEL_ALL,
+        );
+    };
     match instruction {
-        INST_PING => device_single::heard_ping(&table[..], registered, all, params),
-        INST_READ => device_single::heard_read(&table[..], registered, all, params),
-        INST_WRITE => device_single::heard_write(table, registered, all, params),
-        INST_REG_WRITE => device_single::heard_reg_write(table, registered, all, params),
-        INST_ACTION => device_single::heard_action(table, registered, all, params),
-        INST_FACTORY_RESET => device_single::heard_factory_reset(table, registered, all, params),
-        INST_REBOOT => device_single::heard_reboot(table, registered, all, params),
-        INST_STATUS => device_replies::quiet(registered, 0),
-        INST_SYNC_READ => device_sync::heard_sync_read(&table[..], registered, all, params),
-        INST_SYNC_WRITE => device_sync::heard_sync_write(table, registered, all, params),
-        INST_BULK_READ => device_bulk::heard_bulk_read(&table[..], registered, all, params),
-        INST_BULK_WRITE => device_bulk::heard_bulk_write(table, registered, all, params),
-        _ => device_replies::nothing_done(registered, ERROR_INSTRUCTION, all, LEVEL_ALL),
+        Instruction::Ping => device_single::heard_ping(&table[..], registered, all, params),
+        Instruction::Read => device_single::heard_read(&table[..], registered, all, params),
+        Instruction::Write => device_single::heard_write(table, registered, all, params),
+        Instruction::RegWrite => device_single::heard_reg_write(table, registered, all, params),
+        Instruction::Action => device_single::heard_action(table, registered, all, params),
+        Instruction::FactoryReset => device_single::heard_factory_reset(
+            table, registered, all, params,
+        ),
+        Instruction::Reboot => device_single::heard_reboot(table, registered, all, params),
+        Instruction::Status => device_replies::quiet(registered, 0),
+        Instruction::SyncRead => device_sync::heard_sync_read(&table[..], registered, all, params),
+        Instruction::SyncWrite => device_sync::heard_sync_write(table, registered, all, params),
+        Instruction::BulkRead => device_bulk::heard_bulk_read(&table[..], registered, all, params),
+        Instruction::BulkWrite => device_bulk::heard_bulk_write(table, registered, all, params),
     }
 }
 
@@ -68,10 +73,20 @@ pub fn reaction(
         return device_replies::quiet(registered, NOT_A_TABLE);
     }
     let Heard::Packet = heard else {
-        return device_replies::nothing_done(registered, ERROR_CHECKSUM, all, LEVEL_ALL);
+        return device_replies::nothing_done(
+            registered,
+            ErrorNumber::Checksum as u8,
+            all,
+            LEVEL_ALL,
+        );
     };
     if body.len() == 0 {
-        return device_replies::nothing_done(registered, ERROR_INSTRUCTION, all, LEVEL_ALL);
+        return device_replies::nothing_done(
+            registered,
+            ErrorNumber::Instruction as u8,
+            all,
+            LEVEL_ALL,
+        );
     }
     react(table, registered, all, body[0], &body[1..])
 }

@@ -4,10 +4,10 @@
 
 ghost use Rattle.std.specs.Prelude.{◌≡◌, cond, [], ◌≤◌, leb, length};
 ghost use Rattle.table_registers.specs.Registers.{table_size};
-ghost use Rattle.table_rules.specs.Outcomes.{refusal_of};
+ghost use Rattle.table_rules.specs.Outcomes.{denial_number};
 ghost use Rattle.table_resets.specs.Resets.{reset_rom, keeping};
 ghost use Rattle.device_instructions.specs.Registered.{dropped as registered_dropped, registering as registered_registering, same_limits};
-ghost use Rattle.device_instructions.specs.Instructions.{error_of, reg_write, factory_reset};
+ghost use Rattle.device_instructions.specs.Instructions.{reg_write, factory_reset};
 ghost use Rattle.device_instructions.specs.Instructions.{ping as instructions_ping};
 ghost use Rattle.device_instructions.specs.Instructions.{write as instructions_write};
 ghost use Rattle.device_instructions.specs.Instructions.{action as instructions_action};
@@ -15,14 +15,12 @@ ghost use Rattle.device_instructions.specs.Instructions.{reboot as instructions_
 ghost use Rattle.device_instructions.specs.Results.{done_with, done_by, done_of, sized, HasRead};
 
 use answers::NOT_A_TABLE;
-use device_codes::{
-    ERROR_ACCESS, ERROR_DATA_LENGTH, ERROR_DATA_LIMIT, ERROR_DATA_RANGE, ERROR_INSTRUCTION,
-};
+use device_codes::ErrorNumber;
 use table_registers::{
     MAX_DATA, REG_FIRMWARE_VERSION, REG_MODEL_NUMBER, REG_REGISTERED_INSTRUCTION,
     SIZE_FIRMWARE_VERSION, SIZE_MODEL_NUMBER, TABLE_BYTES,
 };
-use table_rules::Outcome;
+use table_rules::Denied;
 
 // The options of Factory Reset.
 pub const RESET_ALL: u8 = 0xFF;
@@ -102,17 +100,16 @@ pub fn without_data(error: u8, registered: RegisteredWrite) -> Done
     }
 }
 
-// The error number of an outcome: 0 where it is done.
-fn error_of(outcome: Outcome) -> u8
-    ensures { result ≡ error_of (refusal_of outcome) }
+// The error number of what the table denies.
+fn error_of(denied: Denied) -> u8
+    ensures { result ≡ denial_number denied }
 {
-    match outcome {
-        Outcome::Done => 0,
-        Outcome::DataRange => ERROR_DATA_RANGE,
-        Outcome::DataLength => ERROR_DATA_LENGTH,
-        Outcome::DataLimit => ERROR_DATA_LIMIT,
-        Outcome::NoAccess => ERROR_ACCESS,
-        Outcome::NotTable => NOT_A_TABLE,
+    match denied {
+        Denied::DataRange => ErrorNumber::DataRange as u8,
+        Denied::DataLength => ErrorNumber::DataLength as u8,
+        Denied::DataLimit => ErrorNumber::DataLimit as u8,
+        Denied::NoAccess => ErrorNumber::Access as u8,
+        Denied::NotTable => NOT_A_TABLE,
     }
 }
 
@@ -120,20 +117,17 @@ fn error_of(outcome: Outcome) -> u8
 pub fn read(table: &[u8], address: u16, count: u16) -> Data
     ensures { HasRead result table.now address count }
 {
-    let reading = table_access::read(table, address, count);
-    let outcome = reading.outcome;
-    if !table_rules::is_done(outcome) {
-        return Data {
-            error: error_of(outcome),
+    match table_access::read(table, address, count) {
+        Ok(bytes) => Data {
+            error: 0,
+            count: count as usize,
+            bytes,
+        },
+        Err(denied) => Data {
+            error: error_of(denied),
             count: 0,
             bytes: [0u8; MAX_DATA],
-        };
-    }
-    let bytes = reading.bytes;
-    Data {
-        error: 0,
-        count: count as usize,
-        bytes,
+        },
     }
 }
 
@@ -153,8 +147,10 @@ pub fn write(table: &mut [u8], registered: RegisteredWrite, address: u16, bytes:
     ensures value { result ≡ done_of (sized table.old registered (instructions_write table.old registered address bytes.now)) }
     ensures table_after { table.new ≡ (sized table.old registered (instructions_write table.old registered address bytes.now)).table }
 {
-    let outcome = table_access::write(table, address, bytes);
-    without_data(error_of(outcome), registered)
+    match table_access::write(table, address, bytes) {
+        Ok(()) => without_data(0, registered),
+        Err(denied) => without_data(error_of(denied), registered),
+    }
 }
 
 // A good write is kept for Action.
@@ -162,9 +158,8 @@ pub fn reg_write(table: &mut [u8], registered: RegisteredWrite, address: u16, by
     ensures value { result ≡ done_of (sized table.old registered (reg_write table.old registered address bytes.now)) }
     ensures table_after { table.new ≡ (sized table.old registered (reg_write table.old registered address bytes.now)).table }
 {
-    let outcome = table_rules::judge(&table[..], address, bytes);
-    if !table_rules::is_done(outcome) {
-        return without_data(error_of(outcome), registered);
+    if let Err(denied) = table_rules::judge(&table[..], address, bytes) {
+        return without_data(error_of(denied), registered);
     }
     let kept = registering(&table[..], address, bytes);
     table[REG_REGISTERED_INSTRUCTION] = 1;
@@ -199,12 +194,12 @@ pub fn action(table: &mut [u8], registered: RegisteredWrite) -> Done
         return without_data(NOT_A_TABLE, registered);
     }
     if registered.count == 0 {
-        return without_data(ERROR_INSTRUCTION, registered);
+        return without_data(ErrorNumber::Instruction as u8, registered);
     }
     let same = same_limits(&table[..], registered);
     table[REG_REGISTERED_INSTRUCTION] = 0;
     if !same {
-        return without_data(ERROR_DATA_LIMIT, dropped());
+        return without_data(ErrorNumber::DataLimit as u8, dropped());
     }
     let n = byte_count(registered.count);
     let held = registered.bytes;
@@ -250,7 +245,7 @@ pub fn factory_reset(table: &mut [u8], registered: RegisteredWrite, option: u8) 
         RESET_ALL => reset_with(table, registered, false, false),
         RESET_BUT_ID => reset_with(table, registered, true, false),
         RESET_BUT_ID_AND_BAUD => reset_with(table, registered, true, true),
-        _ => without_data(ERROR_DATA_RANGE, registered),
+        _ => without_data(ErrorNumber::DataRange as u8, registered),
     }
 }
 

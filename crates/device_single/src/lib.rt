@@ -7,7 +7,7 @@ ghost use Rattle.device_replies.specs.Results.{reacted_of, sized_reaction};
 ghost use Rattle.device_single.specs.Single.{heard_ping, heard_read, heard_write, heard_reg_write, heard_action, heard_reboot, heard_factory_reset};
 
 use answers::NOT_A_TABLE;
-use device_codes::ERROR_DATA_LENGTH;
+use device_codes::ErrorNumber;
 use device_instructions::{RESET_ALL, RegisteredWrite};
 use device_replies::{LEVEL_ALL, LEVEL_PING, LEVEL_READ, Reacted};
 use table_registers::{REG_ID, TABLE_BYTES};
@@ -20,7 +20,7 @@ pub fn heard_ping(table: &[u8], registered: RegisteredWrite, all: bool, params: 
         return device_replies::quiet(registered, NOT_A_TABLE);
     }
     if params.len() != 0 {
-        return device_replies::nothing_done(registered, ERROR_DATA_LENGTH, all, LEVEL_PING);
+        return device_replies::nothing_done(registered, ErrorNumber::DataLength as u8, all, LEVEL_PING);
     }
     let done = device_instructions::ping(table, registered);
     if all {
@@ -42,7 +42,7 @@ pub fn heard_read(table: &[u8], registered: RegisteredWrite, all: bool, params: 
         return device_replies::quiet(registered, NOT_A_TABLE);
     }
     if params.len() != 4 {
-        return device_replies::nothing_done(registered, ERROR_DATA_LENGTH, all, LEVEL_READ);
+        return device_replies::nothing_done(registered, ErrorNumber::DataLength as u8, all, LEVEL_READ);
     }
     let reading = device_instructions::read(
         table,
@@ -70,7 +70,7 @@ pub fn heard_write(
         return device_replies::quiet(registered, NOT_A_TABLE);
     }
     if params.len() < 2 {
-        return device_replies::nothing_done(registered, ERROR_DATA_LENGTH, all, LEVEL_ALL);
+        return device_replies::nothing_done(registered, ErrorNumber::DataLength as u8, all, LEVEL_ALL);
     }
     let done = device_instructions::write(
         table,
@@ -95,7 +95,7 @@ pub fn heard_reg_write(
         return device_replies::quiet(registered, NOT_A_TABLE);
     }
     if params.len() < 2 {
-        return device_replies::nothing_done(registered, ERROR_DATA_LENGTH, all, LEVEL_ALL);
+        return device_replies::nothing_done(registered, ErrorNumber::DataLength as u8, all, LEVEL_ALL);
     }
     let done = device_instructions::reg_write(
         table,
@@ -120,7 +120,7 @@ pub fn heard_action(
         return device_replies::quiet(registered, NOT_A_TABLE);
     }
     if params.len() != 0 {
-        return device_replies::nothing_done(registered, ERROR_DATA_LENGTH, all, LEVEL_ALL);
+        return device_replies::nothing_done(registered, ErrorNumber::DataLength as u8, all, LEVEL_ALL);
     }
     let done = device_instructions::action(table, registered);
     device_replies::own_only(done, all, LEVEL_ALL)
@@ -140,7 +140,7 @@ pub fn heard_reboot(
         return device_replies::quiet(registered, NOT_A_TABLE);
     }
     if params.len() != 0 {
-        return device_replies::nothing_done(registered, ERROR_DATA_LENGTH, all, LEVEL_ALL);
+        return device_replies::nothing_done(registered, ErrorNumber::DataLength as u8, all, LEVEL_ALL);
     }
     let done = device_instructions::reboot(table, registered);
     device_replies::own_only(done, all, LEVEL_ALL)
@@ -167,7 +167,7 @@ pub fn heard_factory_reset(
         return device_replies::quiet(registered, NOT_A_TABLE);
     }
     if params.len() != 1 {
-        return device_replies::nothing_done(registered, ERROR_DATA_LENGTH, all, LEVEL_ALL);
+        return device_replies::nothing_done(registered, ErrorNumber::DataLength as u8, all, LEVEL_ALL);
     }
     let option = params[0];
     if resets_every_id(all, option) {

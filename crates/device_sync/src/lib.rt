@@ -7,7 +7,7 @@ ghost use Rattle.device_replies.specs.Results.{reacted_of, sized_reaction, sized
 ghost use Rattle.device_sync.specs.Sync.{sync_read_by, sync_write_by, heard_sync_read, heard_sync_write};
 
 use answers::NOT_A_TABLE;
-use device_codes::ERROR_INSTRUCTION;
+use device_codes::ErrorNumber;
 use device_instructions::RegisteredWrite;
 use device_parameters::OwnEntry;
 use device_replies::{LEVEL_ALL, LEVEL_READ, Reacted};
@@ -58,9 +58,9 @@ pub fn heard_sync_read(
         return device_replies::quiet(registered, NOT_A_TABLE);
     }
     if !all {
-        return device_replies::nothing_done(registered, ERROR_INSTRUCTION, false, LEVEL_READ);
+        return device_replies::nothing_done(registered, ErrorNumber::Instruction as u8, false, LEVEL_READ);
     }
-    let OwnEntry::At(slot, _) = device_parameters::sync_search(params, 0, table[REG_ID]) else {
+    let Some(OwnEntry { slot, offset: _ }) = device_parameters::sync_search(params, 0, table[REG_ID]) else {
         return device_replies::quiet(registered, 0);
     };
     let address = device_parameters::word_at(params, 0);
@@ -82,13 +82,13 @@ pub fn heard_sync_write(
         return device_replies::quiet(registered, NOT_A_TABLE);
     }
     if !all {
-        return device_replies::nothing_done(registered, ERROR_INSTRUCTION, false, LEVEL_ALL);
+        return device_replies::nothing_done(registered, ErrorNumber::Instruction as u8, false, LEVEL_ALL);
     }
     let n = device_parameters::word_at(params, 2);
-    let OwnEntry::At(_, at) = device_parameters::sync_search(params, n, table[REG_ID]) else {
+    let Some(OwnEntry { slot: _, offset }) = device_parameters::sync_search(params, n, table[REG_ID]) else {
         return device_replies::quiet(registered, 0);
     };
-    let from = at + 1;
+    let from = offset + 1;
     let to = from + n as usize;
     let address = device_parameters::word_at(params, 0);
     sync_write_by(table, registered, address, &params[from..to])

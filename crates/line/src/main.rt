@@ -9,11 +9,11 @@ ghost use Rattle.reader_plain.specs.Plain.{Within};
 
 use anyhow::Context;
 use packet_front::MAX_BODY;
-use reader_plain::Next;
+use reader_plain::Event as Found;
 use std::io;
 
 // An event lies within the segment, and reading goes on behind where it begins.
-fn next_event(segment: &[u8], from: usize) -> Next
+fn next_event(segment: &[u8], from: usize) -> Option<Found>
     ensures { Within segment.now from result }
 {
     reader_plain::next_event(segment, from)
@@ -39,8 +39,8 @@ impl<'a> Iterator for Events<'a> {
     ghost remaining = { λ events. at_most (length events.segment.now - events.from) };
 
     fn next(&mut self) -> Option<Event<'a>> {
-        match next_event(self.segment, self.from) {
-            Next::Packet {
+        match next_event(self.segment, self.from)? {
+            Found::Packet {
                 offset,
                 next,
                 id,
@@ -50,11 +50,10 @@ impl<'a> Iterator for Events<'a> {
                 self.from = next;
                 Some(Event::Packet { id, bytes })
             }
-            Next::BadChecksum { next, id, .. } => {
+            Found::BadChecksum { next, id, .. } => {
                 self.from = next;
                 Some(Event::BadChecksum { id })
             }
-            Next::Nothing => None,
         }
     }
 }

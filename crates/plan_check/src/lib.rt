@@ -11,7 +11,7 @@ ghost use Rattle.plan_check.specs.Checking.{fits, past, SomeFound, MarkSays, Bod
 ghost use Rattle.plan_check.specs.Tested.{SaysWhether, TestSays};
 
 use answers::Refusal;
-use device_parameters::OwnEntry;
+use device_codes::Instruction;
 use packet_protocols::Protocol;
 use packet_rules::Verdict;
 
@@ -19,13 +19,6 @@ use packet_rules::Verdict;
 const LIST: usize = 4;
 
 const ENTRY: usize = 5;
-
-#[derive(Clone, Copy)]
-pub enum Tested {
-    Accepted,
-    NotPlan,
-    Refused(Refusal),
-}
 
 // The four bytes of a goal.
 fn goal_at(params: &[u8], k: usize) -> i32
@@ -78,7 +71,7 @@ fn mark_entries(goals: &[i32], params: &[u8], stood: &mut [u8]) -> bool
     if params.len() <= LIST {
         return false;
     }
-    let OwnEntry::At(_, _) = device_parameters::sync_search(params, 4, params[LIST]) else {
+    let Some(_) = device_parameters::sync_search(params, 4, params[LIST]) else {
         return false;
     };
     mark_list(goals, params, stood)
@@ -91,7 +84,7 @@ fn has_head(body: &[u8]) -> bool
     if body.len() < 5 {
         return false;
     }
-    if body[0] != device_codes::INST_SYNC_WRITE {
+    if body[0] != Instruction::SyncWrite as u8 {
         return false;
     }
     if body[1] != plan::ADDRESS {
@@ -161,7 +154,7 @@ fn is_plan(goals: &[i32], plan: &[u8]) -> bool
     let mut stood = [0u8; plan::IDS];
     let mut at = 0;
     while at < plan.len() {
-        let Verdict::Packet(n) = packet_protocols::judge(Protocol::Two, plan, at) else {
+        let Verdict::Packet(n) = Protocol::Two.judge(plan, at) else {
             return false;
         };
         if !mark_packet(goals, &plan[at..at + n], &mut stood) {
@@ -173,17 +166,9 @@ fn is_plan(goals: &[i32], plan: &[u8]) -> bool
 }
 
 // Whether the bytes are a plan of the wanted goals. [W2 W3-W5 W9]
-pub fn check(goals: &[i32], plan: &[u8]) -> Tested
+pub fn check(goals: &[i32], plan: &[u8]) -> Result<bool, Refusal>
     ensures { TestSays goals.now plan.now result }
 {
-    match plan::test_goals(goals) {
-        Err(refusal) => Tested::Refused(refusal),
-        Ok(_) => {
-            if is_plan(goals, plan) {
-                Tested::Accepted
-            } else {
-                Tested::NotPlan
-            }
-        }
-    }
+    plan::test_goals(goals)?;
+    Ok(is_plan(goals, plan))
 }

@@ -9,6 +9,7 @@ ghost use Rattle.plan.proofs.Packets.{Rising};
 ghost use Rattle.plan_writer.specs.Filling.{entries_at};
 
 use answers::Refusal;
+use device_codes::Instruction;
 
 // The most entries that a packet holds: 5 bytes each behind instruction, address and length, in a body of 1,022; and the parameters
 // of such a packet.
@@ -35,7 +36,7 @@ fn write_entry(id: u8, goal: i32, out: &mut [u8])
     requires { 5 ≤ length out.old }
     ensures { out.new ≡ overwritten out.old (entry_bytes (id, unsigned goal)) }
 {
-    let bytes = buffers::bytes_of(table_items::unsigned_of(goal) as usize);
+    let bytes = table_items::unsigned_of(goal).to_le_bytes();
     out[0] = id;
     out[1] = bytes[0];
     out[2] = bytes[1];
@@ -92,7 +93,7 @@ fn write_packet(goals: &[i32], from: usize, k: usize, out: &mut [u8], at: usize)
     let written: &[u8] = &params;
     let _ = packet_encoder::encode(
         packet_front::BROADCAST_ID,
-        device_codes::INST_SYNC_WRITE,
+        Instruction::SyncWrite as u8,
         &written[..4 + 5 * k],
         out,
         at,
@@ -109,7 +110,7 @@ fn write_packets(goals: &[i32], n: usize, out: &mut [u8])
     let mut next = 0;
     let mut at = 0;
     while 0 < left {
-        let k = buffers::least(left, MOST);
+        let k = left.min(MOST);
         next = write_packet(goals, next, k, out, at);
         at += 14 + 5 * k;
         left -= k;
@@ -122,10 +123,7 @@ pub fn write_plan(goals: &[i32], out: &mut [u8]) -> Result<usize, Refusal>
     ensures value { result ≡ plan_answer goals.now out.old }
     ensures out_after { out.new ≡ plan_out goals.now out.old }
 {
-    let tested = plan::test_goals(goals);
-    let Ok(_) = tested else {
-        return tested;
-    };
+    plan::test_goals(goals)?;
     let n = count_wanted(goals);
     let size = 14 * ((n + 202) / MOST) + 5 * n;
     if out.len() < size {

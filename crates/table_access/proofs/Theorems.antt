@@ -5,7 +5,6 @@ use mathlib.Core.List.{List}
 use Prim.Native.Nat.{ℕ, ◌+◌, ◌≤◌}
 use native.Mathlib.Omega.{arith}
 use lib.ListN.{length}
-use Rattle.table_registers.specs.Registers.{registers}
 use Rattle.table_registers.proofs.Permits.{every_inside, every_short}
 use Rattle.table_rules.specs.Rules.{least_to_write, read_rule, write_rule}
 use Rattle.table_rules.specs.Outcomes.{in_table}

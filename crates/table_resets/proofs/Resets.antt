@@ -1,5 +1,4 @@
 -- Fresh values in the places of registers, as stores of their bytes: Reboot and Factory Reset.
-use Rattle.std.specs.Prelude.{Err, Ok}
 use mathlib.Core.Path.{◌≡◌, refl, sym, ap, ◌∙◌}
 use mathlib.Core.Bool.{Bool, true, false, cond, not, ◌&&◌}
 use mathlib.Core.List.{List, [], ◌∷◌}
@@ -8,9 +7,6 @@ use native.Mathlib.Omega.{arith}
 use lib.Dec.{leb}
 use lib.ListN.{length, take, drop, get_or, set}
 use lib.Seq.{drop-cons, set-get_or, sets}
-use borrow.Author.Tests.{eq-eqb, ne_eqb}
-use Rattle.answers.specs.Answers.{answered}
-use Rattle.answers.specs.declared.Refusal.TheVariants.{NotATable}
 use Rattle.table_registers.specs.Registers.{Register, registers, table_size, end_of, writable}
 use Rattle.table_registers.proofs.Rows.{inside, first_inside}
 use Rattle.lists.proofs.Bools.{and_right}
@@ -18,19 +14,11 @@ use Rattle.lists.specs.Numbers.{bytes_of}
 use Rattle.table_items.specs.Items.{put}
 use Rattle.table_access.specs.Fresh.{freshened}
 use Rattle.table_rules.specs.Rules.{stored}
-use Rattle.table_rules.specs.Outcomes.{size_refusal, on_table}
-use Rattle.table_rules.proofs.Size.{on_table_lem, off_table}
+use Rattle.table_rules.specs.Outcomes.{on_table}
+use Rattle.table_rules.proofs.Size.{on_table_lem}
 use Rattle.table_access.proofs.Put.{put_sets, put_length}
 use Rattle.table_rules.proofs.Stored.{stored_sets}
 use Rattle.table_resets.specs.Resets.{only, is_rom, reset_at_reboot, rebooted, reset_rom, keeping, keeps_id_and_baud}
-
--- a table of another size: the answer and what is left
-pub refused : (table new : List ℕ) → (length table ≡ table_size → ⊥) → (Err NotATable ≡ answered (size_refusal table) 0) × (table ≡ on_table table new)
-refused table new n = (rw (ne_eqb (length table) table_size n), sym (off_table table n new))
-
--- and one of its size
-pub not_refused : (table : List ℕ) → length table ≡ table_size → Ok 0 ≡ answered (size_refusal table) 0
-not_refused table s = rw (eq-eqb (length table) table_size s)
 
 -- on a list that is written out this computes to the stores themselves, those of the first register first
 abbrev stores : List Register → List ℕ → List ℕ

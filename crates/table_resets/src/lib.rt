@@ -15,8 +15,8 @@ use table_registers::{
 };
 
 // RAM items fresh, present position as it was, min position as the goal.
-pub fn reboot(table: &mut [u8]) -> Result<usize, Refusal>
-    ensures value { result ≡ answered (size_refusal table.old) 0 }
+pub fn reboot(table: &mut [u8]) -> Result<(), Refusal>
+    ensures value { result ≡ answered (size_refusal table.old) tt }
     ensures table_after { table.new ≡ on_table table.old (rebooted table.old) }
 {
     if table.len() != TABLE_BYTES {
@@ -39,7 +39,7 @@ pub fn reboot(table: &mut [u8]) -> Result<usize, Refusal>
     table[REG_GOAL_POSITION + 1] = b;
     table[REG_GOAL_POSITION + 2] = c;
     table[REG_GOAL_POSITION + 3] = d;
-    Ok(0)
+    Ok(())
 }
 
 // The byte where it is kept, the fresh one where it is not.
@@ -50,8 +50,8 @@ fn kept_or(keeps: bool, byte: u8, fresh: u8) -> u8
 }
 
 // Factory Reset: homing offset and both limits fresh, and of ID and baud code what is not kept.
-pub fn reset_rom(table: &mut [u8], keeps_id: bool, keeps_baud: bool) -> Result<usize, Refusal>
-    ensures value { result ≡ answered (size_refusal table.old) 0 }
+pub fn reset_rom(table: &mut [u8], keeps_id: bool, keeps_baud: bool) -> Result<(), Refusal>
+    ensures value { result ≡ answered (size_refusal table.old) tt }
     ensures table_after { table.new ≡ on_table table.old (reset_rom (keeping keeps_id keeps_baud) table.old) }
 {
     if table.len() != TABLE_BYTES {
@@ -71,5 +71,5 @@ pub fn reset_rom(table: &mut [u8], keeps_id: bool, keeps_baud: bool) -> Result<u
     table[REG_MIN_POSITION + 1] = 0;
     table[REG_MIN_POSITION + 2] = 0;
     table[REG_MIN_POSITION + 3] = 0;
-    Ok(0)
+    Ok(())
 }

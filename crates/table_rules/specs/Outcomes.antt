@@ -1,30 +1,25 @@
 -- What becomes of a read or a write, as a number of RULES.
-use Rattle.std.specs.Prelude.{None, Option, Some}
-use Rattle.std.specs.Prelude.{Bool, true, false, cond, List, [], ◌∷◌, ℕ, eqb, length}
+use Rattle.std.specs.Prelude.{None, Option, Some, Result, Ok, Err}
+use Rattle.std.specs.Prelude.{cond, List, [], ◌∷◌, ℕ, eqb, length}
 use Rattle.answers.specs.Refusals.{number_of, first_failing, unless_refused}
 use Rattle.answers.specs.declared.Refusal.{Refusal}
 use Rattle.answers.specs.declared.Refusal.TheVariants.{NotATable}
 use Rattle.table_registers.specs.Registers.{table_size}
-use Rattle.table_rules.specs.declared.Outcome.{Outcome}
-use Rattle.table_rules.specs.declared.Outcome.TheVariants.{Done, DataRange, DataLength, DataLimit, NoAccess, NotTable}
+use Rattle.table_rules.specs.declared.Denied.{Denied}
+use Rattle.table_rules.specs.declared.Denied.TheVariants.{DataRange, DataLength, DataLimit, NoAccess, NotTable}
 
--- the numbers of the outcomes: error numbers of a status packet, and 21, which is the caller's fault [K5 N5 N11]
-abbrev pub refusal_of : Outcome → Option ℕ
-refusal_of Done = None
-refusal_of DataRange = Some 0x04
-refusal_of DataLength = Some 0x05
-refusal_of DataLimit = Some 0x06
-refusal_of NoAccess = Some 0x07
-refusal_of NotTable = Some (number_of NotATable)
+-- error numbers of a status packet, and 21, which is the caller's fault [K5 N5 N11]
+abbrev pub denial_number : Denied → ℕ
+denial_number DataRange = 0x04
+denial_number DataLength = 0x05
+denial_number DataLimit = 0x06
+denial_number NoAccess = 0x07
+denial_number NotTable = number_of NotATable
 
--- [K5]
-abbrev pub is_done : Outcome → Bool
-is_done Done = true
-is_done DataRange = false
-is_done DataLength = false
-is_done DataLimit = false
-is_done NoAccess = false
-is_done NotTable = false
+-- the number where it is denied [K5]
+abbrev pub refusal_of : {A : Type 0} → Result A Denied → Option ℕ
+refusal_of (Ok done) = None
+refusal_of (Err denied) = Some (denial_number denied)
 
 -- A table of another size is refused before anything else, and stays as it is: every function on a table goes by these.
 -- [N5 N13]

@@ -15,7 +15,7 @@ use device_dispatch::Heard;
 use device_instructions::RegisteredWrite;
 use device_status::{MIN_REPLY, Reply};
 use packet_front::{MAX_BODY, MAX_PACKET};
-use reader_core::{MAX_HELD, StepEvent};
+use reader_core::{Event, MAX_HELD, ProtocolTwo};
 use table_registers::{REG_ID, TABLE_BYTES};
 
 #[derive(Clone, Copy)]
@@ -137,18 +137,14 @@ impl Device {
         self.answer(rt, Heard::BadChecksum, id, b"");
     }
 
-    // Hears the event that a call gave, if any, and returns whether there was one.
-    fn hear(&mut self, rt: &impl Print, event: StepEvent, packet: &[u8; MAX_PACKET]) -> bool {
+    fn hear(&mut self, rt: &impl Print, event: Event, packet: &[u8; MAX_PACKET]) {
         match event {
-            StepEvent::Packet { id, size } => {
-                self.hear_packet(rt, id, &packet[..size.min(packet.len())]);
-                true
-            }
-            StepEvent::BadChecksum { id } => {
-                self.hear_bad_checksum(rt, id);
-                true
-            }
-            StepEvent::Silent | StepEvent::Refused(_) => false,
+            Event::Packet { id, size } => self.hear_packet(
+                rt,
+                id,
+                &packet[..size.min(packet.len())],
+            ),
+            Event::BadChecksum { id } => self.hear_bad_checksum(rt, id),
         }
     }
 
@@ -160,19 +156,27 @@ impl Device {
         let mut count = 0;
         let mut rest = segment;
         for _ in 0..u64::MAX {
-            let step = reader_core::feed_in(&mut held, count, rest, &mut packet);
+            let Ok(step) = reader_core::feed::<ProtocolTwo, _, _>(
+                &mut held,
+                count,
+                rest,
+                &mut packet,
+            ) else {
+                return;
+            };
             count = step.held;
             rest = &rest[step.taken.min(rest.len())..];
-            if !self.hear(rt, step.event, &packet) {
-                break;
-            }
+            let Some(event) = step.event else { break };
+            self.hear(rt, event, &packet);
         }
         for _ in 0..u64::MAX {
-            let step = reader_core::gap_in(&mut held, count, &mut packet);
+            let Ok(step) = reader_core::gap::<ProtocolTwo, _, _>(&mut held, count, &mut packet)
+            else {
+                return;
+            };
             count = step.held;
-            if !self.hear(rt, step.event, &packet) {
-                break;
-            }
+            let Some(event) = step.event else { break };
+            self.hear(rt, event, &packet);
         }
     }
 

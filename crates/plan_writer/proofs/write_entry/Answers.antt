@@ -4,6 +4,7 @@ use Prim.Native.Nat.{ℕ}
 use mir.Facts.{to_z-of_z}
 use Rattle.lists.specs.Write.{overwritten}
 use Rattle.lists.specs.Numbers.{bytes_of}
+use Rattle.lists.proofs.Numbers.{written_is}
 use Rattle.table_items.specs.Items.{unsigned}
 use native.Mathlib.Omega.{arith}
 use lib.ListN.{get_or, length-set}
@@ -25,4 +26,4 @@ returns c =
     let o = c.args.out.now in
     set_five o c.args.id _ _ _ _ c.requires
     ∙ ap (λ (l : List ℕ). overwritten o (c.args.id ∷ get_or l 0 0 ∷ get_or l 1 0 ∷ get_or l 2 0 ∷ get_or l 3 0 ∷ []))
-    (c.bytes_of-bytes.ensures ∙ ap (bytes_of 4) (c.unsigned_of.ensures ∙ ap unsigned (to_z-of_z c.ranges.goal)))
+    (c.to_le_bytes-bytes.ensures ∙ written_is _ ∙ ap (bytes_of 4) (c.unsigned_of.ensures ∙ ap unsigned (to_z-of_z c.ranges.goal)))

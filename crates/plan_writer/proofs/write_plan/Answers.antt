@@ -1,4 +1,5 @@
 use Rattle.std.specs.Prelude.{None}
+use Rattle.std.proofs.lemmas.Result.{err_from_is_err_and}
 use mathlib.Core.Path.{◌≡◌, sym, ◌∙◌}
 use Prim.Native.Nat.{◌+◌, ◌*◌, ◌/◌, ◌≤◌}
 use native.Mathlib.Omega.{arith}
@@ -12,12 +13,13 @@ use Rattle.plan_writer.proofs.Sending.{entries_good, count_few, size_is}
 use Rattle.plan_writer.proofs.write_plan.Goals as goal
 use Rattle.plan_writer.proofs.write_plan.Goals.{After-count_wanted-n}
 
-pub returns-in_default : goal.returns-in_default
+pub returns-in_err-test_goals : goal.returns-in_err-test_goals
 unfolding plan_refusal
-returns-in_default c =
-    let e = refused (goals_refusal c.args.goals.now) 0 _ (sym c.test_goals-tested.ensures ∙ c.in_default.is) in
+returns-in_err-test_goals c =
+    let p = err_from_is_err_and c.from_residual.result c.from_residual.ensures.1 in
+    let e = refused (goals_refusal c.args.goals.now) tt _ (sym c.in_err-test_goals.ensures) in
     record {
-      value = c.in_default.is ∙ rw e;
+      value = rw (e, p.1, p.2);
       out_after = rw e;
     }
 
@@ -25,7 +27,7 @@ returns-in_default c =
 module _ (k : After-count_wanted-n) where
   good : goals_refusal k.args.goals.now ≡ None
   good =
-      (counted (goals_refusal k.args.goals.now) 0 _ (sym k.test_goals-tested.ensures ∙ k.in-Ok.is)).0
+      (counted (goals_refusal k.args.goals.now) tt _ (sym k.in_ok-test_goals.ensures)).0
 
   few : k.count_wanted-n.result ≤ 253
   few = count_few k.args.goals.now good k.count_wanted-n.result k.count_wanted-n.ensures

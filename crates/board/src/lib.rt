@@ -193,7 +193,8 @@ fn carry_out(
 {
     let wrong = checksum_error(&table[..], event.id);
     let body = &packet[7..event.end];
-    let carried = device::carry_out_tested(table, registered, event.heard, event.id, body);
+    let mut kept = registered;
+    let carried = device::carry_out_tested(table, &mut kept, event.heard, event.id, body);
     Came {
         instruction: body.first().copied().unwrap_or(0),
         error: match event.heard {
@@ -201,7 +202,7 @@ fn carry_out(
             Heard::BadChecksum => wrong,
         },
         reply: carried.reply,
-        registered: carried.registered,
+        registered: kept,
     }
 }
 

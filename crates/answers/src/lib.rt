@@ -3,7 +3,7 @@
 
 ghost use Rattle.std.specs.Prelude.{◌≡◌, Ok, Err};
 ghost use Rattle.answers.specs.Refusals.{number_of};
-ghost use Rattle.answers.specs.Answers.{exported as answers_exported};
+ghost use Rattle.answers.specs.Answers.{exported as answers_exported, exported_done as answers_exported_done};
 
 // The refusals and their numbers, in the order of RULES N; which is tested first in a call stands in its definition.
 #[derive(Clone, Copy, PartialEq, Eq, Debug)]
@@ -62,6 +62,16 @@ pub fn exported(answer: Result<usize, Refusal>) -> i64
 {
     match answer {
         Ok(n) => exported_count(n),
+        Err(refusal) => exported_refusal(refusal),
+    }
+}
+
+// The answer of a call that has nothing to count: 0 where it is done. [G5 N11]
+pub fn exported_done(answer: Result<(), Refusal>) -> i64
+    ensures { result ≡ answers_exported_done answer }
+{
+    match answer {
+        Ok(()) => 0,
         Err(refusal) => exported_refusal(refusal),
     }
 }

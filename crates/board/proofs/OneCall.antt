@@ -1,6 +1,6 @@
 -- What a call on a board comes to: where it is refused, and where the reader's event is carried out.
-use Rattle.std.specs.Prelude.{None, Option, Some}
-use mathlib.Core.Path.{◌≡◌, refl, ap, ◌∙◌}
+use Rattle.std.specs.Prelude.{Err, None, Ok, Option, Result, Some}
+use mathlib.Core.Path.{◌≡◌, refl, sym, ap, subst, ◌∙◌}
 use mathlib.Core.List.{List}
 use mathlib.Core.Bool.{cond}
 use Prim.Native.Nat.{ℕ, ◌+◌}
@@ -19,6 +19,7 @@ use Rattle.packet.specs.Packet.{WellFormed, body_of}
 use Rattle.packet.specs.Verdict.{protocol2}
 use Rattle.packet.proofs.Laws.{laws}
 use Rattle.packet_protocols.specs.declared.Protocol.TheVariants.{Two}
+use Rattle.reader_core.specs.declared.Event.{Event as Event-as-Code}
 use Rattle.reader_core.specs.declared.Step.{Step}
 use Rattle.reader_core.specs.Results.{event_for, packet_bytes, step_for, lean_held, lean_packet, lean_held_for, lean_packet_for}
 use Rattle.reader_records.specs.declared.Reader.{Reader}
@@ -59,6 +60,10 @@ module _ (base : List ℕ) where
 
 -- ---- the call
 
+abbrev step_or : Step → Result Step Refusal → Step
+step_or other (Ok step) = step
+step_or other (Err refusal) = other
+
 -- the registered write of the answer is that of the board
 pub step_registered : (b : Board) (c : Call) → (board_step b c).registered ≡ (outcome b c).board.registered
 unfolding board_step
@@ -91,14 +96,26 @@ module _ (b : Board) (c : Call) (old : List ℕ) where
     abbrev result : CallResult
     result = call protocol2 (held_in b.reader) c
 
-    module _ (step : Step) (bytes buffer : List ℕ) (s : step ≡ step_for Two b.reader.count result)
+    abbrev told : Step
+    told = record { taken = result.taken; held = length result.held; event = event_for Two result.answer }
+
+    -- the reader refuses nothing then
+    pub taken_on : (refusal : Refusal) → ¬ (Err refusal ≡ step_for Two b.reader.count result)
+    taken_on refusal e =
+        let other : ◌≡◌ {A = Result Step Refusal} (Err refusal) (Ok told) = e ∙ rw (le-leb b.reader.count 1030 (accepted b ok).held) refl in
+        let z : ◌≡◌ {A = ℕ} 0 1 = cc in
+        omega arith
+
+    module _ (step : Step) (bytes buffer : List ℕ) (s : Ok step ≡ step_for Two b.reader.count result)
         (h : bytes ≡ lean_held_for Two b.reader.count b.reader.bytes result) (p : buffer ≡ lean_packet_for Two b.reader.count old result) where
       -- what the packet's bytes stand in
       abbrev base : List ℕ
       base = cond (leb (b.reader.count + result.taken) 1030) old (replicate 1031 0)
 
-      step_is : step ≡ record { taken = result.taken; held = length result.held; event = event_for Two result.answer }
-      step_is = s ∙ rw (le-leb b.reader.count 1030 (accepted b ok).held) refl
+      step_is : step ≡ told
+      step_is =
+          let q : ◌≡◌ {A = Result Step Refusal} (Ok step) (Ok told) = s ∙ rw (le-leb b.reader.count 1030 (accepted b ok).held) refl in
+          ap (step_or step) q
 
       bytes_are : bytes ≡ lean_held Two b.reader.count b.reader.bytes result
       bytes_are = h ∙ rw (le-leb b.reader.count 1030 (accepted b ok).held) refl
@@ -110,8 +127,12 @@ module _ (b : Board) (c : Call) (old : List ℕ) where
       unfolding reader_left
       reader_is = λ i. record { bytes = bytes_are i; count = (step_is i).held }
 
-      pub fits : Fits step.event buffer
+      fits : Fits step.event buffer
       fits = rw (step_is, buffer_is) (fits_back base result.answer (call_good protocol2 laws (held_in b.reader) c))
+
+      -- by the event that it gives
+      pub fits_as : (v : Option Event-as-Code) → step.event ≡ v → Fits v buffer
+      fits_as v q = rw q at fits
 
       event_is : event_by step.event buffer ≡ result.answer
       event_is = rw (step_is, buffer_is) (event_back base result.answer)
@@ -122,10 +143,10 @@ module _ (b : Board) (c : Call) (old : List ℕ) where
       left_buffer : buffer_by step.event buffer ≡ buffer_for (lean_packet Two b.reader.count old result) result.answer
       left_buffer = rw (step_is, buffer_is) (buffer_back base result.answer)
 
-      pub received_call : (r : BoardStep) (table' buffer' : List ℕ) → Left b.table b.registered step.taken buffer step.event r table' buffer'
+      received : (r : BoardStep) (table' buffer' : List ℕ) → Left b.table b.registered step.taken buffer step.event r table' buffer'
           → Says r (lent bytes step.held) table' buffer'
       unfolding board_step outcome buffer_left
-      received_call r table' buffer' left =
+      received r table' buffer' left =
           let t = b.table in
           let w = b.registered in (
             left.0
@@ -137,3 +158,9 @@ module _ (b : Board) (c : Call) (old : List ℕ) where
               left.1.1 ∙ left_buffer ∙ rw ok refl,
             ),
           )
+
+      pub received_call : (v : Option Event-as-Code) → step.event ≡ v → (r : BoardStep) (table' buffer' : List ℕ)
+          → Left b.table b.registered step.taken buffer v r table' buffer' → Says r (lent bytes step.held) table' buffer'
+      received_call v q r table' buffer' left =
+          received r table' buffer'
+          (subst (λ (x : Option Event-as-Code). Left b.table b.registered step.taken buffer x r table' buffer') (sym q) left)

@@ -1,7 +1,7 @@
 // From the line to the table: a call takes bytes up to the next event and carries it out at once.
 #![tactic(auto)]
 
-ghost use Rattle.std.specs.Prelude.{◌≡◌, cond, ◌+◌, ◌≤◌, eqb, length, take, get_or};
+ghost use Rattle.std.specs.Prelude.{Some, ◌≡◌, cond, ◌+◌, ◌≤◌, eqb, length, take, get_or};
 ghost use Rattle.lists.specs.Write.{placed};
 ghost use Rattle.stuffing.specs.Stuffing.{unstuff};
 ghost use Rattle.reading.specs.Calls.{feed as call_feed, gap as call_gap};
@@ -16,12 +16,12 @@ ghost use Rattle.board.specs.Numbers.{board_step, buffer_left};
 ghost use Rattle.board.specs.Inside.{number_if_any, Fits, buffer_by, body_by, body_to, kind_by, id_by, size_by, heard_by, step_of, came_of};
 
 use answers::{BAD_READER, BAD_REGISTERED, BAD_TABLE_ID};
-use device_codes::ERROR_CHECKSUM;
+use device_codes::ErrorNumber;
 use device_dispatch::Heard;
 use device_instructions::{MAX_REGISTERED, RegisteredWrite};
 use device_status::Reply;
 use packet_front::{BROADCAST_ID, MAX_ID, MAX_PACKET};
-use reader_core::{MAX_HELD, Step, StepEvent};
+use reader_core::{Event, MAX_HELD};
 use table_registers::{REG_ID, TABLE_BYTES};
 
 // What a call returns: how many bytes it took; the event as of `dxl_feed`, or the number of a refusal as its kind; the instruction, if
@@ -83,54 +83,45 @@ fn checksum_error(table: &[u8], id: u8) -> u8
     ensures { result ≡ cond (eqb id (own_id table.now)) 3 0 }
 {
     if id == table[REG_ID] {
-        return ERROR_CHECKSUM;
+        return ErrorNumber::Checksum as u8;
     }
     0
 }
 
 // What the reader's event is told by.
-fn kind_of(event: StepEvent) -> u8
-    ensures { result ≡ kind_by event }
+fn kind_of(event: Event) -> u8
+    ensures { result ≡ kind_by (Some event) }
 {
     match event {
-        StepEvent::Packet { id: _, size: _ } => KIND_PACKET,
-        StepEvent::BadChecksum { id: _ } => KIND_BAD_CHECKSUM,
-        StepEvent::Silent => KIND_NONE,
-        StepEvent::Refused(_) => KIND_NONE,
+        Event::Packet { .. } => KIND_PACKET,
+        Event::BadChecksum { .. } => KIND_BAD_CHECKSUM,
     }
 }
 
-fn id_of(event: StepEvent) -> u8
-    ensures { result ≡ id_by event }
+fn id_of(event: Event) -> u8
+    ensures { result ≡ id_by (Some event) }
 {
     match event {
-        StepEvent::Packet { id, size: _ } => id,
-        StepEvent::BadChecksum { id } => id,
-        StepEvent::Silent => 0,
-        StepEvent::Refused(_) => 0,
+        Event::Packet { id, .. } | Event::BadChecksum { id } => id,
     }
 }
 
-fn size_of(event: StepEvent) -> usize
-    ensures { result ≡ size_by event }
+fn size_of(event: Event) -> usize
+    ensures { result ≡ size_by (Some event) }
 {
     match event {
-        StepEvent::Packet { id: _, size } => size,
-        StepEvent::BadChecksum { id: _ } => 0,
-        StepEvent::Silent => 0,
-        StepEvent::Refused(_) => 0,
+        Event::Packet { size, .. } => size,
+        Event::BadChecksum { .. } => 0,
     }
 }
 
 // What the device hears in it.
-fn heard_of(event: StepEvent) -> Heard
-    ensures { result ≡ heard_by event }
+fn heard_of(event: Event) -> Heard
+    ensures { result ≡ heard_by (Some event) }
 {
     match event {
-        StepEvent::Packet { id: _, size: _ } => Heard::Packet,
-        StepEvent::BadChecksum { id: _ } => Heard::BadChecksum,
-        StepEvent::Silent => Heard::BadChecksum,
-        StepEvent::Refused(_) => Heard::BadChecksum,
+        Event::Packet { .. } => Heard::Packet,
+        Event::BadChecksum { .. } => Heard::BadChecksum,
     }
 }
 
@@ -146,16 +137,14 @@ fn strip_packet(packet: &mut [u8], size: usize) -> usize
 }
 
 // The same of an event; what is no packet has an empty body.
-fn strip(event: StepEvent, packet: &mut [u8]) -> usize
-    requires { Fits event packet.old }
-    ensures value { result ≡ 7 + length (body_by event packet.old) }
-    ensures packet_after { packet.new ≡ buffer_by event packet.old }
+fn strip(event: Event, packet: &mut [u8]) -> usize
+    requires { Fits (Some event) packet.old }
+    ensures value { result ≡ 7 + length (body_by (Some event) packet.old) }
+    ensures packet_after { packet.new ≡ buffer_by (Some event) packet.old }
 {
     match event {
-        StepEvent::Packet { id: _, size } => strip_packet(packet, size),
-        StepEvent::BadChecksum { id: _ } => 7,
-        StepEvent::Silent => 7,
-        StepEvent::Refused(_) => 7,
+        Event::Packet { size, .. } => strip_packet(packet, size),
+        Event::BadChecksum { .. } => 7,
     }
 }
 
@@ -238,8 +227,8 @@ fn idle_step(taken: usize, kind: u8, registered: RegisteredWrite) -> BoardStep
 }
 
 // The event, and what came of it.
-fn step_of(taken: usize, event: StepEvent, came: Came) -> BoardStep
-    ensures { result ≡ step_of taken event came }
+fn step_of(taken: usize, event: Event, came: Came) -> BoardStep
+    ensures { result ≡ step_of taken (Some event) came }
 {
     let reply = came.reply;
     let kept = came.registered;
@@ -278,12 +267,13 @@ pub fn feed(
     if number != 0 {
         return idle_step(0, number, registered);
     }
-    let step = reader_core::feed_lean(held, n, chunk, packet);
+    let Ok(step) = reader_core::feed_lean(held, n, chunk, packet) else {
+        unreachable!()
+    };
     *count = step.held;
-    let event = step.event;
-    if let StepEvent::Silent = event {
+    let Some(event) = step.event else {
         return idle_step(step.taken, KIND_NONE, registered);
-    }
+    };
     let end = strip(event, packet);
     let id = id_of(event);
     if !is_for(&table[..], id) {
@@ -316,12 +306,13 @@ pub fn gap(
     if number != 0 {
         return idle_step(0, number, registered);
     }
-    let step = reader_core::gap_lean(held, n, packet);
+    let Ok(step) = reader_core::gap_lean(held, n, packet) else {
+        unreachable!()
+    };
     *count = step.held;
-    let event = step.event;
-    if let StepEvent::Silent = event {
+    let Some(event) = step.event else {
         return idle_step(step.taken, KIND_NONE, registered);
-    }
+    };
     let end = strip(event, packet);
     let id = id_of(event);
     if !is_for(&table[..], id) {

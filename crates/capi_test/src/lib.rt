@@ -77,7 +77,7 @@ pub extern "C" fn dxl_test_stuff(first: u8, rest: &[u8], out: &mut [u8]) -> usiz
 fn verdict_of(protocol: Protocol, segment: &[u8], offset: usize) -> VerdictNumbers
     ensures { result ≡ verdict_numbers (answer_by (rules_of protocol) (drop offset segment.now)) }
 {
-    match packet_protocols::judge(protocol, segment, offset) {
+    match protocol.judge(segment, offset) {
         Verdict::Nothing => VerdictNumbers {
             kind: 0,
             id: 0,

@@ -17,7 +17,6 @@ use Rattle.lists.proofs.Bools.{both_ways}
 use Rattle.lists.proofs.Write.{overwritten_take}
 use Rattle.stuffing.specs.Stuffing.{well_stuffed, unstuff}
 use Rattle.stuffing.specs.Answers.{checked, removal_refusal, removal_out}
-use Rattle.stuffing.specs.declared.Checked.TheVariants.{Good, Bad}
 use Rattle.stuffing.proofs.Answers.{checked_bad, checked_good, Removed}
 use Rattle.reading.specs.Rules.{Verdict, is_packet, is_bad_checksum, is_waiting, is_nothing}
 use Rattle.packet_front.specs.Front.{header, id_of}
@@ -124,11 +123,11 @@ module _ (packet : List ℕ) where
 -- ---- the removal of the stuffing
 
 module _ (packet body : List ℕ) where
-  pub bad_stuffing : checked (body_of packet) ≡ Bad → removal_refusal (body_of packet) body ≡ Some BadStuffing
+  pub bad_stuffing : checked (body_of packet) ≡ None → removal_refusal (body_of packet) body ≡ Some BadStuffing
   unfolding removal_refusal
   bad_stuffing e = rw (checked_bad (body_of packet) e)
 
-  module _ (n : ℕ) (e : checked (body_of packet) ≡ Good n) where
+  module _ (n : ℕ) (e : checked (body_of packet) ≡ Some n) where
     pub no_room : length body < n → removal_refusal (body_of packet) body ≡ Some NoRoom
     unfolding removal_refusal
     no_room l =

@@ -14,7 +14,6 @@ use device_instructions::RegisteredWrite;
 use device_status::{MIN_REPLY, Reply};
 use packet_protocols::Protocol;
 use packet_rules::Front;
-use stuffing::Checked;
 
 // An ID that no device has.
 const NO_ID: u8 = 255;
@@ -24,7 +23,7 @@ fn id_heard(packet: &[u8]) -> u8
     requires { well_stuffed (body_of packet.now) ≡ true }
     ensures { result ≡ id_heard packet.now }
 {
-    let Front::Whole(n) = packet_protocols::peek(Protocol::Two, packet) else {
+    let Front::Whole(n) = Protocol::Two.peek(packet) else {
         return NO_ID;
     };
     if n != packet.len() {
@@ -32,7 +31,7 @@ fn id_heard(packet: &[u8]) -> u8
     }
     let end = n - 2;
     let crc = packet::checksum(&packet[4..end]);
-    if (crc as usize) != packet_front::word(packet[end], packet[end + 1]) {
+    if crc != packet_front::word(packet[end], packet[end + 1]) {
         return NO_ID;
     }
     packet[4]
@@ -42,7 +41,7 @@ fn id_heard(packet: &[u8]) -> u8
 fn first_refusal(packet: &[u8], body: &[u8], refused: Replied) -> Replied
     ensures { result ≡ refused_or (removal_refusal (body_of packet.now) body.now) refused }
 {
-    let Checked::Good(n) = stuffing::check(packet::body(packet)) else {
+    let Some(n) = stuffing::check(packet::body(packet)) else {
         return Replied::Refused(Refusal::BadStuffing);
     };
     if body.len() < n {

@@ -22,8 +22,8 @@ use Rattle.packet_protocols.proofs.Shapes.{laws}
 use Rattle.reader_core.specs.Results.{most_held, event_for}
 use Rattle.reader_records.specs.declared.Reader.{Reader}
 use Rattle.reader_records.specs.Records.{held_in, step_in, left_in}
-use Rattle.reader_plain.specs.declared.Next.{Next}
-use Rattle.reader_plain.specs.declared.Next.TheVariants.{Packet, BadChecksum, Nothing}
+use Rattle.reader_plain.specs.declared.Event.{Event as Event-of-segment}
+use Rattle.reader_plain.specs.declared.Event.TheVariants.{Packet, BadChecksum}
 use Rattle.reader_plain.specs.Next.{next_event}
 use Rattle.reader_plain.specs.Plain.{Within}
 use Rattle.reader_plain.proofs.Plain.{within}
@@ -100,20 +100,20 @@ steps_fit =
 -- ---- the plain reader
 
 module _ (s : List ℕ) (from : ℕ) where
-  by_offset : (n : Next) → Within s from n → (next_numbers n).offset ≤ length s
-  by_offset (Packet p n q id) w = omega (arith, w.1, w.2)
-  by_offset (BadChecksum p q id) w = omega (arith, w.1, w.2)
-  by_offset Nothing w = omega arith
+  by_offset : (n : Option Event-of-segment) → Within s from n → (next_numbers n).offset ≤ length s
+  by_offset (Some (Packet p n q id)) w = omega (arith, w.1, w.2)
+  by_offset (Some (BadChecksum p q id)) w = omega (arith, w.1, w.2)
+  by_offset None w = omega arith
 
-  by_count : (n : Next) → Within s from n → (next_numbers n).count ≤ length s
-  by_count (Packet p n q id) w = omega (arith, w.2, w.3)
-  by_count (BadChecksum p q id) w = omega arith
-  by_count Nothing w = omega arith
+  by_count : (n : Option Event-of-segment) → Within s from n → (next_numbers n).count ≤ length s
+  by_count (Some (Packet p n q id)) w = omega (arith, w.2, w.3)
+  by_count (Some (BadChecksum p q id)) w = omega arith
+  by_count None w = omega arith
 
-  by_next : (n : Next) → Within s from n → (next_numbers n).next ≤ length s
-  by_next (Packet p n q id) w = w.2
-  by_next (BadChecksum p q id) w = w.2
-  by_next Nothing w = omega arith
+  by_next : (n : Option Event-of-segment) → Within s from n → (next_numbers n).next ≤ length s
+  by_next (Some (Packet p n q id)) w = w.2
+  by_next (Some (BadChecksum p q id)) w = w.2
+  by_next None w = omega arith
 
 pub event_fits : EventFits
 event_fits =

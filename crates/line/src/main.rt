@@ -3,7 +3,7 @@
 // If a read or a write fails, it says so on standard error and does not print `end BYTES`.
 #![tactic(auto)]
 
-use reader_plain::Next;
+use reader_plain::Event;
 
 // This and the functions below return whether all of it was written.
 fn print_packet(rt: &impl Print, id: u8, instruction: u8, params: u64) -> bool {
@@ -33,32 +33,28 @@ fn packet_line(rt: &impl Print, id: u8, found: &[u8]) -> bool {
 // A line for each event, from where the one before says that reading goes on.
 fn print_segment(rt: &impl Print, segment: &[u8]) -> bool {
     let mut from = 0;
-    loop {
-        match reader_plain::next_event(segment, from) {
-            Next::Packet {
+    while let Some(event) = reader_plain::next_event(segment, from) {
+        match event {
+            Event::Packet {
                 offset,
-                count: _,
                 next,
                 id,
+                ..
             } => {
                 if !packet_line(rt, id, &segment[offset..next]) {
                     return false;
                 }
                 from = next;
             }
-            Next::BadChecksum {
-                offset: _,
-                next,
-                id,
-            } => {
+            Event::BadChecksum { next, id, .. } => {
                 if !print_bad_checksum(rt, id) {
                     return false;
                 }
                 from = next;
             }
-            Next::Nothing => return print_end(rt, segment.len() as u64),
         }
     }
+    print_end(rt, segment.len() as u64)
 }
 
 fn main(rt: HostRuntime) {

@@ -6,20 +6,13 @@ ghost use Rattle.reading.specs.Reading.{reading};
 ghost use Rattle.packet.specs.Verdict.{protocol2};
 ghost use Rattle.reader_plain.specs.Next.{next_event};
 ghost use Rattle.log_index.specs.Last.{mark_of, last_in};
-ghost use Rattle.log_index.specs.Marks.{marked, offset_of};
+ghost use Rattle.log_index.specs.Marks.{marked};
 
 use packet_protocols::Protocol;
-use reader_plain::Next;
+use reader_plain::Event;
 
 // How many numbers the index has: one for each ID that packets may have.
 pub const INDEX_COUNT: usize = 254;
-
-// Where a packet stands in its segment, if there is one.
-#[derive(Clone, Copy)]
-pub enum Offset {
-    At(usize),
-    Nothing,
-}
 
 // The position of an ID in the index. [I5]
 pub fn mark_of(id: u8) -> usize
@@ -28,12 +21,12 @@ pub fn mark_of(id: u8) -> usize
     if id < 253 { id as usize } else { 253 }
 }
 
-// The next event at the offset `from` or behind it: the plain reader's, asked only where a packet may begin, since the search for
+// The next event at the offset `from` or behind it, if there is one: the plain reader's, asked only where a packet may begin, since the search for
 // that passes noise faster.
-fn next_event(segment: &[u8], from: usize) -> Next
+fn next_event(segment: &[u8], from: usize) -> Option<Event>
     ensures { result ≡ next_event segment.now from }
 {
-    let start = packet_protocols::next_start(Protocol::Two, segment, from);
+    let start = Protocol::Two.next_start(segment, from);
     reader_plain::next_event(segment, start)
 }
 
@@ -42,57 +35,39 @@ pub fn mark(index: &mut [usize; INDEX_COUNT], segment: &[u8], number: usize)
     ensures { index.new ≡ marked number index.old (reading protocol2 segment.now) }
 {
     let mut from = 0;
-    loop {
-        match next_event(segment, from) {
-            Next::Packet {
-                offset: _,
-                count: _,
-                next,
-                id,
-            } => {
+    while let Some(event) = next_event(segment, from) {
+        match event {
+            Event::Packet { next, id, .. } => {
                 let position = mark_of(id);
                 index[position] = number;
                 from = next;
             }
-            Next::BadChecksum {
-                offset: _,
-                next,
-                id: _,
-            } => {
-                from = next;
-            }
-            Next::Nothing => return,
+            Event::BadChecksum { next, .. } => from = next,
         }
     }
 }
 
 // The offset of the last packet with this ID in a segment. [I6]
-pub fn last_in(segment: &[u8], wanted: u8) -> Offset
-    ensures { result ≡ offset_of (last_in wanted segment.now) }
+pub fn last_in(segment: &[u8], wanted: u8) -> Option<usize>
+    ensures { result ≡ last_in wanted segment.now }
 {
-    let mut last = Offset::Nothing;
+    let mut last = None;
     let mut from = 0;
-    loop {
-        match next_event(segment, from) {
-            Next::Packet {
+    while let Some(event) = next_event(segment, from) {
+        match event {
+            Event::Packet {
                 offset,
-                count: _,
                 next,
                 id,
+                ..
             } => {
                 if id == wanted {
-                    last = Offset::At(offset);
+                    last = Some(offset);
                 }
                 from = next;
             }
-            Next::BadChecksum {
-                offset: _,
-                next,
-                id: _,
-            } => {
-                from = next;
-            }
-            Next::Nothing => return last,
+            Event::BadChecksum { next, .. } => from = next,
         }
     }
+    last
 }

@@ -20,16 +20,12 @@ fn has_room(size: usize, front: usize, entries: usize) -> bool
     entries <= (size - front) / LOG_ENTRY
 }
 
-// A number of 32 bits, low byte first.
+// A number of 32 bits, low byte first. [I1]
 fn put_number(out: &mut [u8], at: usize, value: usize)
     requires { at + 4 ≤ length out.old }
     ensures { out.new ≡ placed out.old at (bytes_of 4 value) }
 {
-    let bytes = buffers::bytes_of(value);
-    out[at] = bytes[0];
-    out[at + 1] = bytes[1];
-    out[at + 2] = bytes[2];
-    out[at + 3] = bytes[3];
+    out[at..at + 4].copy_from_slice(&value.to_le_bytes()[..4]);
 }
 
 fn header_in(out: &mut [u8], segments: usize)

@@ -2,8 +2,7 @@
 // it converts.
 #![tactic(auto)]
 
-ghost use Rattle.std.specs.Prelude.{◌≡◌, cond};
-ghost use Rattle.log_salvage.specs.declared.Salvaged.TheVariants.{Written as Salvaged-as-Written};
+ghost use Rattle.std.specs.Prelude.{◌≡◌};
 ghost use Rattle.numbers.specs.Exported.{step_numbers, next_numbers, device_numbers, refusal_number, carried_numbers, found_numbers, salvaged_numbers, tested_number};
 
 use answers::Refusal;
@@ -11,10 +10,10 @@ use device::{CarriedOut, Replied, Response};
 use device_instructions::RegisteredWrite;
 use device_packet::CarriedPacket;
 use device_status::Reply;
-use line_log::Found;
-use log_salvage::{Figures, Salvaged};
+use line_log::Place;
+use log_salvage::Figures;
 use reader_core::{Step, StepEvent};
-use reader_plain::Next;
+use reader_plain::Event;
 
 // What a feeding or gap call returns. kind 0: no event, from a gap call: nothing is left; 1: a packet of `count` bytes; 2: a bad
 // checksum; else the number of a refusal. `id` is that of the packet or of the bad checksum.
@@ -117,30 +116,32 @@ pub fn step(answer: Step) -> StepNumbers
 }
 
 // The packet's bytes are in the caller's segment.
-pub fn next(answer: Next) -> EventNumbers
+pub fn next(answer: Option<Event>) -> EventNumbers
     ensures { result ≡ next_numbers answer }
 {
     match answer {
-        Next::Packet {
-            offset,
-            count,
-            next,
-            id,
-        } => EventNumbers {
+        Some(
+            Event::Packet {
+                offset,
+                count,
+                next,
+                id,
+            },
+        ) => EventNumbers {
             offset,
             count,
             next,
             kind: 1,
             id,
         },
-        Next::BadChecksum { offset, next, id } => EventNumbers {
+        Some(Event::BadChecksum { offset, next, id }) => EventNumbers {
             offset,
             count: 0,
             next,
             kind: 2,
             id,
         },
-        Next::Nothing => EventNumbers {
+        None => EventNumbers {
             offset: 0,
             count: 0,
             next: 0,
@@ -220,21 +221,21 @@ pub fn carried_packet(answer: CarriedPacket) -> CarriedNumbers
     }
 }
 
-pub fn found(answer: Found) -> FoundNumbers
+pub fn found(answer: Result<Option<Place>, Refusal>) -> FoundNumbers
     ensures { result ≡ found_numbers answer }
 {
     match answer {
-        Found::At(segment, offset) => FoundNumbers {
+        Ok(Some(Place { segment, offset })) => FoundNumbers {
             found: 1,
             segment,
             offset,
         },
-        Found::Nowhere => FoundNumbers {
+        Ok(None) => FoundNumbers {
             found: 0,
             segment: 0,
             offset: 0,
         },
-        Found::Refused(refusal) => FoundNumbers {
+        Err(refusal) => FoundNumbers {
             found: answers::exported_refusal(refusal),
             segment: 0,
             offset: 0,
@@ -242,30 +243,18 @@ pub fn found(answer: Found) -> FoundNumbers
     }
 }
 
-fn flag(set: bool) -> u8
-    ensures { result ≡ cond set 1 0 }
-{
-    if set { 1 } else { 0 }
-}
-
-fn figures(f: Figures) -> SalvagedNumbers
-    ensures { result ≡ salvaged_numbers (Salvaged-as-Written f) }
-{
-    SalvagedNumbers {
-        count: answers::exported_count(f.count),
-        dropped: f.dropped,
-        index: f.index,
-        leftover: f.leftover,
-        header: flag(f.header),
-    }
-}
-
-pub fn salvaged(answer: Salvaged) -> SalvagedNumbers
+pub fn salvaged(answer: Result<Figures, Refusal>) -> SalvagedNumbers
     ensures { result ≡ salvaged_numbers answer }
 {
     match answer {
-        Salvaged::Written(f) => figures(f),
-        Salvaged::Refused(refusal) => SalvagedNumbers {
+        Ok(figures) => SalvagedNumbers {
+            count: answers::exported_count(figures.count),
+            dropped: figures.dropped,
+            index: figures.index,
+            leftover: figures.leftover,
+            header: u8::from(figures.header),
+        },
+        Err(refusal) => SalvagedNumbers {
             count: answers::exported_refusal(refusal),
             dropped: 0,
             index: 0,

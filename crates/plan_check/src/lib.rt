@@ -11,7 +11,7 @@ ghost use Rattle.plan_check.specs.Checking.{fits, past, SomeFound, MarkSays, Bod
 ghost use Rattle.plan_check.specs.Tested.{SaysWhether, TestSays};
 
 use answers::Refusal;
-use device_parameters::OwnEntry;
+use device_codes::Instruction;
 use packet_protocols::Protocol;
 use packet_rules::Verdict;
 
@@ -62,7 +62,7 @@ fn mark_entries(goals: &[i32], params: &[u8], stood: &mut [u8]) -> bool
     if params.len() <= LIST {
         return false;
     }
-    let OwnEntry::At(_, _) = device_parameters::sync_search(params, 4, params[LIST]) else {
+    let Some(_) = device_parameters::sync_search(params, 4, params[LIST]) else {
         return false;
     };
     mark_list(goals, params, stood)
@@ -73,7 +73,7 @@ fn has_head(body: &[u8]) -> bool
     ensures { SaysWhether result (take 5 body.now ≡ plan_head) }
 {
     body.starts_with(&[
-        device_codes::INST_SYNC_WRITE,
+        Instruction::SyncWrite as u8,
         plan::ADDRESS,
         0,
         plan::LENGTH,
@@ -133,7 +133,7 @@ fn is_plan(goals: &[i32], plan: &[u8]) -> bool
     let mut stood = [0u8; plan::IDS];
     let mut at = 0;
     while at < plan.len() {
-        let Verdict::Packet(n) = packet_protocols::judge(Protocol::Two, plan, at) else {
+        let Verdict::Packet(n) = Protocol::Two.judge(plan, at) else {
             return false;
         };
         if !mark_packet(goals, &plan[at..at + n], &mut stood) {

@@ -10,6 +10,7 @@ ghost use Rattle.plan.proofs.Packets.{Rising};
 ghost use Rattle.plan_writer.specs.Filling.{entries_at};
 
 use answers::Refusal;
+use device_codes::Instruction;
 
 // The most entries that a packet holds: 5 bytes each behind instruction, address and length, in a body of 1,022; and the parameters
 // of such a packet.
@@ -79,7 +80,7 @@ fn write_packet(goals: &[i32], from: usize, k: usize, out: &mut [u8], at: usize)
     let written: &[u8] = &params;
     let _ = packet_encoder::encode(
         packet_front::BROADCAST_ID,
-        device_codes::INST_SYNC_WRITE,
+        Instruction::SyncWrite as u8,
         &written[..4 + 5 * k],
         out,
         at,

@@ -1,5 +1,5 @@
 -- What else is promised of the readers of each protocol, and of the plain reader, applied.
-use Rattle.std.specs.Prelude.{None, Some}
+use Rattle.std.specs.Prelude.{Err, None, Some}
 use Rattle.std.specs.Prelude.{◌≡◌, false, ℕ, ◌+◌, ◌-◌, ◌≤◌, ◌<◌, length, take, drop, replicate}
 use mathlib.Core.List.{List, [], ◌∷◌, ◌++◌, map, Memᴰ}
 use Rattle.answers.specs.declared.Refusal.TheVariants.{BadReader}
@@ -9,7 +9,6 @@ use Rattle.reading.specs.Calls.{feed, gap, event, silent, first, fed, call}
 use Rattle.reading.specs.Lists.{after, took, given}
 use Rattle.reading.specs.Promise.{since, what, EndsSilent, NoneAcross, Followed, given_at}
 use Rattle.reading.specs.Across.{reaches_across}
-use Rattle.reader_core.specs.declared.StepEvent.TheVariants.{Refused}
 use Rattle.reader_records.specs.Records.{held_in, step_in, records_of, records, lent, ProtocolPromises}
 use Rattle.reader_plain.specs.Plain.{plain, PlainPromises}
 use Rattle.packet_protocols.specs.declared.Protocol.{Protocol}
@@ -64,7 +63,7 @@ pub record ReaderApplied (p : Protocol) (most : ℕ) (a b : List ℕ) (h : ℕ) 
   pub same_next : held_in ((records_of p).next (lent (full p) most) gap) ≡ []
   pub stays_legal : ((records_of p).next (lent (full p) most) (feed [])).count ≤ most
   -- as many bytes are held as can be
-  pub never_refused : ¬ ((step_in p (after (records_of p) (used p) (earlier ++ feed (full p) ∷ [])) gap).event ≡ Refused BadReader)
+  pub never_refused : ¬ (step_in p (after (records_of p) (used p) (earlier ++ feed (full p) ∷ [])) gap ≡ Err BadReader)
   pub followed : Followed (rules_of p) (replicate most 0)
   pub too_few : ¬ Followed (rules_of p) (replicate (most - 1) 0)
   pub none_without_ff : ¬ (rules_of p).WellFormed (quiet ++ a)

@@ -1,5 +1,5 @@
 -- What the parts of a call come to is what the call answers and leaves, once the buffers' ends are cleared.
-use Rattle.std.specs.Prelude.{None, Option, Some}
+use Rattle.std.specs.Prelude.{None, Ok, Option, Some}
 use mathlib.Core.Path.{◌≡◌, refl, sym, ap, ap₂, ◌∙◌}
 use mathlib.Core.List.{List, ◌++◌}
 use Prim.Native.Nat.{ℕ, ◌-◌, ◌≤◌, ◌<◌}
@@ -67,15 +67,15 @@ of_fields step step' i j k = λ x. record { taken = i x; held = j x; event = k x
 
 abbrev Answered : (p : Protocol) (count : ℕ) (r : CallResult) (held bytes : List ℕ) (step : Step) (held' bytes' : List ℕ) → Type 0
 Answered p count r held bytes step held' bytes' =
-    (step ≡ step_for p count r) × (held' ≡ held_for p count held r) × (bytes' ≡ packet_for p count bytes r)
+    (Ok step ≡ step_for p count r) × (held' ≡ held_for p count held r) × (bytes' ≡ packet_for p count bytes r)
 
 pub step_is : (p : Protocol) (count : ℕ) (h : List ℕ) (c : Call) (held bytes : List ℕ) (step : Step) → count ≤ most_held p
-    → Delivered p (call (rules_of p) h c) step held bytes → step ≡ step_for p count (call (rules_of p) h c)
+    → Delivered p (call (rules_of p) h c) step held bytes → Ok step ≡ step_for p count (call (rules_of p) h c)
 step_is p count h c held bytes step l w =
     let r = call (rules_of p) h c in
     rw (le-leb count (most_held p) l)
-    (of_fields step _ w.taken_is w.count_is
-    (w.event_is ∙ event_is p r.answer bytes (packet_good (rules_of p) (laws p) h c) w.bytes_are))
+    (ap Ok (of_fields step _ w.taken_is w.count_is
+    (w.event_is ∙ event_is p r.answer bytes (packet_good (rules_of p) (laws p) h c) w.bytes_are)))
 
 pub answered : (p : Protocol) (count : ℕ) (h : List ℕ) (c : Call) (held₀ bytes₀ held bytes held' bytes' : List ℕ) (step : Step)
     → count ≤ most_held p → length held ≡ most_held p → length bytes ≡ (rules_of p).longest → Delivered p (call (rules_of p) h c) step held bytes
@@ -88,7 +88,7 @@ answered p count h c held₀ bytes₀ held bytes held' bytes' step l m n w e =
     let front = ap (λ (k : ℕ). take k bytes) size ∙ w.bytes_are in
     let event = w.event_is ∙ event_is p r.answer bytes (packet_good (rules_of p) (laws p) h c) w.bytes_are in
     rw (le-leb count (most_held p) l) (
-      of_fields step _ w.taken_is w.count_is event,
+      ap Ok (of_fields step _ w.taken_is w.count_is event),
       cleared_is held held' r.held step.held (most_held p) m w.count_is w.held_is e.0,
       cleared_is bytes bytes' (packet_bytes r.answer) (size_in step.event) (rules_of p).longest n size front e.1,
     )

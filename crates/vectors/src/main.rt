@@ -225,7 +225,7 @@ fn hear_segment(
     while 0 < left {
         let step = next(over, &mut held, count, &segment[at..], &mut found);
         count = step.held;
-        at += buffers::least(step.taken, segment.len() - at);
+        at += step.taken.min(segment.len() - at);
         let event = step.event;
         if is_event(event) {
             registered = hear_event(rt, table, registered, event, &found);

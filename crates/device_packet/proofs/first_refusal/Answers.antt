@@ -18,9 +18,9 @@ returns-in_default c =
 pub returns-then-body-n : goal.returns-then-body-n
 returns-then-body-n c =
     let a = c.args in
-    rw (no_room a.packet.now a.body.now _ (sym (stated (goal.at.returns-then-body-n c).After-check) ∙ c.in-Good.is) (omega arith))
+    rw (no_room a.packet.now a.body.now _ (sym (stated (goal.at.returns-then-body-n c).After-check) ∙ c.in-Some.is) (omega arith))
 
 pub returns : goal.returns
 returns c =
     let a = c.args in
-    rw (fits a.packet.now a.body.now _ (sym (stated (goal.at.returns c).After-check) ∙ c.in-Good.is) (omega arith))
+    rw (fits a.packet.now a.body.now _ (sym (stated (goal.at.returns c).After-check) ∙ c.in-Some.is) (omega arith))

@@ -8,5 +8,5 @@ returns-in-Packet c = ap next_numbers (sym c.in-Packet.is)
 pub returns-in-BadChecksum : goal.returns-in-BadChecksum
 returns-in-BadChecksum c = ap next_numbers (sym c.in-BadChecksum.is)
 
-pub returns-in-Nothing : goal.returns-in-Nothing
-returns-in-Nothing c = ap next_numbers (sym c.in-Nothing.is)
+pub returns-in-None : goal.returns-in-None
+returns-in-None c = ap next_numbers (sym c.in-None.is)

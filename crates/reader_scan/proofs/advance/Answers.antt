@@ -1,6 +1,6 @@
 use mathlib.Core.Path.{◌≡◌, sym, ◌∙◌}
 use mathlib.Core.Logic.{◌⊎◌, inl, inr}
-use Prim.Native.Nat.{ℕ, ◌+◌, ◌≤◌, ◌<◌}
+use Prim.Native.Nat.{ℕ, ◌+◌, ◌≤◌, ◌<◌, max}
 use native.Mathlib.Omega.{arith}
 use lib.ListN.{length, drop}
 use Rattle.packet_rules.specs.declared.Front.{Front}
@@ -50,6 +50,9 @@ fits l n e = fits_at l.args.protocol l.args.chunk.now l.next_start-at.result l.p
 pub overflow_add-at : goal.overflow_add-at
 overflow_add-at c = omega (arith, fits (goal.at.overflow_add-at c).After-peek-front _ c.in-Whole.is)
 
+later : (a b m : ℕ) → m ≡ max a b → (a ≤ m) × (b ≤ m) × ((m ≡ a) ⊎ (m ≡ b))
+later a b m e = (omega arith, omega arith, grind arith)
+
 -- behind the arms that go on: the front is as before, and where it is whole the bytes up to the end settle the offset too
 module _ (k : Joined-front) where
   abbrev settled : ℕ
@@ -63,7 +66,7 @@ module _ (k : Joined-front) where
         → (k.loop-protocol.end ≤ k.match-front.end) × (k.next_start-at.result + settled ≤ k.match-front.end) × ((k.match-front.end ≡ k.loop-protocol.end) ⊎ (k.match-front.end ≡ k.next_start-at.result + settled))
     settling n e = elim k.match-front.branch [
       | in-Nothing w ↦ let z = sym w.in-Nothing.is ∙ sym same ∙ e in cc
-      | in-Whole w ↦ let z : settled ≡ w.in-Whole.size = told (Whole _) w.in-Whole.is in rw (w.end-is, z) w.greatest-end.ensures
+      | in-Whole w ↦ let z : settled ≡ w.in-Whole.size = told (Whole _) w.in-Whole.is in rw (w.end-is, z) (later _ _ _ w.max-end.ensures)
     ]
 
     unsettled : ((n : ℕ) → k.match-front.front ≡ Whole n → ⊥)

@@ -1,7 +1,7 @@
 -- The machine's reading of a small word, the order of signed numbers, and the value of an item.
 use mathlib.Core.Path.{◌≡◌, refl, ap}
 use mathlib.Core.Bool.{Bool, true, false, ◌||◌, false≢true}
-use Prim.Native.Nat.{ℕ, ◌<◌, ◌^◌, ◌/◌, ◌%◌}
+use Prim.Native.Nat.{ℕ, ◌<◌, ◌^◌}
 use native.Mathlib.Omega.{arith}
 use lib.Dec.{leb, eqb}
 use lib.IntN.{ℤ, pos, negsuc}
@@ -9,11 +9,11 @@ use lib.Signed.{le_z}
 use mir.Syntax.{w32}
 use mir.Val.{to_z}
 use borrow.Author.Tests.{lt-ltb, le-leb, leb-true, eqb-true, ne_eqb}
-use mathlib.Core.List.{List, [], ◌∷◌}
+use mathlib.Core.List.{List}
 use lib.ListN.{get_or}
 use Rattle.table_registers.specs.Rows.{one_or_four}
 use Rattle.std.specs.Int.{cast_unsigned}
-use Rattle.lists.specs.Numbers.{number_at, bytes_of}
+use Rattle.lists.specs.Numbers.{number_at}
 use Rattle.table_items.specs.Items.{signed, unsigned, value_at}
 
 pub small : (u : ℕ) → u < 2 ^ 31 → to_z w32 u ≡ pos u
@@ -55,14 +55,6 @@ one_byte n e f = eqb-true n 1 (one (eqb n 1) (rw (ne_eqb n 4 f) at e))
     one : (b : Bool) → (b || false) ≡ true → b ≡ true
     one true e = refl
     one false e = e
-
--- the bytes of a number as the machine cuts them
-pub cut : (u : ℕ) → (u % 256 ∷ u / 256 % 256 ∷ u / 65536 % 256 ∷ u / 16777216 % 256 ∷ []) ≡ bytes_of 4 u
-unfolding bytes_of
-cut u =
-    let third : u / 65536 % 256 ≡ u / 256 / 256 % 256 = omega arith in
-    let fourth : u / 16777216 % 256 ≡ u / 256 / 256 / 256 % 256 = omega arith in
-    rw (third, fourth)
 
 -- the 32 bits of a number
 pub bits_of : (z : ℤ) → cast_unsigned w32 z ≡ unsigned z

@@ -13,7 +13,7 @@ use device::Replied;
 use device_instructions::RegisteredWrite;
 use device_status::{MIN_REPLY, Reply};
 use packet_front::{MAX_BODY, MAX_PACKET};
-use reader_core::{MAX_HELD, Step, StepEvent};
+use reader_core::{Event, MAX_HELD, ProtocolTwo, Step};
 use table_registers::TABLE_BYTES;
 
 fn size(x: u8) -> usize {
@@ -162,33 +162,22 @@ fn hear_bad_checksum(
     answer(rt, table, registered, heard, id, b"")
 }
 
-fn is_event(event: StepEvent) -> bool {
-    match event {
-        StepEvent::Packet { .. } => true,
-        StepEvent::BadChecksum { .. } => true,
-        StepEvent::Silent => false,
-        StepEvent::Refused(_) => false,
-    }
-}
-
 fn hear_event(
     rt: &impl Print,
     table: &mut [u8; TABLE_BYTES],
     registered: RegisteredWrite,
-    event: StepEvent,
+    event: Event,
     found: &[u8; MAX_PACKET],
 ) -> RegisteredWrite {
     match event {
-        StepEvent::Packet { id, size } => hear_packet(
+        Event::Packet { id, size } => hear_packet(
             rt,
             table,
             registered,
             id,
             first(found, size),
         ),
-        StepEvent::BadChecksum { id } => hear_bad_checksum(rt, table, registered, id),
-        StepEvent::Silent => registered,
-        StepEvent::Refused(_) => registered,
+        Event::BadChecksum { id } => hear_bad_checksum(rt, table, registered, id),
     }
 }
 
@@ -199,11 +188,11 @@ fn next(
     count: usize,
     rest: &[u8],
     found: &mut [u8; MAX_PACKET],
-) -> Step {
+) -> Result<Step, Refusal> {
     if over {
-        reader_core::gap_in(held, count, found)
+        reader_core::gap::<ProtocolTwo, _, _>(held, count, found)
     } else {
-        reader_core::feed_in(held, count, rest, found)
+        reader_core::feed::<ProtocolTwo, _, _>(held, count, rest, found)
     }
 }
 
@@ -223,11 +212,12 @@ fn hear_segment(
     let mut over = false;
     let mut left: u64 = 18446744073709551615;
     while 0 < left {
-        let step = next(over, &mut held, count, &segment[at..], &mut found);
+        let Ok(step) = next(over, &mut held, count, &segment[at..], &mut found) else {
+            break;
+        };
         count = step.held;
         at += step.taken.min(segment.len() - at);
-        let event = step.event;
-        if is_event(event) {
+        if let Some(event) = step.event {
             registered = hear_event(rt, table, registered, event, &found);
         } else if over {
             break;

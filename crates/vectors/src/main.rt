@@ -170,13 +170,7 @@ fn hear_event(
     found: &[u8; MAX_PACKET],
 ) -> RegisteredWrite {
     match event {
-        Event::Packet { id, size } => hear_packet(
-            rt,
-            table,
-            registered,
-            id,
-            first(found, size),
-        ),
+        Event::Packet { id, size } => hear_packet(rt, table, registered, id, first(found, size)),
         Event::BadChecksum { id } => hear_bad_checksum(rt, table, registered, id),
     }
 }

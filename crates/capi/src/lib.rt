@@ -250,7 +250,7 @@ pub extern "C" fn dxl_log_check(file: &[u8]) -> i64
     ensures value { result ≡ exported (answered (check_refusal file.now) 0) }
     ensures sound_exactly { SoundExactly }
 {
-    answers::exported(line_log::check(file))
+    answers::exported_done(line_log::check(file))
 }
 
 // The last packet for an ID: its segment and its offset there. On a sound log that is what a reading of every segment gives, and on

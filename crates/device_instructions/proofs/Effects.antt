@@ -17,9 +17,8 @@ use Rattle.table_access.proofs.Theorems.{read_inside}
 use Rattle.table_access.proofs.Put.{put_byte}
 use Rattle.device_instructions.specs.Registered.{registering}
 use Rattle.device_instructions.specs.Instructions.{Effect, error_of, read, write, reg_write}
-use Rattle.device_instructions.specs.Results.{done_with, done_of, sized}
+use Rattle.device_instructions.specs.Results.{Done, done_with, done_of, sized}
 use Rattle.device_instructions.proofs.Sized.{of_size, by_size}
-use Rattle.device_instructions.specs.declared.Done.{Done as DoneRecord}
 use Rattle.device_instructions.specs.declared.RegisteredWrite.{RegisteredWrite}
 
 module _ (table : List ℕ) (rule : Option ℕ) where
@@ -40,7 +39,7 @@ module _ (table : List ℕ) (w : RegisteredWrite) (address : ℕ) where
         (λ s. rw (in_rule table (read_rule address n) (Some number) e s)) (error_21 table (read_rule address n) (Some number) e w)
 
     pub read_done : None ≡ in_table table (read_rule address n) → (bytes : List ℕ) → bytes ≡ read_bytes table address n
-        → ◌≡◌ {A = DoneRecord} (record { error = 0; count = n; bytes = bytes; registered = w }) (done_of (sized table w (read table w address n)))
+        → ◌≡◌ {A = Done} (record { error = 0; count = n; bytes = bytes; registered = w }) (done_of (sized table w (read table w address n)))
     unfolding read
     read_done e bytes b =
         let s = (good_read table address n (sym e)).sized in

@@ -9,8 +9,7 @@ use lib.ListN.{length}
 use borrow.Author.Tests.{eq-eqb, ne_eqb, eqb-true, eqb-false}
 use Rattle.table_registers.specs.Registers.{table_size}
 use Rattle.device_instructions.specs.Instructions.{Effect, refusing}
-use Rattle.device_instructions.specs.Results.{done_with, done_of, effect_unless, sized}
-use Rattle.device_instructions.specs.declared.Done.{Done}
+use Rattle.device_instructions.specs.Results.{Done, done_with, done_of, effect_unless, sized}
 use Rattle.device_instructions.specs.declared.RegisteredWrite.{RegisteredWrite}
 
 module _ (table : List ℕ) (w : RegisteredWrite) (e : Effect) where

@@ -1,4 +1,5 @@
 -- What the steps of the call come to: the ID, the refusals of removal, and what the device is given.
+use Rattle.std.specs.Prelude.{Result}
 use Rattle.std.specs.Prelude.{None, Option, Some}
 use mathlib.Core.Path.{◌≡◌, refl, sym, ap, ap₂, subst, ◌∙◌}
 use mathlib.Core.Bool.{Bool, true, false, cond}
@@ -17,7 +18,6 @@ use Rattle.lists.proofs.Bools.{both_ways}
 use Rattle.lists.proofs.Write.{overwritten_take}
 use Rattle.stuffing.specs.Stuffing.{well_stuffed, unstuff}
 use Rattle.stuffing.specs.Answers.{checked, removal_refusal, removal_out}
-use Rattle.stuffing.specs.declared.Checked.TheVariants.{Good, Bad}
 use Rattle.stuffing.proofs.Answers.{checked_bad, checked_good, Removed}
 use Rattle.reading.specs.Rules.{Verdict, is_packet, is_bad_checksum, is_waiting, is_nothing}
 use Rattle.packet_front.specs.Front.{header, id_of}
@@ -37,9 +37,9 @@ use Rattle.device_instructions.specs.declared.RegisteredWrite.{RegisteredWrite}
 use Rattle.device_status.specs.declared.Reply.{Reply}
 use Rattle.device.specs.Answers.{answered_by, reply_unless}
 use Rattle.device_status.specs.Status.{silence}
-use Rattle.device.specs.declared.Replied.{Replied}
 use Rattle.device.proofs.Calls.{Refuses}
 use Rattle.device_packet.specs.Exchange.{id_by, id_heard, Message, heard_of, refused_or}
+use Rattle.device.specs.declared.Sent.{Sent}
 
 -- ---- the ID
 
@@ -124,11 +124,11 @@ module _ (packet : List ℕ) where
 -- ---- the removal of the stuffing
 
 module _ (packet body : List ℕ) where
-  pub bad_stuffing : checked (body_of packet) ≡ Bad → removal_refusal (body_of packet) body ≡ Some BadStuffing
+  pub bad_stuffing : checked (body_of packet) ≡ None → removal_refusal (body_of packet) body ≡ Some BadStuffing
   unfolding removal_refusal
   bad_stuffing e = rw (checked_bad (body_of packet) e)
 
-  module _ (n : ℕ) (e : checked (body_of packet) ≡ Good n) where
+  module _ (n : ℕ) (e : checked (body_of packet) ≡ Some n) where
     pub no_room : length body < n → removal_refusal (body_of packet) body ≡ Some NoRoom
     unfolding removal_refusal
     no_room l =
@@ -158,7 +158,7 @@ module _ (packet body : List ℕ) where
 
 -- ---- the device refuses: what the call refuses first, and that everything stays
 
-module _ (b c : Option Refusal) (r : Replied) (q : Refuses c r) where
+module _ (b c : Option Refusal) (r : Result Sent Refusal) (q : Refuses c r) where
   pub answers_first : (reply : Reply) → refused_or b r ≡ refused_or b (answered_by c reply)
   answers_first reply = ap (refused_or b) (q.answers reply)
 

@@ -8,7 +8,7 @@ ghost use Rattle.device_status.specs.Status.{error_byte, status_body};
 ghost use Rattle.device_status.specs.Sending.{status_answer, status_out};
 
 use answers::Refusal;
-use device_codes::INST_STATUS;
+use device_codes::Instruction;
 use packet_front::MAX_ID;
 use table_registers::MAX_DATA;
 
@@ -67,7 +67,7 @@ fn write_status(reply: Reply, out: &mut [u8]) -> Result<usize, Refusal>
     let params = [reply.error, b[0], b[1], b[2], b[3], b[4], b[5], b[6], b[7]];
     let n = reply.count as usize + 1;
     let id = reply.id;
-    packet_encoder::encode(id, INST_STATUS, &params[..n], out, 0)
+    packet_encoder::encode(id, Instruction::Status as u8, &params[..n], out, 0)
 }
 
 // Writes the status packet to the start of out; silence writes nothing, and counts 0. Refused, in this order, even for silence: an ID above 252,

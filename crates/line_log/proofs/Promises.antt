@@ -1,5 +1,5 @@
 -- The test accepts the sound logs and no others; the question, on a sound log and on two that agree where it looks.
-use Rattle.std.specs.Prelude.{None, Option, Some}
+use Rattle.std.specs.Prelude.{Err, None, Option, Some}
 use mathlib.Core.Path.{◌≡◌, refl, sym, ap, ap₂, subst, ◌∙◌}
 use mathlib.Core.Bool.{true, false}
 use mathlib.Core.List.{List, [], ◌∷◌}
@@ -19,7 +19,6 @@ use Rattle.log_layout.proofs.Sound.{is_laid_out, laid_out_log, index_log, segmen
 use Rattle.log_index.proofs.Marks.{position_within, at_position, index_is}
 use Rattle.line_log.specs.Soundness.{same_numbers, check_refusal, SoundExactly}
 use Rattle.line_log.specs.Question.{named, last_answer, last_refusal, found, found_unless, question, index_number_of, LogPromises}
-use Rattle.line_log.specs.declared.Found.TheVariants.{Refused}
 use Rattle.line_log.proofs.Rounds.{numbers_at, numbers_length, segments_at, none_above_lem, same_are, same_self}
 
 -- ---- the test
@@ -59,7 +58,7 @@ sound_exactly =
 -- ---- the question, test by test
 
 module _ (file : List ℕ) (id : ℕ) where
-  pub bad_layout : laid_out file ≡ false → question file id ≡ Refused BadLog
+  pub bad_layout : laid_out file ≡ false → question file id ≡ Err BadLog
   unfolding last_refusal
   bad_layout h = rw h
 
@@ -67,7 +66,7 @@ module _ (file : List ℕ) (id : ℕ) where
   number_is = numbers_at file (index_offset (count_in file)) index_size (mark_of id) (position_within id)
 
   module _ (l : laid_out file ≡ true) where
-    pub bad_id : good_id id ≡ false → question file id ≡ Refused BadLogId
+    pub bad_id : good_id id ≡ false → question file id ≡ Err BadLogId
     unfolding last_refusal
     bad_id h = rw (l, h)
 

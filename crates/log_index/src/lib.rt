@@ -6,20 +6,13 @@ ghost use Rattle.reading.specs.Reading.{reading};
 ghost use Rattle.packet.specs.Verdict.{protocol2};
 ghost use Rattle.reader_plain.specs.Next.{next_event};
 ghost use Rattle.log_index.specs.Last.{mark_of, last_in};
-ghost use Rattle.log_index.specs.Marks.{marked, offset_of};
+ghost use Rattle.log_index.specs.Marks.{marked};
 
 use packet_protocols::Protocol;
 use reader_plain::Event;
 
 // How many numbers the index has: one for each ID that packets may have.
 pub const INDEX_COUNT: usize = 254;
-
-// Where a packet stands in its segment, if there is one.
-#[derive(Clone, Copy)]
-pub enum Offset {
-    At(usize),
-    Nothing,
-}
 
 // The position of an ID in the index. [I5]
 pub fn mark_of(id: u8) -> usize
@@ -55,10 +48,10 @@ pub fn mark(index: &mut [usize; INDEX_COUNT], segment: &[u8], number: usize)
 }
 
 // The offset of the last packet with this ID in a segment. [I6]
-pub fn last_in(segment: &[u8], wanted: u8) -> Offset
-    ensures { result ≡ offset_of (last_in wanted segment.now) }
+pub fn last_in(segment: &[u8], wanted: u8) -> Option<usize>
+    ensures { result ≡ last_in wanted segment.now }
 {
-    let mut last = Offset::Nothing;
+    let mut last = None;
     let mut from = 0;
     while let Some(event) = next_event(segment, from) {
         match event {
@@ -69,7 +62,7 @@ pub fn last_in(segment: &[u8], wanted: u8) -> Offset
                 ..
             } => {
                 if id == wanted {
-                    last = Offset::At(offset);
+                    last = Some(offset);
                 }
                 from = next;
             }

@@ -6,12 +6,12 @@ use Prim.Native.Nat.{ℕ, ◌+◌, ◌*◌, ◌-◌, ◌/◌, ◌≤◌, ◌<◌
 use native.Mathlib.Numerals.{add-one}
 use native.Mathlib.Omega.{arith}
 use lib.Dec.{leb}
-use lib.ListN.{length, take, drop, get_or, set, drop_of_length-le}
+use lib.ListN.{length, take, drop, get_or, drop_of_length-le}
 use lib.Seq.{drop-cons}
 use borrow.Author.Tests.{leb-true, leb-false, le-leb, lt-leb}
 use Rattle.lists.specs.Numbers.{bytes_of}
 use Rattle.lists.specs.Write.{placed}
-use Rattle.lists.proofs.Filling.{Filling, fill_from, fill_next, fill_part, fill_placed}
+use Rattle.lists.proofs.Filling.{Filling, fill_from, fill_part, fill_placed}
 use Rattle.log_layout.specs.Log.{laid, header}
 use Rattle.log_parts.specs.Parts.{put}
 

@@ -14,10 +14,7 @@ use log_layout::{DIRECTORY, LOG_ENTRY, LOG_FRONT};
 fn has_room(size: usize, front: usize, entries: usize) -> bool
     ensures { result ≡ leb (front + 8 * entries) size }
 {
-    if size < front {
-        return false;
-    }
-    entries <= (size - front) / LOG_ENTRY
+    front <= size && entries <= (size - front) / LOG_ENTRY
 }
 
 // A number of 32 bits, low byte first. [I1]
@@ -73,9 +70,7 @@ pub fn put_index(out: &mut [u8], segments: usize, index: [usize; INDEX_COUNT])
         return;
     }
     let offset = DIRECTORY + LOG_ENTRY * segments;
-    let mut i = 0;
-    while i < INDEX_COUNT {
-        put_number(out, offset + 4 * i, index[i]);
-        i += 1;
+    for (i, &number) in index.iter().enumerate() {
+        put_number(out, offset + 4 * i, number);
     }
 }

@@ -1,5 +1,5 @@
 -- The refusals in their order, and what a call that is not refused has written and reported.
-use Rattle.std.specs.Prelude.{None, Some}
+use Rattle.std.specs.Prelude.{Err, None, Ok, Some}
 use mathlib.Core.Path.{◌≡◌, refl, sym, ap, ap₂, ◌∙◌}
 use mathlib.Core.Bool.{Bool, not}
 use mathlib.Core.List.{List}
@@ -26,7 +26,6 @@ use Rattle.log_kept.proofs.Rounds.{counts_of, bytes_of_lem}
 use Rattle.log_salvage.specs.Report.{salvaged, differing, report_of}
 use Rattle.log_salvage.specs.Salvage.{salvage_refusal, figures, salvage_answer, salvage_out, salvage_report}
 use Rattle.log_salvage.specs.declared.Figures.{Figures}
-use Rattle.log_salvage.specs.declared.Salvaged.TheVariants.{Written, Refused}
 
 -- ---- sizes
 
@@ -79,14 +78,14 @@ module _ (file out report : List ℕ) where
       (leb-true _ _ s.0, leb-true _ _ (passed (leb (length file) longest_file) BadLogSize _ s.1).0)
 
   pub refusing : (refusal : Refusal) → salvage_refusal file out report ≡ Some refusal
-      → (Refused refusal ≡ salvage_answer file out report)
+      → (Err refusal ≡ salvage_answer file out report)
       × ((out ≡ salvage_out file out report) × (report ≡ salvage_report file out report))
   refusing refusal r = (rw r refl, (rw r refl, rw r refl))
 
   pub writing : (f : Figures) (o t : List ℕ) → salvage_refusal file out report ≡ None → f ≡ figures (length (salvaged file)) (report_of file)
       → o ≡ overwritten out (salvaged file) → t ≡ overwritten report (numbers_of (dropped_in file))
-      → (Written f ≡ salvage_answer file out report) × ((o ≡ salvage_out file out report) × (t ≡ salvage_report file out report))
-  writing f o t r a b d = (rw r (ap Written a), (rw r b, rw r d))
+      → (Ok f ≡ salvage_answer file out report) × ((o ≡ salvage_out file out report) × (t ≡ salvage_report file out report))
+  writing f o t r a b d = (rw r (ap Ok a), (rw r b, rw r d))
 
 -- ---- the figures
 

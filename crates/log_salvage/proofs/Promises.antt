@@ -16,6 +16,7 @@ use Rattle.log_layout.proofs.Sound.{log_length, count_log, directory_log, index_
 use Rattle.line_log.specs.Soundness.{same_numbers}
 use Rattle.line_log.proofs.Rounds.{same_self}
 use Rattle.log_kept.specs.Kept.{entry_count, fault, kept, dropped, kept_of, dropped_in, kept_segments}
+use Rattle.log_kept.specs.declared.Fault.{Fault}
 use Rattle.log_kept.proofs.Kept.{fault_none, kept_here, kept_not, all_kept}
 use Rattle.log_kept.proofs.Rounds.{counts_of}
 use Rattle.log_salvage.specs.Report.{salvaged, differing, report_of, empty_report}
@@ -29,7 +30,7 @@ unfolding kept
 kept_apart size limit [] = tt
 kept_apart size limit (e ∷ es) = by_fault (λ l. kept_apart size l es) (fault size limit e) refl
   where
-    by_fault : ((l : ℕ) → Apart l size (kept size l es)) → (o : Option ℕ) → fault size limit e ≡ o → Apart limit size (kept size limit (e ∷ es))
+    by_fault : ((l : ℕ) → Apart l size (kept size l es)) → (o : Option Fault) → fault size limit e ≡ o → Apart limit size (kept size limit (e ∷ es))
     by_fault rest None f =
         let w = fault_none size limit e f in
         subst (Apart limit size) (sym (kept_here size limit e es 0 f)) (w.0, w.1, rest (e.0 + e.1))

@@ -1,7 +1,8 @@
 -- The call that salvages a log, and what is promised of it over all files.
-use Rattle.std.specs.Prelude.{None, Option, Some}
+use Rattle.std.specs.Prelude.{None, Option, Result}
 use Rattle.std.specs.Prelude.{◌≡◌, Bool, true, cond, ◌&&◌, ◌||◌, List, [], ◌∷◌, ℕ, zero, suc, ◌+◌, ◌*◌, ◌-◌, ◌/◌, ◌≤◌, leb, ltb, length, take}
 use Rattle.answers.specs.Refusals.{first_failing, unless_refused}
+use Rattle.answers.specs.Answers.{answered}
 use Rattle.answers.specs.declared.Refusal.{Refusal}
 use Rattle.answers.specs.declared.Refusal.TheVariants.{NoRoom, BadLogSize}
 use Rattle.lists.specs.Write.{overwritten}
@@ -10,8 +11,6 @@ use Rattle.log_layout.specs.Layout.{count_in, segments_in}
 use Rattle.log_kept.specs.Kept.{entry_count, kept_of, dropped_in, kept_segments}
 use Rattle.log_salvage.specs.Report.{salvaged, Report, report_of, empty_report}
 use Rattle.log_salvage.specs.declared.Figures.{Figures}
-use Rattle.log_salvage.specs.declared.Salvaged.{Salvaged}
-use Rattle.log_salvage.specs.declared.Salvaged.TheVariants.{Written, Refused}
 
 -- a file of no size that a log may have; an output shorter than the file; a report with fewer rows, of two numbers each, than the
 -- segment count: in this order [I31 N4 N10 N18]
@@ -34,13 +33,9 @@ figures count r =
       header = r.header_changed;
     }
 
-abbrev pub written_unless : Option Refusal → Figures → Salvaged
-written_unless None f = Written f
-written_unless (Some refusal) f = Refused refusal
-
 -- the bytes written and the figures of the report, or a refusal [I24-I28 I31]
-abbrev pub salvage_answer : List ℕ → List ℕ → List ℕ → Salvaged
-salvage_answer file out report = written_unless (salvage_refusal file out report) (figures (length (salvaged file)) (report_of file))
+abbrev pub salvage_answer : List ℕ → List ℕ → List ℕ → Result Figures Refusal
+salvage_answer file out report = answered (salvage_refusal file out report) (figures (length (salvaged file)) (report_of file))
 
 -- what the output holds; its bytes behind the log stay [I24 I31]
 abbrev pub salvage_out : List ℕ → List ℕ → List ℕ → List ℕ

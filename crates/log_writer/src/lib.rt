@@ -16,14 +16,12 @@ fn adds_up(lengths: &[u32], count: usize) -> bool
     ensures { result ≡ eqb (sum lengths.now) count }
 {
     let mut left = count;
-    let mut i = 0;
-    while i < lengths.len() {
-        let n = lengths[i] as usize;
+    for &length in lengths {
+        let n = length as usize;
         if left < n {
             return false;
         }
         left -= n;
-        i += 1;
     }
     left == 0
 }
@@ -34,12 +32,10 @@ fn put_directory(out: &mut [u8], lengths: &[u32])
         (laid (numbers_of (directory_by (segments_offset (length lengths.now)) lengths.now)) []) }
 {
     let mut start = LOG_FRONT + LOG_ENTRY * lengths.len();
-    let mut i = 0;
-    while i < lengths.len() {
-        let n = lengths[i] as usize;
+    for (i, &length) in lengths.iter().enumerate() {
+        let n = length as usize;
         log_parts::put_entry(out, i, start, n);
         start += n;
-        i += 1;
     }
 }
 
@@ -48,14 +44,12 @@ fn index_of(bytes: &[u8], lengths: &[u32]) -> [usize; INDEX_COUNT]
     requires { sum lengths.now ≤ length bytes.now }
     ensures { result ≡ index (cut lengths.now bytes.now) }
 {
-    let mut index = [0usize; INDEX_COUNT];
-    let mut start = 0;
-    let mut i = 0;
-    while i < lengths.len() {
-        let n = lengths[i] as usize;
-        i += 1;
-        log_index::mark(&mut index, &bytes[start..start + n], i);
-        start += n;
+    let mut index = [0; INDEX_COUNT];
+    let mut rest = bytes;
+    for (i, &length) in lengths.iter().enumerate() {
+        let (segment, behind) = rest.split_at(length as usize);
+        log_index::mark(&mut index, segment, i + 1);
+        rest = behind;
     }
     index
 }
@@ -80,10 +74,7 @@ pub fn write(bytes: &[u8], lengths: &[u32], out: &mut [u8]) -> Result<usize, Ref
     ensures value { result ≡ write_answer bytes.now lengths.now out.old }
     ensures out_after { out.new ≡ write_out bytes.now lengths.now out.old }
 {
-    if !adds_up(lengths, bytes.len()) {
-        return Err(Refusal::BadLog);
-    }
-    if MOST_SEGMENTS < lengths.len() {
+    if !adds_up(lengths, bytes.len()) || MOST_SEGMENTS < lengths.len() {
         return Err(Refusal::BadLog);
     }
     let first = LOG_FRONT + LOG_ENTRY * lengths.len();

@@ -2,17 +2,18 @@
 // it converts.
 #![tactic(auto)]
 
-ghost use Rattle.std.specs.Prelude.{◌≡◌, cond};
-ghost use Rattle.log_salvage.specs.declared.Salvaged.TheVariants.{Written as Salvaged-as-Written};
-ghost use Rattle.numbers.specs.Exported.{step_numbers, next_numbers, device_numbers, refusal_number, carried_numbers, found_numbers, salvaged_numbers, tested_number};
+ghost use Rattle.std.specs.Prelude.{◌≡◌};
+ghost use Rattle.std.specs.Result.{result_unwrap_or};
+ghost use Rattle.device_status.specs.Status.{silence};
+ghost use Rattle.device.specs.Results.{nothing_sent};
+ghost use Rattle.numbers.specs.Exported.{step_numbers, next_numbers, device_numbers, carried_numbers, found_numbers, salvaged_numbers, tested_number};
 
 use answers::Refusal;
-use device::{CarriedOut, Replied, Response};
+use device::Sent;
 use device_instructions::RegisteredWrite;
-use device_packet::CarriedPacket;
 use device_status::Reply;
-use line_log::Found;
-use log_salvage::{Figures, Salvaged};
+use line_log::Place;
+use log_salvage::Figures;
 use reader_core::{Event, Step};
 use reader_plain::Event as SegmentEvent;
 
@@ -169,18 +170,17 @@ fn moved(registered: RegisteredWrite) -> RegisteredWrite
     }
 }
 
-pub fn response(answer: Response) -> DeviceNumbers
-    ensures { result ≡ device_numbers answer.replied answer.registered }
+pub fn response(answer: Result<Sent, Refusal>, kept: RegisteredWrite) -> DeviceNumbers
+    ensures { result ≡ device_numbers answer kept }
 {
-    let registered = moved(answer.registered);
-    let replied = answer.replied;
-    match replied {
-        Replied::Sent(n, slot) => DeviceNumbers {
-            count: answers::exported_count(n),
-            slot,
+    let registered = moved(kept);
+    match answer {
+        Ok(sent) => DeviceNumbers {
+            count: answers::exported_count(sent.count),
+            slot: sent.slot,
             registered,
         },
-        Replied::Refused(refusal) => DeviceNumbers {
+        Err(refusal) => DeviceNumbers {
             count: answers::exported_refusal(refusal),
             slot: 0,
             registered,
@@ -188,57 +188,39 @@ pub fn response(answer: Response) -> DeviceNumbers
     }
 }
 
-// The refusal alone: 0 where nothing is refused.
-fn replied_refusal(replied: Replied) -> i64
-    ensures { result ≡ refusal_number replied }
+// The reply that waits, which is silence beside a refusal.
+pub fn carried(answer: Result<Reply, Refusal>, registered: RegisteredWrite) -> CarriedNumbers
+    ensures { result ≡ carried_numbers (nothing_sent answer) (result_unwrap_or answer silence) registered }
 {
-    match replied {
-        Replied::Sent(_, _) => 0,
-        Replied::Refused(refusal) => answers::exported_refusal(refusal),
+    match answer {
+        Ok(reply) => CarriedNumbers {
+            refusal: 0,
+            reply,
+            registered,
+        },
+        Err(refusal) => CarriedNumbers {
+            refusal: answers::exported_refusal(refusal),
+            reply: device_status::silence(),
+            registered,
+        },
     }
 }
 
-pub fn carried(answer: CarriedOut) -> CarriedNumbers
-    ensures { result ≡ carried_numbers answer.refused answer.reply answer.registered }
-{
-    let refused = answer.refused;
-    let reply = answer.reply;
-    let registered = answer.registered;
-    CarriedNumbers {
-        refusal: replied_refusal(refused),
-        reply,
-        registered,
-    }
-}
-
-pub fn carried_packet(answer: CarriedPacket) -> CarriedNumbers
-    ensures { result ≡ carried_numbers answer.refused answer.reply answer.registered }
-{
-    let refused = answer.refused;
-    let reply = answer.reply;
-    let registered = answer.registered;
-    CarriedNumbers {
-        refusal: replied_refusal(refused),
-        reply,
-        registered,
-    }
-}
-
-pub fn found(answer: Found) -> FoundNumbers
+pub fn found(answer: Result<Option<Place>, Refusal>) -> FoundNumbers
     ensures { result ≡ found_numbers answer }
 {
     match answer {
-        Found::At(segment, offset) => FoundNumbers {
+        Ok(Some(Place { segment, offset })) => FoundNumbers {
             found: 1,
             segment,
             offset,
         },
-        Found::Nowhere => FoundNumbers {
+        Ok(None) => FoundNumbers {
             found: 0,
             segment: 0,
             offset: 0,
         },
-        Found::Refused(refusal) => FoundNumbers {
+        Err(refusal) => FoundNumbers {
             found: answers::exported_refusal(refusal),
             segment: 0,
             offset: 0,
@@ -246,30 +228,18 @@ pub fn found(answer: Found) -> FoundNumbers
     }
 }
 
-fn flag(set: bool) -> u8
-    ensures { result ≡ cond set 1 0 }
-{
-    if set { 1 } else { 0 }
-}
-
-fn figures(f: Figures) -> SalvagedNumbers
-    ensures { result ≡ salvaged_numbers (Salvaged-as-Written f) }
-{
-    SalvagedNumbers {
-        count: answers::exported_count(f.count),
-        dropped: f.dropped,
-        index: f.index,
-        leftover: f.leftover,
-        header: flag(f.header),
-    }
-}
-
-pub fn salvaged(answer: Salvaged) -> SalvagedNumbers
+pub fn salvaged(answer: Result<Figures, Refusal>) -> SalvagedNumbers
     ensures { result ≡ salvaged_numbers answer }
 {
     match answer {
-        Salvaged::Written(f) => figures(f),
-        Salvaged::Refused(refusal) => SalvagedNumbers {
+        Ok(figures) => SalvagedNumbers {
+            count: answers::exported_count(figures.count),
+            dropped: figures.dropped,
+            index: figures.index,
+            leftover: figures.leftover,
+            header: u8::from(figures.header),
+        },
+        Err(refusal) => SalvagedNumbers {
             count: answers::exported_refusal(refusal),
             dropped: 0,
             index: 0,

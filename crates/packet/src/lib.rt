@@ -10,14 +10,13 @@ ghost use Rattle.packet.specs.Verdict.{whole_answer};
 
 use answers::Refusal;
 use packet_rules::Verdict;
-use stuffing::Checked;
 
 // The body as a part of the packet, between length field and checksum; empty if there is no room for both. [S2 S7]
 pub fn body(packet: &[u8]) -> &[u8]
     ensures { result.now ≡ body_of packet.now }
 {
     if packet.len() < 9 {
-        &packet[..0]
+        &[]
     } else {
         &packet[7..packet.len() - 2]
     }
@@ -52,10 +51,10 @@ pub fn judge_whole(packet: &[u8]) -> Verdict
     }
     let end = n - 2;
     let crc = checksum(&packet[4..end]);
-    if (crc as usize) != packet_front::word(packet[end], packet[end + 1]) {
+    if crc != packet_front::word(packet[end], packet[end + 1]) {
         return Verdict::BadChecksum(packet[4]);
     }
-    let Checked::Good(_) = stuffing::check(body(packet)) else {
+    let Some(_) = stuffing::check(body(packet)) else {
         return Verdict::Nothing;
     };
     Verdict::Packet(n)

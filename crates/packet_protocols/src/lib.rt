@@ -88,7 +88,7 @@ impl Protocol {
         ensures { result ≡ length_in self s.now }
     {
         match self {
-            Protocol::Two => packet_front::word(s[5], s[6]),
+            Protocol::Two => usize::from(packet_front::word(s[5], s[6])),
             Protocol::One | Protocol::Mercury => usize::from(s[3]),
         }
     }

@@ -1,5 +1,5 @@
 -- What a caller learns from each case of an answer.
-use Rattle.std.specs.Prelude.{None, Ok}
+use Rattle.std.specs.Prelude.{None, Some, Ok}
 use mathlib.Core.Path.{◌≡◌, refl}
 use mathlib.Core.Bool.{Bool, true, false, cond}
 use mathlib.Core.List.{List}
@@ -12,19 +12,18 @@ use Rattle.answers.specs.declared.Refusal.TheVariants.{BadStuffing, NoRoom}
 use Rattle.answers.proofs.Laws.{counted as answered-count, passed}
 use Rattle.stuffing.specs.Stuffing.{well_stuffed, unstuff}
 use Rattle.stuffing.specs.Answers.{checked, removal_refusal, removal_answer}
-use Rattle.stuffing.specs.declared.Checked.TheVariants.{Good, Bad}
 
-pub checked_bad : (body : List ℕ) → checked body ≡ Bad → well_stuffed body ≡ false
+pub checked_bad : (body : List ℕ) → checked body ≡ None → well_stuffed body ≡ false
 checked_bad body e = go (well_stuffed body) e
   where
-    go : (w : Bool) → cond w (Good (length (unstuff body))) Bad ≡ Bad → w ≡ false
+    go : (w : Bool) → cond w (Some (length (unstuff body))) None ≡ None → w ≡ false
     go false e = refl
     go true e = let z : ◌≡◌ {A = ℕ} 0 1 = cc in absurd (omega arith)
 
-pub checked_good : (body : List ℕ) (n : ℕ) → checked body ≡ Good n → (well_stuffed body ≡ true) × (length (unstuff body) ≡ n)
+pub checked_good : (body : List ℕ) (n : ℕ) → checked body ≡ Some n → (well_stuffed body ≡ true) × (length (unstuff body) ≡ n)
 checked_good body n e = go (well_stuffed body) e
   where
-    go : (w : Bool) → cond w (Good (length (unstuff body))) Bad ≡ Good n → (w ≡ true) × (length (unstuff body) ≡ n)
+    go : (w : Bool) → cond w (Some (length (unstuff body))) None ≡ Some n → (w ≡ true) × (length (unstuff body) ≡ n)
     go true e = (refl, cc)
     go false e = let z : ◌≡◌ {A = ℕ} 0 1 = cc in absurd (omega arith)
 

@@ -13,7 +13,8 @@ use table_registers::{
     FRESH_BAUD_CODE, FRESH_FIRMWARE_VERSION, FRESH_ID, FRESH_MAX_POSITION, FRESH_MODEL_NUMBER,
     FRESH_STATUS_RETURN_LEVEL, MAX_DATA, PERMITS_READ, REG_BAUD_CODE, REG_FIRMWARE_VERSION,
     REG_HARDWARE_ERROR, REG_ID, REG_MAX_POSITION, REG_MODEL_NUMBER, REG_PRESENT_POSITION,
-    REG_STATUS_RETURN_LEVEL, TABLE_BYTES,
+    REG_STATUS_RETURN_LEVEL, SIZE_MAX_POSITION, SIZE_MODEL_NUMBER, SIZE_PRESENT_POSITION,
+    TABLE_BYTES,
 };
 use table_rules::Denied;
 
@@ -23,7 +24,8 @@ pub fn write(table: &mut [u8], address: u16, bytes: &[u8]) -> Result<(), Denied>
     ensures table_after { table.new ≡ write_out table.old address bytes.now }
 {
     table_rules::judge(&table[..], address, bytes)?;
-    buffers::place(table, address as usize, bytes);
+    let at = address as usize;
+    table[at..at + bytes.len()].copy_from_slice(bytes);
     Ok(())
 }
 
@@ -62,14 +64,14 @@ pub fn fresh(table: &mut [u8]) -> Result<(), Refusal>
     if table.len() != TABLE_BYTES {
         return Err(Refusal::NotATable);
     }
-    buffers::clear(table, 0);
-    table[REG_MODEL_NUMBER] = (FRESH_MODEL_NUMBER % 256) as u8;
-    table[REG_MODEL_NUMBER + 1] = (FRESH_MODEL_NUMBER / 256) as u8;
+    table.fill(0);
+    let model = FRESH_MODEL_NUMBER.to_le_bytes();
+    table[REG_MODEL_NUMBER..REG_MODEL_NUMBER + SIZE_MODEL_NUMBER].copy_from_slice(&model);
     table[REG_FIRMWARE_VERSION] = FRESH_FIRMWARE_VERSION;
     table[REG_ID] = FRESH_ID;
     table[REG_BAUD_CODE] = FRESH_BAUD_CODE;
-    table[REG_MAX_POSITION] = (FRESH_MAX_POSITION % 256) as u8;
-    table[REG_MAX_POSITION + 1] = (FRESH_MAX_POSITION / 256) as u8;
+    let most = u32::from(FRESH_MAX_POSITION).to_le_bytes();
+    table[REG_MAX_POSITION..REG_MAX_POSITION + SIZE_MAX_POSITION].copy_from_slice(&most);
     table[REG_STATUS_RETURN_LEVEL] = FRESH_STATUS_RETURN_LEVEL;
     Ok(())
 }
@@ -82,11 +84,10 @@ pub fn measure(table: &mut [u8], position: i32, error: u8) -> Result<(), Refusal
     if table.len() != TABLE_BYTES {
         return Err(Refusal::NotATable);
     }
-    let bytes = table_items::unsigned_of(position).to_le_bytes();
-    table[REG_PRESENT_POSITION] = bytes[0];
-    table[REG_PRESENT_POSITION + 1] = bytes[1];
-    table[REG_PRESENT_POSITION + 2] = bytes[2];
-    table[REG_PRESENT_POSITION + 3] = bytes[3];
+    let bytes = position.to_le_bytes();
+    table[REG_PRESENT_POSITION..REG_PRESENT_POSITION + SIZE_PRESENT_POSITION].copy_from_slice(
+        &bytes,
+    );
     table[REG_HARDWARE_ERROR] = error;
     Ok(())
 }

@@ -34,6 +34,7 @@ use Rattle.fits.specs.Fits.{AtMost, DeviceFits, BoardFits}
 use Rattle.fits.proofs.Counts.{count_at_most, refused_at_most}
 use Rattle.fits.proofs.Steps.{takes, packet_fits}
 use Rattle.device.specs.declared.Sent.{Sent}
+use Rattle.answers.specs.Answers.{exported}
 
 -- ---- the device
 

@@ -1,6 +1,6 @@
 -- What a call on a board comes to: where it is refused, and where the reader's event is carried out.
-use Rattle.std.specs.Prelude.{Err, None, Ok, Option, Result, Some}
-use mathlib.Core.Path.{◌≡◌, refl, sym, ap, subst, ◌∙◌}
+use Rattle.std.specs.Prelude.{None, Ok, Option, Some}
+use mathlib.Core.Path.{◌≡◌, refl, ap, ◌∙◌}
 use mathlib.Core.List.{List}
 use mathlib.Core.Bool.{cond}
 use Prim.Native.Nat.{ℕ, ◌+◌}
@@ -19,17 +19,15 @@ use Rattle.packet.specs.Packet.{WellFormed, body_of}
 use Rattle.packet.specs.Verdict.{protocol2}
 use Rattle.packet.proofs.Laws.{laws}
 use Rattle.packet_protocols.specs.declared.Protocol.TheVariants.{Two}
-use Rattle.reader_core.specs.declared.Event.{Event as Event-as-Code}
 use Rattle.reader_core.specs.declared.Step.{Step}
 use Rattle.reader_core.specs.Results.{event_for, packet_bytes, step_for, lean_held, lean_packet, lean_held_for, lean_packet_for}
 use Rattle.reader_records.specs.declared.Reader.{Reader}
 use Rattle.reader_records.specs.Records.{held_in, lent}
 use Rattle.board.specs.declared.BoardStep.{BoardStep}
-use Rattle.board.specs.Board.{Board, reader_left, carried_if_any, report_of, board_refusal, outcome}
-use Rattle.board.specs.Numbers.{step_with, refused_step, step_unless, board_step, buffer_for, buffer_left}
-use Rattle.board.specs.Inside.{number_if_any, event_by, Fits, buffer_by}
+use Rattle.board.specs.Board.{Board, reader_left, carried_if_any, board_refusal, outcome}
+use Rattle.board.specs.Numbers.{refused_step, step_unless, board_step, buffer_for, buffer_left}
+use Rattle.board.specs.Inside.{event_by, Fits, buffer_by, step_after}
 use Rattle.board.proofs.Refusals.{accepted}
-use Rattle.board.proofs.ByAnswer.{Left}
 use Rattle.board.proofs.Sound.{call_good}
 
 -- ---- the reader's answer and the packet buffer, by the event
@@ -60,10 +58,6 @@ module _ (base : List ℕ) where
 
 -- ---- the call
 
-abbrev step_or : Step → Result Step Refusal → Step
-step_or other (Ok step) = step
-step_or other (Err refusal) = other
-
 -- the registered write of the answer is that of the board
 pub step_registered : (b : Board) (c : Call) → (board_step b c).registered ≡ (outcome b c).board.registered
 unfolding board_step
@@ -80,31 +74,18 @@ module _ (b : Board) (c : Call) (old : List ℕ) where
       (r ≡ board_step b c)
       × ((reader ≡ (outcome b c).board.reader) × (table ≡ (outcome b c).board.table) × (buffer ≡ buffer_left b c old))
 
-  pub refused_call : (number : ℕ) → number ≡ number_if_any (board_refusal b) → ¬ (number ≡ 0) → (r : BoardStep)
-      → r ≡ refused_step number b.registered
+  pub refused_call : (refusal : Refusal) → board_refusal b ≡ Some refusal → (r : BoardStep) → r ≡ refused_step (number_of refusal) b.registered
       → Says r b.reader b.table old
   unfolding board_step outcome buffer_left
-  refused_call number n Some-number r e = by (board_refusal b) refl
-    where
-      by : (s : Option Refusal) → board_refusal b ≡ s → Says r b.reader b.table old
-      by None i = absurd (Some-number (n ∙ ap number_if_any i))
-      by (Some refusal) i =
-          let m : number ≡ number_of refusal = n ∙ ap number_if_any i in
-          (rw (i, ← m) e, (rw i, rw i, rw i))
+  refused_call refusal i r e = (rw i e, (rw i, rw i, rw i))
 
   module _ (ok : board_refusal b ≡ None) where
     abbrev result : CallResult
     result = call protocol2 (held_in b.reader) c
 
-    abbrev told : Step
-    told = record { taken = result.taken; held = length result.held; event = event_for Two result.answer }
-
-    -- the reader refuses nothing then
-    pub taken_on : (refusal : Refusal) → ¬ (Err refusal ≡ step_for Two b.reader.count result)
-    taken_on refusal e =
-        let other : ◌≡◌ {A = Result Step Refusal} (Err refusal) (Ok told) = e ∙ rw (le-leb b.reader.count 1030 (accepted b ok).held) refl in
-        let z : ◌≡◌ {A = ℕ} 0 1 = cc in
-        omega arith
+    -- the reader's call is not refused either
+    pub answered_step : step_for Two b.reader.count result ≡ Ok (record { taken = result.taken; held = length result.held; event = event_for Two result.answer })
+    answered_step = rw (le-leb b.reader.count 1030 (accepted b ok).held) refl
 
     module _ (step : Step) (bytes buffer : List ℕ) (s : Ok step ≡ step_for Two b.reader.count result)
         (h : bytes ≡ lean_held_for Two b.reader.count b.reader.bytes result) (p : buffer ≡ lean_packet_for Two b.reader.count old result) where
@@ -112,10 +93,8 @@ module _ (b : Board) (c : Call) (old : List ℕ) where
       abbrev base : List ℕ
       base = cond (leb (b.reader.count + result.taken) 1030) old (replicate 1031 0)
 
-      step_is : step ≡ told
-      step_is =
-          let q : ◌≡◌ {A = Result Step Refusal} (Ok step) (Ok told) = s ∙ rw (le-leb b.reader.count 1030 (accepted b ok).held) refl in
-          ap (step_or step) q
+      step_is : step ≡ record { taken = result.taken; held = length result.held; event = event_for Two result.answer }
+      step_is = let e = s ∙ answered_step in cc
 
       bytes_are : bytes ≡ lean_held Two b.reader.count b.reader.bytes result
       bytes_are = h ∙ rw (le-leb b.reader.count 1030 (accepted b ok).held) refl
@@ -127,12 +106,8 @@ module _ (b : Board) (c : Call) (old : List ℕ) where
       unfolding reader_left
       reader_is = λ i. record { bytes = bytes_are i; count = (step_is i).held }
 
-      fits : Fits step.event buffer
+      pub fits : Fits step.event buffer
       fits = rw (step_is, buffer_is) (fits_back base result.answer (call_good protocol2 laws (held_in b.reader) c))
-
-      -- by the event that it gives
-      pub fits_as : (v : Option Event-as-Code) → step.event ≡ v → Fits v buffer
-      fits_as v q = rw q at fits
 
       event_is : event_by step.event buffer ≡ result.answer
       event_is = rw (step_is, buffer_is) (event_back base result.answer)
@@ -143,24 +118,16 @@ module _ (b : Board) (c : Call) (old : List ℕ) where
       left_buffer : buffer_by step.event buffer ≡ buffer_for (lean_packet Two b.reader.count old result) result.answer
       left_buffer = rw (step_is, buffer_is) (buffer_back base result.answer)
 
-      received : (r : BoardStep) (table' buffer' : List ℕ) → Left b.table b.registered step.taken buffer step.event r table' buffer'
+      pub received_call : (r : BoardStep) (table' buffer' : List ℕ) → r ≡ step_after b.table b.registered step.taken (event_by step.event buffer)
+          → table' ≡ (carried_if_any b.table b.registered (event_by step.event buffer)).table → buffer' ≡ buffer_by step.event buffer
           → Says r (lent bytes step.held) table' buffer'
       unfolding board_step outcome buffer_left
-      received r table' buffer' left =
-          let t = b.table in
+      received_call r table' buffer' e t p =
           let w = b.registered in (
-            left.0
-                ∙ (λ i. step_with (report_of t w (taken_is i) (event_is i)) (carried_if_any t w (event_is i)).registered)
-                ∙ rw ok refl,
+            e ∙ (λ i. step_after b.table w (taken_is i) (event_is i)) ∙ rw ok refl,
             (
               reader_is ∙ rw ok refl,
-              left.1.0 ∙ ap (λ (a : Option Event). (carried_if_any t w a).table) event_is ∙ rw ok refl,
-              left.1.1 ∙ left_buffer ∙ rw ok refl,
+              t ∙ ap (λ (a : Option Event). (carried_if_any b.table w a).table) event_is ∙ rw ok refl,
+              p ∙ left_buffer ∙ rw ok refl,
             ),
           )
-
-      pub received_call : (v : Option Event-as-Code) → step.event ≡ v → (r : BoardStep) (table' buffer' : List ℕ)
-          → Left b.table b.registered step.taken buffer v r table' buffer' → Says r (lent bytes step.held) table' buffer'
-      received_call v q r table' buffer' left =
-          received r table' buffer'
-          (subst (λ (x : Option Event-as-Code). Left b.table b.registered step.taken buffer x r table' buffer') (sym q) left)

@@ -53,7 +53,7 @@ use numbers::{
     CarriedNumbers, DeviceNumbers, EventNumbers, FoundNumbers, SalvagedNumbers, StepNumbers,
 };
 use packet_front::MAX_PACKET;
-use reader_core::MAX_HELD;
+use reader_core::{MAX_HELD, ProtocolTwo};
 use reader_records::Reader;
 
 pub const VERSION_MAJOR: u32 = 0;
@@ -155,8 +155,10 @@ pub extern "C" fn dxl_feed(
     ensures burst_detected { BurstDetected }
 {
     let n = *count;
-    let step = reader_core::feed_in(held, n, chunk, packet);
-    *count = step.held;
+    let step = reader_core::feed::<ProtocolTwo, _, _>(held, n, chunk, packet);
+    if let Ok(step) = step {
+        *count = step.held;
+    }
     numbers::step(step)
 }
 
@@ -173,8 +175,10 @@ pub extern "C" fn dxl_gap(
     ensures every_protocol { EveryProtocol × StepsFit }
 {
     let n = *count;
-    let step = reader_core::gap_in(held, n, packet);
-    *count = step.held;
+    let step = reader_core::gap::<ProtocolTwo, _, _>(held, n, packet);
+    if let Ok(step) = step {
+        *count = step.held;
+    }
     numbers::step(step)
 }
 
@@ -191,8 +195,10 @@ pub extern "C" fn dxl_reader_feed<'r, 'c, 'p>(
         × EveryProtocol × StepsFit }
 {
     let n = reader.count;
-    let step = reader_core::feed_in(&mut reader.bytes, n, chunk, packet);
-    reader.count = step.held;
+    let step = reader_core::feed::<ProtocolTwo, _, _>(&mut reader.bytes, n, chunk, packet);
+    if let Ok(step) = step {
+        reader.count = step.held;
+    }
     numbers::step(step)
 }
 
@@ -208,8 +214,10 @@ pub extern "C" fn dxl_reader_gap<'r, 'p>(
         × EveryProtocol × StepsFit }
 {
     let n = reader.count;
-    let step = reader_core::gap_in(&mut reader.bytes, n, packet);
-    reader.count = step.held;
+    let step = reader_core::gap::<ProtocolTwo, _, _>(&mut reader.bytes, n, packet);
+    if let Ok(step) = step {
+        reader.count = step.held;
+    }
     numbers::step(step)
 }
 

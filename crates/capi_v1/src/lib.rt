@@ -15,7 +15,7 @@ ghost use Rattle.fits.specs.Fits.{StepsFit, CountsFit};
 
 use numbers::StepNumbers;
 use packet_v1::V1_MAX_PACKET;
-use reader_core::V1_MAX_HELD;
+use reader_core::{ProtocolMercury, ProtocolOne, V1_MAX_HELD};
 
 // The encoder of Protocol 1.0: the packet's byte count, or minus a refusal number. [O9-O11]
 #[unsafe(no_mangle)]
@@ -77,8 +77,10 @@ pub extern "C" fn dxl_p1_feed(
     ensures every_protocol { EveryProtocol × StepsFit }
 {
     let n = *count;
-    let step = reader_core::feed_p1(held, n, chunk, packet);
-    *count = step.held;
+    let step = reader_core::feed::<ProtocolOne, _, _>(held, n, chunk, packet);
+    if let Ok(step) = step {
+        *count = step.held;
+    }
     numbers::step(step)
 }
 
@@ -95,8 +97,10 @@ pub extern "C" fn dxl_p1_gap(
     ensures every_protocol { EveryProtocol × StepsFit }
 {
     let n = *count;
-    let step = reader_core::gap_p1(held, n, packet);
-    *count = step.held;
+    let step = reader_core::gap::<ProtocolOne, _, _>(held, n, packet);
+    if let Ok(step) = step {
+        *count = step.held;
+    }
     numbers::step(step)
 }
 
@@ -114,8 +118,10 @@ pub extern "C" fn dxl_mercury_feed(
     ensures every_protocol { EveryProtocol × StepsFit }
 {
     let n = *count;
-    let step = reader_core::feed_mercury(held, n, chunk, packet);
-    *count = step.held;
+    let step = reader_core::feed::<ProtocolMercury, _, _>(held, n, chunk, packet);
+    if let Ok(step) = step {
+        *count = step.held;
+    }
     numbers::step(step)
 }
 
@@ -132,7 +138,9 @@ pub extern "C" fn dxl_mercury_gap(
     ensures every_protocol { EveryProtocol × StepsFit }
 {
     let n = *count;
-    let step = reader_core::gap_mercury(held, n, packet);
-    *count = step.held;
+    let step = reader_core::gap::<ProtocolMercury, _, _>(held, n, packet);
+    if let Ok(step) = step {
+        *count = step.held;
+    }
     numbers::step(step)
 }

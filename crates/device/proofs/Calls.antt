@@ -1,4 +1,5 @@
 -- The refusals of the device call, each where those before it do not apply.
+use Rattle.std.specs.Prelude.{Err, Result}
 use Rattle.std.specs.Prelude.{None, Option, Some}
 use mathlib.Core.Path.{◌≡◌, refl, sym, ◌∙◌}
 use mathlib.Core.List.{List}
@@ -9,7 +10,7 @@ use lib.ListN.{length}
 use borrow.Author.Tests.{eq-eqb, ne_eqb, le-leb, lt-leb, eqb-true, leb-true}
 use Rattle.table_registers.specs.Registers.{table_size}
 use Rattle.device_dispatch.specs.Reactions.{own_id}
-use Rattle.device.specs.Answers.{reply_unless, error_unless, state_refusal, room_refusal, call_refusal, answered_by}
+use Rattle.device.specs.Answers.{replied, reply_unless, error_unless, state_refusal, room_refusal, call_refusal, answered_by}
 use Rattle.device.specs.Split.{answer_of_both}
 use Rattle.device_status.specs.Status.{silence}
 use Rattle.device_instructions.specs.Registered.{kept_by}
@@ -18,9 +19,8 @@ use Rattle.answers.specs.Refusals.{or_else, unless_refused}
 use Rattle.answers.specs.declared.Refusal.{Refusal}
 use Rattle.answers.specs.declared.Refusal.TheVariants.{NotATable, BadTableId, BadRegistered, ShortReply}
 use Rattle.answers.proofs.Laws.{passed}
-use Rattle.device.specs.declared.Replied.{Replied}
-use Rattle.device.specs.declared.Replied.TheVariants.{Sent, Refused}
 use Rattle.device_instructions.specs.declared.RegisteredWrite.{RegisteredWrite}
+use Rattle.device.specs.declared.Sent.{Sent}
 
 module _ (table : List ℕ) (w : RegisteredWrite) where
   pub refuses_table : (length table ≡ table_size → ⊥) → state_refusal table w ≡ Some NotATable
@@ -98,7 +98,7 @@ module _ (table : List ℕ) (w : RegisteredWrite) (out : List ℕ) where
 -- ---- what the test of the caller's faults has answered
 
 -- a refusal: it is that of every call, which leaves everything
-pub record Refuses (refusal : Option Refusal) (r : Replied) : Type 0 where
+pub record Refuses (refusal : Option Refusal) (r : Result Sent Refusal) : Type 0 where
   pub answers : (reply : Reply) → r ≡ answered_by refusal reply
   pub before : (later : Option Refusal) → r ≡ answered_by (or_else refusal later) silence
   pub leaves : (old new : List ℕ) → old ≡ unless_refused refusal old new
@@ -108,7 +108,7 @@ pub record Refuses (refusal : Option Refusal) (r : Replied) : Type 0 where
   pub errs : (error : ℕ) → 0 ≡ error_unless refusal error
   pub stops : (reply : Reply) (out : List ℕ) → r ≡ answer_of_both refusal reply out
 
-pub some_refused : (r : Replied) (refusal : Refusal) → r ≡ Refused refusal → Refuses (Some refusal) r
+pub some_refused : (r : Result Sent Refusal) (refusal : Refusal) → r ≡ Err refusal → Refuses (Some refusal) r
 some_refused r refusal e =
     record {
       answers = λ reply. e;
@@ -120,27 +120,27 @@ some_refused r refusal e =
       stops = λ reply out. e;
     }
 
-pub fault_answered : (refusal : Option Refusal) (r : Replied) → r ≡ answered_by refusal silence → (stated : Refusal) → r ≡ Refused stated → Refuses refusal r
+pub fault_answered : (refusal : Option Refusal) (r : Result Sent Refusal) → r ≡ answered_by refusal silence → (stated : Refusal) → r ≡ Err stated → Refuses refusal r
 fault_answered (Some refusal) r e stated i = some_refused r refusal e
 fault_answered None r e stated i = let z : ◌≡◌ {A = ℕ} 0 1 = cc in absurd (omega arith)
 
 -- silence: nothing is refused
-sent_none : (refusal : Option Refusal) (n slot : ℕ) → Sent n slot ≡ answered_by refusal silence → refusal ≡ None
+sent_none : (refusal : Option Refusal) (n slot : ℕ) → replied n slot ≡ answered_by refusal silence → refusal ≡ None
 sent_none None n slot e = refl
 sent_none (Some refusal) n slot e = let z : ◌≡◌ {A = ℕ} 0 1 = cc in absurd (omega arith)
 
-module _ (refusal : Option Refusal) (r : Replied) (e : r ≡ answered_by refusal silence) (n slot : ℕ) (is : r ≡ Sent n slot) where
+module _ (refusal : Option Refusal) (r : Result Sent Refusal) (e : r ≡ answered_by refusal silence) (n slot : ℕ) (is : r ≡ replied n slot) where
   pub no_fault : refusal ≡ None
   no_fault = sent_none refusal n slot (sym is ∙ e)
 
 -- a fault in table or registered write is one of the call
-pub state_refused : (table : List ℕ) (w : RegisteredWrite) (out : List ℕ) (r : Replied)
+pub state_refused : (table : List ℕ) (w : RegisteredWrite) (out : List ℕ) (r : Result Sent Refusal)
     → Refuses (state_refusal table w) r → r ≡ answered_by (call_refusal table w out) silence
 unfolding call_refusal
 state_refused table w out r q = q.before (room_refusal out)
 
 -- a buffer that is too short: whatever is told, the call is refused
-pub short_refused : (table : List ℕ) (w : RegisteredWrite) (out : List ℕ) → length out < 32 → (r : Replied)
+pub short_refused : (table : List ℕ) (w : RegisteredWrite) (out : List ℕ) → length out < 32 → (r : Result Sent Refusal)
     → r ≡ answered_by (call_refusal table w out) silence → Refuses (call_refusal table w out) r
 unfolding call_refusal
 short_refused table w out l r e = by_state (state_refusal table w) refl

@@ -1,4 +1,5 @@
 -- The two calls, one straight after the other, are the one call.
+use Rattle.std.specs.Prelude.{Err}
 use Rattle.std.specs.Prelude.{None, Option, Some}
 use mathlib.Core.Path.{◌≡◌, refl, ◌∙◌}
 use mathlib.Core.Bool.{Bool, true, false}
@@ -18,7 +19,6 @@ use Rattle.device.proofs.Calls.{state_accepted, then_room, refuses_room, accepts
 use Rattle.device.proofs.Bounds.{sendable}
 use Rattle.device_instructions.specs.declared.RegisteredWrite.{RegisteredWrite}
 use Rattle.device_dispatch.specs.declared.Heard.{Heard}
-use Rattle.device.specs.declared.Replied.TheVariants.{Refused}
 
 module _ (table : List ℕ) (w : RegisteredWrite) (heard : Heard) (id : ℕ) (body out : List ℕ) where
   -- the same, and that the first call refuses what the one call refuses
@@ -51,7 +51,7 @@ module _ (table : List ℕ) (w : RegisteredWrite) (heard : Heard) (id : ℕ) (bo
   pub with_room : 32 ≤ length out → Same
   with_room room = by_state (state_refusal table w) refl (λ f. carried f room)
 
-  pub unless_short : ¬ (call_answer table w heard id body out ≡ Refused ShortReply) → Same
+  pub unless_short : ¬ (call_answer table w heard id body out ≡ Err ShortReply) → Same
   unless_short n = by_state (state_refusal table w) refl (λ f. by_room f (leb 32 (length out)) refl)
     where
       by_room : state_refusal table w ≡ None → (b : Bool) → leb 32 (length out) ≡ b → Same

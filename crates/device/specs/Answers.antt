@@ -12,9 +12,8 @@ use Rattle.device.specs.Device.{carry_out}
 use Rattle.device_instructions.specs.declared.RegisteredWrite.{RegisteredWrite}
 use Rattle.device_status.specs.declared.Reply.{Reply}
 use Rattle.device_dispatch.specs.declared.Heard.{Heard}
-use Rattle.device.specs.declared.Replied.{Replied}
-use Rattle.device.specs.declared.Replied.TheVariants.{Sent, Refused}
 use Rattle.device_status.specs.Status.{silence, reply_bytes}
+use Rattle.device.specs.declared.Sent.{Sent}
 
 -- of table and registered write [N5-N7]
 unfoldable pub state_refusal : List ℕ → RegisteredWrite → Option Refusal
@@ -64,22 +63,26 @@ room_refusal out = first_failing ((leb 32 (length out), ShortReply) ∷ [])
 unfoldable pub call_refusal : List ℕ → RegisteredWrite → List ℕ → Option Refusal
 call_refusal table w out = or_else (state_refusal table w) (room_refusal out)
 
+-- a status of n bytes, 0 for silence, and its reply slot
+abbrev pub replied : ℕ → ℕ → Result Sent Refusal
+replied n slot = Ok (record { count = n; slot = slot })
+
 -- what the function that sends answers, with the reply slot [D35]
-abbrev pub with_slot : Result ℕ Refusal → ℕ → Replied
-with_slot (Ok n) slot = Sent n slot
-with_slot (Err refusal) slot = Refused refusal
+abbrev pub with_slot : Result ℕ Refusal → ℕ → Result Sent Refusal
+with_slot (Ok n) slot = replied n slot
+with_slot (Err refusal) slot = Err refusal
 
 -- the status's byte count and the reply slot, both 0 when silent; or a refusal [D35]
-abbrev pub answered_by : Option Refusal → Reply → Replied
-answered_by None reply = Sent (length (reply_bytes reply)) reply.slot
-answered_by (Some refusal) reply = Refused refusal
+abbrev pub answered_by : Option Refusal → Reply → Result Sent Refusal
+answered_by None reply = replied (length (reply_bytes reply)) reply.slot
+answered_by (Some refusal) reply = Err refusal
 
 -- a refusal of the first call, or none: nothing is sent by it [D51 N5-N7]
-abbrev pub carried_answer : List ℕ → RegisteredWrite → Replied
+abbrev pub carried_answer : List ℕ → RegisteredWrite → Result Sent Refusal
 carried_answer table w = answered_by (state_refusal table w) silence
 
 module _ (table : List ℕ) (w : RegisteredWrite) (heard : Heard) (id : ℕ) (body out : List ℕ) where
-  abbrev pub call_answer : Replied
+  abbrev pub call_answer : Result Sent Refusal
   call_answer = answered_by (call_refusal table w out) (carry_out table w heard id body).reply
 
   abbrev pub call_table : List ℕ

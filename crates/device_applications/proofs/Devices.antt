@@ -1,3 +1,4 @@
+use Rattle.std.specs.Prelude.{Err, Result}
 use Rattle.std.specs.Prelude.{None, Some}
 use mathlib.Core.Path.{◌≡◌, refl, ap, subst, ◌∙◌}
 use mathlib.Core.Bool.{Bool, true, ◌&&◌}
@@ -38,15 +39,14 @@ use Rattle.device_instructions.specs.declared.RegisteredWrite.{RegisteredWrite}
 use Rattle.device_dispatch.specs.Reactions.{heard_instruction}
 use Rattle.device_dispatch.specs.declared.Heard.TheVariants.{Packet, BadChecksum}
 use Rattle.device.specs.Device.{executed}
-use Rattle.device.specs.Answers.{state_refusal, room_refusal, call_refusal}
+use Rattle.device.specs.Answers.{replied, state_refusal, room_refusal, call_refusal}
 use Rattle.device_packet.specs.Exchange.{id_heard}
-use Rattle.device.specs.declared.Replied.{Replied}
-use Rattle.device.specs.declared.Replied.TheVariants.{Sent, Refused}
 use Rattle.board.specs.Board.{lent_refusal, outcome}
 use Rattle.device_calls.specs.Calls.{State, DeviceCall, fresh, measurement, device, exchange, carry, carry_packet, on_board, lend, state_of, after_all, refusal_in}
 use Rattle.cases.specs.Exchanges.{goal_at_512, registered_table, goal_too_large, goal_registered, ping_wrong_checksum}
 use Rattle.cases.specs.Cases.{ping_to_all, write_goal}
 use Rattle.device_applications.specs.Devices.{room, short, body_room, longest, behind_fresh, each_kind, start, none_start, ended, stored, on_stored, ended_stored, too_many, StaysAcceptedApplied, restored, GoalWithinLimitsApplied, write_too_large, other_limits, alerted, marked, sync_limits, cut, limits_registered, limited, DevicePromisesApplied, SplitApplied, seven_bytes, six_bytes, write_marked, badly_stuffed, to253, longest_packet, ExchangePromisesApplied}
+use Rattle.device.specs.declared.Sent.{Sent}
 
 -- every lent count is at most 8, by a test
 abbrev lent_fits : DeviceCall → Bool
@@ -119,7 +119,7 @@ goal_within_limits_applied t = (
 )
 
 -- contradictory answers
-not_refused : (n slot : ℕ) (refusal : Refusal) → ¬ (◌≡◌ {A = Replied} (Sent n slot) (Refused refusal))
+not_refused : (n slot : ℕ) (refusal : Refusal) → ¬ (◌≡◌ {A = Result Sent Refusal} (replied n slot) (Err refusal))
 not_refused n slot refusal e = let z : ◌≡◌ {A = ℕ} 0 1 = cc in absurd (omega arith)
 
 other_limits_lem : ¬ LimitsOf other_limits goal_registered
@@ -221,7 +221,7 @@ wrong_id : ¬ WellFormed to253
 wrong_id w = both_ways (good_id (id_of to253)) w.identified refl
 
 -- other refusals
-not_short : ¬ (◌≡◌ {A = Replied} (Refused BadRegistered) (Refused ShortReply))
+not_short : ¬ (◌≡◌ {A = Result Sent Refusal} (Err BadRegistered) (Err ShortReply))
 not_short e = let z : ◌≡◌ {A = ℕ} 23 24 = cc in absurd (omega arith)
 
 pub split_applied : SplitApplied

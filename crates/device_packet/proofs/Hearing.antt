@@ -1,4 +1,5 @@
 -- What the steps of the call come to: the ID, the refusals of removal, and what the device is given.
+use Rattle.std.specs.Prelude.{Result}
 use Rattle.std.specs.Prelude.{None, Option, Some}
 use mathlib.Core.Path.{◌≡◌, refl, sym, ap, ap₂, subst, ◌∙◌}
 use mathlib.Core.Bool.{Bool, true, false, cond}
@@ -36,9 +37,9 @@ use Rattle.device_instructions.specs.declared.RegisteredWrite.{RegisteredWrite}
 use Rattle.device_status.specs.declared.Reply.{Reply}
 use Rattle.device.specs.Answers.{answered_by, reply_unless}
 use Rattle.device_status.specs.Status.{silence}
-use Rattle.device.specs.declared.Replied.{Replied}
 use Rattle.device.proofs.Calls.{Refuses}
 use Rattle.device_packet.specs.Exchange.{id_by, id_heard, Message, heard_of, refused_or}
+use Rattle.device.specs.declared.Sent.{Sent}
 
 -- ---- the ID
 
@@ -157,7 +158,7 @@ module _ (packet body : List ℕ) where
 
 -- ---- the device refuses: what the call refuses first, and that everything stays
 
-module _ (b c : Option Refusal) (r : Replied) (q : Refuses c r) where
+module _ (b c : Option Refusal) (r : Result Sent Refusal) (q : Refuses c r) where
   pub answers_first : (reply : Reply) → refused_or b r ≡ refused_or b (answered_by c reply)
   answers_first reply = ap (refused_or b) (q.answers reply)
 

@@ -1,16 +1,16 @@
 -- The two calls on a packet, one straight after the other, are the one call.
-use Rattle.std.specs.Prelude.{None, Option, Some}
+use Rattle.std.specs.Prelude.{Err, None, Option, Some}
 use mathlib.Core.Path.{◌≡◌, refl, ap}
 use mathlib.Core.List.{List}
 use Prim.Native.Nat.{ℕ, ◌≤◌}
-use native.Mathlib.Omega.{arith}
 use lib.ListN.{length}
 use Rattle.answers.specs.Refusals.{unless_refused}
 use Rattle.answers.specs.declared.Refusal.{Refusal}
 use Rattle.lists.specs.Write.{overwritten}
 use Rattle.stuffing.specs.Answers.{removal_refusal}
 use Rattle.packet.specs.Packet.{body_of}
-use Rattle.device.specs.Answers.{with_slot}
+use Rattle.device.specs.Answers.{replied, with_slot, answered_by}
+use Rattle.device_status.specs.Status.{silence}
 use Rattle.device_status.specs.Sending.{status_answer, status_out}
 use Rattle.device.specs.Split.{answer_of_both, out_of_both}
 use Rattle.device_status.specs.declared.Reply.{Reply}
@@ -54,8 +54,14 @@ module _ (table : List ℕ) (w : RegisteredWrite) (packet body out : List ℕ) w
       by_removal (removal_refusal (body_of packet) body) refl
       (λ e. device-with-room table w Packet (heard_of packet).id (heard_of packet).body out room)
 
--- the first call is not refused: the second is made
-pub goes_on : (refusal : Option Refusal) → refusal ≡ None → (reply : Reply) (out : List ℕ)
+-- the first call is refused, and the second not made
+pub stopped : (refusal : Option Refusal) (r : Refusal) → Err r ≡ answered_by refusal silence → (reply : Reply) (out : List ℕ)
+    → (Err r ≡ answer_of_both refusal reply out) × (out ≡ out_of_both refusal reply out)
+stopped None r e reply out = absurd cc
+stopped (Some refusal) r e reply out = (e, refl)
+
+-- it is not refused: the second is made
+pub goes_on : (refusal : Option Refusal) → replied 0 0 ≡ answered_by refusal silence → (reply : Reply) (out : List ℕ)
     → (with_slot (status_answer reply out) reply.slot ≡ answer_of_both refusal reply out) × (status_out reply out ≡ out_of_both refusal reply out)
 goes_on None e reply out = (refl, refl)
-goes_on (Some refusal) e reply out = let z : ◌≡◌ {A = ℕ} 0 1 = cc in absurd (omega arith)
+goes_on (Some refusal) e reply out = absurd cc

@@ -1,4 +1,6 @@
 -- The reply slot of the device, and the calls on a board.
+use Rattle.std.specs.Prelude.{Ok}
+use Rattle.std.specs.Prelude.{Err, Result}
 use Rattle.std.specs.Prelude.{None, Option, Some}
 use mathlib.Core.Path.{◌≡◌, refl}
 use mathlib.Core.List.{List, []}
@@ -21,9 +23,7 @@ use Rattle.reader_records.specs.Records.{held_in}
 use Rattle.device_instructions.specs.declared.RegisteredWrite.{RegisteredWrite}
 use Rattle.device_dispatch.specs.declared.Heard.{Heard}
 use Rattle.device_dispatch.specs.declared.Heard.TheVariants.{Packet, BadChecksum}
-use Rattle.device.specs.declared.Replied.{Replied}
-use Rattle.device.specs.declared.Replied.TheVariants.{Sent, Refused}
-use Rattle.device.specs.Answers.{carried_reply, call_answer, reply_unless, state_refusal}
+use Rattle.device.specs.Answers.{replied, carried_reply, call_answer, reply_unless, state_refusal}
 use Rattle.device.proofs.Written.{status_written, slot_within}
 use Rattle.device_packet.specs.Exchange.{heard_of, refused_or}
 use Rattle.board.specs.Board.{Board, board_refusal, carried_if_any, outcome, reader_left}
@@ -33,12 +33,13 @@ use Rattle.numbers.specs.Exported.{device_numbers}
 use Rattle.fits.specs.Fits.{AtMost, DeviceFits, BoardFits}
 use Rattle.fits.proofs.Counts.{count_at_most, refused_at_most}
 use Rattle.fits.proofs.Steps.{takes, packet_fits}
+use Rattle.device.specs.declared.Sent.{Sent}
 
 -- ---- the device
 
-by_sent : (kept : RegisteredWrite) (a : Replied) → ((n slot : ℕ) → a ≡ Sent n slot → slot ≤ 252) → (device_numbers a kept).slot ≤ 252
-by_sent kept (Sent n slot) h = h n slot refl
-by_sent kept (Refused refusal) h = omega arith
+by_sent : (kept : RegisteredWrite) (a : Result Sent Refusal) → ((n slot : ℕ) → a ≡ replied n slot → slot ≤ 252) → (device_numbers a kept).slot ≤ 252
+by_sent kept (Ok sent) h = h sent.count sent.slot refl
+by_sent kept (Err refusal) h = omega arith
 
 module _ (table : List ℕ) (w : RegisteredWrite) where
   call_slot : (kept : RegisteredWrite) (heard : Heard) (id : ℕ) (body out : List ℕ) → (device_numbers (call_answer table w heard id body out) kept).slot ≤ 252
@@ -56,11 +57,14 @@ module _ (table : List ℕ) (w : RegisteredWrite) where
     reply_slot (Some refusal) = omega arith
 
 -- a status has 21 bytes at the most, and silence none
-sent_count : (kept : RegisteredWrite) (most : ℕ) (a : Replied) → ((n slot : ℕ) → a ≡ Sent n slot → 0 < n → n ≤ most)
+sent_count : (kept : RegisteredWrite) (most : ℕ) (a : Result Sent Refusal) → ((n slot : ℕ) → a ≡ replied n slot → 0 < n → n ≤ most)
     → AtMost most (device_numbers a kept).count
-sent_count kept most (Sent zero slot) h = count_at_most most 0 (omega arith)
-sent_count kept most (Sent (suc n) slot) h = count_at_most most (suc n) (h (suc n) slot refl (omega arith))
-sent_count kept most (Refused refusal) h = refused_at_most most refusal
+sent_count kept most (Ok sent) h = by_count sent.count (h sent.count sent.slot refl)
+  where
+    by_count : (n : ℕ) → (0 < n → n ≤ most) → AtMost most (exported (Ok n))
+    by_count zero g = count_at_most most 0 (omega arith)
+    by_count (suc n) g = count_at_most most (suc n) (g (omega arith))
+sent_count kept most (Err refusal) h = refused_at_most most refusal
 
 module _ (table : List ℕ) (w kept : RegisteredWrite) (most : ℕ) (m : 21 ≤ most) where
   call_count : (heard : Heard) (id : ℕ) (body out : List ℕ) → AtMost most (device_numbers (call_answer table w heard id body out) kept).count

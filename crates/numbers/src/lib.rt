@@ -3,17 +3,19 @@
 #![tactic(auto)]
 
 ghost use Rattle.std.specs.Prelude.{◌≡◌};
-ghost use Rattle.numbers.specs.Exported.{step_numbers, next_numbers, device_numbers, refusal_number, carried_numbers, found_numbers, salvaged_numbers, tested_number};
+ghost use Rattle.std.specs.Result.{result_unwrap_or};
+ghost use Rattle.device_status.specs.Status.{silence};
+ghost use Rattle.device.specs.Results.{nothing_sent};
+ghost use Rattle.numbers.specs.Exported.{step_numbers, next_numbers, device_numbers, carried_numbers, found_numbers, salvaged_numbers, tested_number};
 
 use answers::Refusal;
-use device::{CarriedOut, Replied, Response};
+use device::Sent;
 use device_instructions::RegisteredWrite;
-use device_packet::CarriedPacket;
 use device_status::Reply;
 use line_log::Place;
 use log_salvage::Figures;
-use reader_core::{Step, StepEvent};
-use reader_plain::Event;
+use reader_core::{Event, Step};
+use reader_plain::Event as SegmentEvent;
 
 // What a feeding or gap call returns. kind 0: no event, from a gap call: nothing is left; 1: a packet of `count` bytes; 2: a bad
 // checksum; else the number of a refusal. `id` is that of the packet or of the bad checksum.
@@ -82,71 +84,73 @@ pub struct SalvagedNumbers {
 }
 
 // The packet's bytes are in the caller's buffer.
-pub fn step(answer: Step) -> StepNumbers
+pub fn step(answer: Result<Step, Refusal>) -> StepNumbers
     ensures { result ≡ step_numbers answer }
 {
-    let taken = answer.taken;
-    let event = answer.event;
-    match event {
-        StepEvent::Packet { id, size } => StepNumbers {
+    let step = match answer {
+        Ok(step) => step,
+        Err(refusal) => return StepNumbers {
+            taken: 0,
+            count: 0,
+            kind: u8::from(refusal),
+            id: 0,
+        },
+    };
+    let taken = step.taken;
+    match step.event {
+        Some(Event::Packet { id, size }) => StepNumbers {
             taken,
             count: size,
             kind: 1,
             id,
         },
-        StepEvent::BadChecksum { id } => StepNumbers {
+        Some(Event::BadChecksum { id }) => StepNumbers {
             taken,
             count: 0,
             kind: 2,
             id,
         },
-        StepEvent::Silent => StepNumbers {
+        None => StepNumbers {
             taken,
             count: 0,
             kind: 0,
-            id: 0,
-        },
-        StepEvent::Refused(refusal) => StepNumbers {
-            taken,
-            count: 0,
-            kind: u8::from(refusal),
             id: 0,
         },
     }
 }
 
 // The packet's bytes are in the caller's segment.
-pub fn next(answer: Option<Event>) -> EventNumbers
+pub fn next(answer: Option<SegmentEvent>) -> EventNumbers
     ensures { result ≡ next_numbers answer }
 {
-    match answer {
-        Some(
-            Event::Packet {
-                offset,
-                count,
-                next,
-                id,
-            },
-        ) => EventNumbers {
+    let Some(event) = answer else {
+        return EventNumbers {
+            offset: 0,
+            count: 0,
+            next: 0,
+            kind: 0,
+            id: 0,
+        };
+    };
+    match event {
+        SegmentEvent::Packet {
+            offset,
+            count,
+            next,
+            id,
+        } => EventNumbers {
             offset,
             count,
             next,
             kind: 1,
             id,
         },
-        Some(Event::BadChecksum { offset, next, id }) => EventNumbers {
+        SegmentEvent::BadChecksum { offset, next, id } => EventNumbers {
             offset,
             count: 0,
             next,
             kind: 2,
             id,
-        },
-        None => EventNumbers {
-            offset: 0,
-            count: 0,
-            next: 0,
-            kind: 0,
-            id: 0,
         },
     }
 }
@@ -166,18 +170,17 @@ fn moved(registered: RegisteredWrite) -> RegisteredWrite
     }
 }
 
-pub fn response(answer: Response) -> DeviceNumbers
-    ensures { result ≡ device_numbers answer.replied answer.registered }
+pub fn response(answer: Result<Sent, Refusal>, kept: RegisteredWrite) -> DeviceNumbers
+    ensures { result ≡ device_numbers answer kept }
 {
-    let registered = moved(answer.registered);
-    let replied = answer.replied;
-    match replied {
-        Replied::Sent(n, slot) => DeviceNumbers {
-            count: answers::exported_count(n),
-            slot,
+    let registered = moved(kept);
+    match answer {
+        Ok(sent) => DeviceNumbers {
+            count: answers::exported_count(sent.count),
+            slot: sent.slot,
             registered,
         },
-        Replied::Refused(refusal) => DeviceNumbers {
+        Err(refusal) => DeviceNumbers {
             count: answers::exported_refusal(refusal),
             slot: 0,
             registered,
@@ -185,39 +188,21 @@ pub fn response(answer: Response) -> DeviceNumbers
     }
 }
 
-// The refusal alone: 0 where nothing is refused.
-fn replied_refusal(replied: Replied) -> i64
-    ensures { result ≡ refusal_number replied }
+// The reply that waits, which is silence beside a refusal.
+pub fn carried(answer: Result<Reply, Refusal>, registered: RegisteredWrite) -> CarriedNumbers
+    ensures { result ≡ carried_numbers (nothing_sent answer) (result_unwrap_or answer silence) registered }
 {
-    match replied {
-        Replied::Sent(_, _) => 0,
-        Replied::Refused(refusal) => answers::exported_refusal(refusal),
-    }
-}
-
-pub fn carried(answer: CarriedOut) -> CarriedNumbers
-    ensures { result ≡ carried_numbers answer.refused answer.reply answer.registered }
-{
-    let refused = answer.refused;
-    let reply = answer.reply;
-    let registered = answer.registered;
-    CarriedNumbers {
-        refusal: replied_refusal(refused),
-        reply,
-        registered,
-    }
-}
-
-pub fn carried_packet(answer: CarriedPacket) -> CarriedNumbers
-    ensures { result ≡ carried_numbers answer.refused answer.reply answer.registered }
-{
-    let refused = answer.refused;
-    let reply = answer.reply;
-    let registered = answer.registered;
-    CarriedNumbers {
-        refusal: replied_refusal(refused),
-        reply,
-        registered,
+    match answer {
+        Ok(reply) => CarriedNumbers {
+            refusal: 0,
+            reply,
+            registered,
+        },
+        Err(refusal) => CarriedNumbers {
+            refusal: answers::exported_refusal(refusal),
+            reply: device_status::silence(),
+            registered,
+        },
     }
 }
 

@@ -1,28 +1,24 @@
 -- Laws of the wanted goals.
 use Rattle.std.specs.Prelude.{None}
-use mathlib.Core.Path.{◌≡◌, refl}
-use mathlib.Core.Bool.{true, ◌&&◌}
+use mathlib.Core.Path.{◌≡◌, refl, ap}
+use mathlib.Core.Bool.{Bool, true, ◌&&◌}
 use mathlib.Core.List.{List, [], ◌∷◌}
-use Prim.Native.Nat.{ℕ, zero, suc, ◌≤◌, ◌<◌}
+use Prim.Native.Nat.{ℕ, zero, suc, ◌<◌}
 use native.Mathlib.Omega.{arith}
 use lib.Dec.{eqb}
 use lib.IntN.{ℤ}
-use lib.ListN.{length, drop, get_or, drop_of_length-le}
-use lib.Seq.{drop-cons}
+use lib.ListN.{length, get_or}
 use borrow.Author.Tests.{eqb-true}
 use Rattle.answers.specs.declared.Refusal.TheVariants.{NotGoals, BadGoal}
 use Rattle.answers.proofs.Laws.{passed}
 use Rattle.lists.proofs.Bools.{and_left, and_right}
+use Rattle.std.specs.List.{list_all}
 use Rattle.plan.specs.Goals.{unwanted, goal_within, goals_within, goals_refusal}
 
-pub within_turn : (goals : List ℤ) (i : ℕ) (d : ℤ) → i < length goals
-    → goals_within (drop i goals) ≡ (goal_within (get_or goals i d) && goals_within (drop (suc i) goals))
+pub within_all : (goals : List ℤ) → list_all goal_within goals ≡ goals_within goals
 unfolding goals_within
-within_turn goals i d h = rw (drop-cons goals i d h)
-
-pub within_end : (goals : List ℤ) (i : ℕ) → length goals ≤ i → goals_within (drop i goals) ≡ true
-unfolding goals_within
-within_end goals i h = rw (drop_of_length-le goals h)
+within_all [] = refl
+within_all (g ∷ goals) = ap (λ (b : Bool). goal_within g && b) (within_all goals)
 
 -- an ID that the list has
 pub goal_there : (goals : List ℤ) (id : ℕ) (d e : ℤ) → id < length goals → get_or goals id d ≡ get_or goals id e

@@ -1,22 +1,19 @@
 -- One ID: what its entry says, and what has stood of it afterwards.
-use mathlib.Core.Path.{◌≡◌, refl, sym, ap, subst, ◌∙◌}
+use mathlib.Core.Path.{◌≡◌, refl, sym, ap, subst}
 use mathlib.Core.Bool.{Bool, true, false, cond, ◌&&◌}
 use mathlib.Core.List.{List, [], ◌∷◌, ◌++◌}
 use mathlib.Core.Logic.{⊎_elim}
-use Prim.Native.Nat.{ℕ, ◌+◌, ◌<◌, ◌≤◌, ◌-◌, ◌^◌}
+use Prim.Native.Nat.{ℕ, ◌+◌, ◌<◌}
 use native.Mathlib.Nat.{le_of_suc-le-suc, eq-or-lt_of_le}
 use native.Mathlib.Numerals.{add-one}
 use native.Mathlib.Omega.{arith}
-use lib.Dec.{eqb, ltb}
-use lib.IntN.{ℤ, pos, negsuc, pos-ne-negsuc}
-use lib.ListN.{length, take, get_or}
-use lib.Seq.{get_or-take}
-use lib.Signed.{le_z, lt_z, mag}
-use borrow.Author.Tests.{eqb-true, eqb-false, eq-eqb, ne_eqb, leb-false, ltb-true, lt-ltb}
+use lib.Dec.{eqb}
+use lib.IntN.{ℤ, pos, negsuc}
+use lib.ListN.{length, get_or}
+use lib.Signed.{le_z}
+use borrow.Author.Tests.{eqb-true, eqb-false, eq-eqb, ne_eqb, leb-false}
 use Rattle.lists.proofs.Bools.{both_ways}
-use Rattle.table_items.specs.Items.{signed}
 use Rattle.plan.specs.Goals.{unwanted, goal_of, wanted}
-use Rattle.plan.specs.Plan.{plan_head}
 use Rattle.plan.proofs.Wanted.{goal_there}
 use Rattle.plan_check.specs.Checking.{fits, past_by, past}
 
@@ -24,36 +21,6 @@ use Rattle.plan_check.specs.Checking.{fits, past_by, past}
 pub below_next : (P : ℕ → Type 0) (k : ℕ) → ((id : ℕ) → id < k → P id) → P k → (id : ℕ) → id < k + 1 → P id
 below_next P k f here id h =
     ⊎_elim (λ e. subst P (sym e) here) (λ l. f id l) (eq-or-lt_of_le (le_of_suc-le-suc (rw add-one at h)))
-
--- a number that is read as a goal is the goal's
-pub signed_pos : (u n : ℕ) → signed u ≡ pos n → u ≡ n
-signed_pos u n e = by_size (ltb u (2 ^ 31)) refl
-  where
-    by_size : (b : Bool) → ltb u (2 ^ 31) ≡ b → u ≡ n
-    by_size true t = cc
-    by_size false t = absurd (pos-ne-negsuc n (2 ^ 32 - 1 - u) (sym (rw t at e)))
-
--- and a goal is read as itself
-pub pos_signed : (n : ℕ) → n < 2 ^ 31 → signed n ≡ pos n
-pos_signed n h = rw (lt-ltb n (2 ^ 31) h)
-
--- the tests of an entry, in the order of the code
-module _ (stood u : ℕ) where
-  pub other_unwanted : (g : ℤ) → lt_z g (pos 0) ≡ true → fits g stood u ≡ false
-  other_unwanted (pos n) e = absurd (omega (arith, ltb-true n 0 e))
-  other_unwanted (negsuc n) e = refl
-
-  pub other_again : (g : ℤ) → ¬ (stood ≡ 0) → fits g stood u ≡ false
-  other_again (pos n) e = rw (ne_eqb stood 0 e)
-  other_again (negsuc n) e = refl
-
-  pub other_goal : (g : ℤ) → stood ≡ 0 → mag g < 2 ^ 31 → ¬ (signed u ≡ g) → fits g stood u ≡ false
-  other_goal (pos n) s h e = rw (eq-eqb stood 0 s, ne_eqb u n (λ d. e (ap signed d ∙ pos_signed n h)))
-  other_goal (negsuc n) s h e = refl
-
-  pub new_goal : (g : ℤ) → lt_z g (pos 0) ≡ false → stood ≡ 0 → signed u ≡ g → fits g stood u ≡ true
-  new_goal (pos n) l s e = rw (eq-eqb stood 0 s, eq-eqb u n (signed_pos u n e))
-  new_goal (negsuc n) l s e = let z : ◌≡◌ {A = ℕ} 0 1 = cc in absurd (omega arith)
 
 -- ---- what an entry says
 
@@ -108,16 +75,3 @@ module _ (goals : List ℤ) (stood : List ℕ) (id : ℕ) (h : id < length goals
       by_sign : (g : ℤ) → le_z (pos 0) g ≡ true → ¬ (past_by g (get_or stood id 0) ≡ goal_of g)
       by_sign (pos n) e d = absurd (omega (arith, ap length (sym (rw (eq-eqb (get_or stood id 0) 0 m) at d))))
       by_sign (negsuc n) e d = let z : ◌≡◌ {A = ℕ} 0 1 = cc in absurd (omega arith)
-
--- ---- the first five bytes of a body
-
-pub five : (b : List ℕ) → 5 ≤ length b → take 5 b ≡ get_or b 0 0 ∷ get_or b 1 0 ∷ get_or b 2 0 ∷ get_or b 3 0 ∷ get_or b 4 0 ∷ []
-five [] h = absurd (omega arith)
-five (a ∷ []) h = absurd (omega arith)
-five (a ∷ b ∷ []) h = absurd (omega arith)
-five (a ∷ b ∷ c ∷ []) h = absurd (omega arith)
-five (a ∷ b ∷ c ∷ d ∷ []) h = absurd (omega arith)
-five (a ∷ b ∷ c ∷ d ∷ e ∷ l) h = refl
-
-pub head_at : (b : List ℕ) (i : ℕ) → i < 5 → take 5 b ≡ plan_head → get_or b i 0 ≡ get_or plan_head i 0
-head_at b i h e = sym (get_or-take 5 b i 0 h) ∙ ap (λ (l : List ℕ). get_or l i 0) e

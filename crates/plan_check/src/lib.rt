@@ -33,16 +33,7 @@ fn entry_fits(params: &[u8], at: usize, goal: i32, stood: u8) -> bool
     requires { at + 5 ≤ length params.now }
     ensures { result ≡ fits goal stood (number_at params.now (at + 1) 4) }
 {
-    if goal < 0 {
-        return false;
-    }
-    if stood != 0 {
-        return false;
-    }
-    if goal_at(params, at + 1) != goal {
-        return false;
-    }
-    true
+    goal >= 0 && stood == 0 && goal_at(params, at + 1) == goal
 }
 
 // Marks the ID of each entry of a list that devices carry out; false if there is one that may not stand.
@@ -81,25 +72,13 @@ fn mark_entries(goals: &[i32], params: &[u8], stood: &mut [u8]) -> bool
 fn has_head(body: &[u8]) -> bool
     ensures { SaysWhether result (take 5 body.now ≡ plan_head) }
 {
-    if body.len() < 5 {
-        return false;
-    }
-    if body[0] != Instruction::SyncWrite as u8 {
-        return false;
-    }
-    if body[1] != plan::ADDRESS {
-        return false;
-    }
-    if body[2] != 0 {
-        return false;
-    }
-    if body[3] != plan::LENGTH {
-        return false;
-    }
-    if body[4] != 0 {
-        return false;
-    }
-    true
+    body.starts_with(&[
+        Instruction::SyncWrite as u8,
+        plan::ADDRESS,
+        0,
+        plan::LENGTH,
+        0,
+    ])
 }
 
 // Marks the IDs of an unstuffed body; false if it is not one that a plan may have here.

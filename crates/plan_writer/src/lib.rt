@@ -1,7 +1,8 @@
 // Our planner: writes the wanted goals as Sync Writes, IDs rising, as many devices to a packet as fit.
 #![tactic(auto)]
 
-ghost use Rattle.std.specs.Prelude.{◌≡◌, [], ◌∷◌, ◌++◌, ◌+◌, ◌*◌, ◌/◌, ◌≤◌, ◌<◌, length, take, drop};
+ghost use Rattle.std.specs.Prelude.{◌≡◌, [], ◌∷◌, ◌++◌, ◌+◌, ◌*◌, ◌/◌, ◌≤◌, ◌<◌, length, take, drop, filter, pos};
+ghost use Rattle.std.specs.Int.Signed.{le_z};
 ghost use Rattle.lists.specs.Write.{overwritten, placed};
 ghost use Rattle.table_items.specs.Items.{unsigned};
 ghost use Rattle.plan.specs.Planner.{entries_from, entry_bytes, list_bytes, goal_packet, packets_of, plan_of, plan_answer, plan_out};
@@ -17,18 +18,11 @@ const MOST: usize = 203;
 
 const MOST_PARAMS: usize = 1019;
 
+// How many goals are wanted.
 fn count_wanted(goals: &[i32]) -> usize
-    ensures { result ≡ length (entries_from goals.now 0) }
+    ensures { result ≡ length (filter (λ goal. le_z (pos 0) goal) goals.now) }
 {
-    let mut n = 0;
-    let mut id = 0;
-    while id < goals.len() {
-        if 0 <= goals[id] {
-            n += 1;
-        }
-        id += 1;
-    }
-    n
+    goals.iter().filter(|goal| **goal >= 0).count()
 }
 
 // An ID and the four bytes of its goal, to the start of out.
@@ -36,12 +30,8 @@ fn write_entry(id: u8, goal: i32, out: &mut [u8])
     requires { 5 ≤ length out.old }
     ensures { out.new ≡ overwritten out.old (entry_bytes (id, unsigned goal)) }
 {
-    let bytes = table_items::unsigned_of(goal).to_le_bytes();
     out[0] = id;
-    out[1] = bytes[0];
-    out[2] = bytes[1];
-    out[3] = bytes[2];
-    out[4] = bytes[3];
+    out[1..5].copy_from_slice(&goal.to_le_bytes());
 }
 
 // The first k entries of the wanted IDs from `from` on, to the start of out. Returns where to go on.
@@ -66,10 +56,7 @@ fn write_head(out: &mut [u8])
     requires { 4 ≤ length out.old }
     ensures { out.new ≡ overwritten out.old (116 ∷ 0 ∷ 4 ∷ 0 ∷ []) }
 {
-    out[0] = plan::ADDRESS;
-    out[1] = 0;
-    out[2] = plan::LENGTH;
-    out[3] = 0;
+    out[..4].copy_from_slice(&[plan::ADDRESS, 0, plan::LENGTH, 0]);
 }
 
 // Address and length, then the entries.

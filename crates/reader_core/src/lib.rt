@@ -94,9 +94,9 @@ impl Framing<V1_MAX_HELD, V1_MAX_PACKET> for ProtocolOne {
     ghost has_room = { refl };
 }
 
-pub struct Mercury;
+pub struct ProtocolMercury;
 
-impl Framing<V1_MAX_HELD, V1_MAX_PACKET> for Mercury {
+impl Framing<V1_MAX_HELD, V1_MAX_PACKET> for ProtocolMercury {
     ghost protocol = { Mercury };
 
     fn protocol() -> Protocol {

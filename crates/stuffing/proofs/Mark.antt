@@ -1,15 +1,12 @@
 -- FF FF FD as a test, and what a byte that is not FF forgets.
 use mathlib.Core.Path.{◌≡◌, refl, sym, ap, ◌∙◌}
-use mathlib.Core.Bool.{Bool, true, false, cond, ◌&&◌, and-false, and-true}
+use mathlib.Core.Bool.{Bool, true, false, cond, ◌&&◌, and-false}
 use mathlib.Core.List.{List, [], ◌∷◌}
-use Prim.Native.Nat.{ℕ, zero, suc, ◌-◌, ◌≤◌, ◌<◌}
-use native.Mathlib.Omega.{arith}
+use Prim.Native.Nat.{ℕ}
 use lib.Dec.{eqb}
-use lib.ListN.{length, get_or}
-use native.Mathlib.Nat.{pos_of_ne-zero}
-use borrow.Author.Tests.{eqb-true, eq-eqb, ne_eqb}
+use borrow.Author.Tests.{eqb-true}
 use Rattle.lists.proofs.Bools.{and_right}
-use Rattle.stuffing.specs.Stuffing.{mark, mark_at, stuff_after}
+use Rattle.stuffing.specs.Stuffing.{mark, stuff_after}
 
 -- the last byte of a mark is FD
 pub mark_last : (a b c : ℕ) → mark a b c ≡ true → c ≡ 0xFD

@@ -46,14 +46,12 @@ fn fours_before_fd(body: &[u8]) -> usize
 pub fn before_fd(body: &[u8]) -> usize
     ensures { (result ≤ length body.now) × NoFd body.now result }
 {
-    let mut n = fours_before_fd(body);
-    while n < body.len() {
-        if body[n] == 0xFD {
-            return n;
+    for i in fours_before_fd(body)..body.len() {
+        if body[i] == 0xFD {
+            return i;
         }
-        n += 1;
     }
-    n
+    body.len()
 }
 
 // The stuffing test: every FF FF FD is followed by FD within the body. A body that passes has this many bytes once unstuffed.

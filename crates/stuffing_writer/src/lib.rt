@@ -34,8 +34,7 @@ pub fn write_stuffed(first: u8, rest: &[u8], out: &mut [u8]) -> usize
     }
     out[0] = first;
     let mut j = 1;
-    let mut i = 0;
-    while i < rest.len() {
+    for i in 0..rest.len() {
         if out.len() <= j {
             return j;
         }
@@ -48,7 +47,6 @@ pub fn write_stuffed(first: u8, rest: &[u8], out: &mut [u8]) -> usize
             out[j] = 0xFD;
             j += 1;
         }
-        i += 1;
     }
     j
 }

@@ -1,13 +1,11 @@
 -- A number in the place of a register, as stores of its bytes.
 use mathlib.Core.Path.{◌≡◌, refl, sym, ap, ◌∙◌}
 use mathlib.Core.Bool.{false}
-use mathlib.Core.List.{List, [], ◌∷◌}
-use Prim.Native.Nat.{ℕ, ◌+◌, ◌≤◌, ◌<◌, ◌/◌, ◌%◌}
+use mathlib.Core.List.{List}
+use Prim.Native.Nat.{ℕ, ◌+◌, ◌≤◌, ◌<◌}
 use native.Mathlib.Nat.{mod-eq_of_lt}
 use native.Mathlib.Omega.{arith}
-use lib.IntN.{ℤ, pos, negsuc}
-use mir.Syntax.{w32}
-use Rattle.std.specs.Int.{cast_unsigned}
+use lib.IntN.{ℤ}
 use lib.ListN.{length, set}
 use lib.Seq.{sets}
 use Rattle.table_registers.specs.Registers.{Register, table_size, end_of, present_position, hardware_error}
@@ -47,19 +45,6 @@ pub put_byte : (table : List ℕ) (r : Register) (b : ℕ) → r.bytes ≡ 1 →
 unfolding bytes_of
 put_byte table r b one inside h =
     put_sets table r b (omega arith) ∙ rw (one) (ap (set table r.address) (mod-eq_of_lt h))
-
--- the bytes of a number as the machine cuts them
-pub cut : (u : ℕ) → (u % 256 ∷ u / 256 % 256 ∷ u / 65536 % 256 ∷ u / 16777216 % 256 ∷ []) ≡ bytes_of 4 u
-unfolding bytes_of
-cut u =
-    let third : u / 65536 % 256 ≡ u / 256 / 256 % 256 = omega arith in
-    let fourth : u / 16777216 % 256 ≡ u / 256 / 256 / 256 % 256 = omega arith in
-    rw (third, fourth)
-
--- the 32 bits of a number
-pub bits_of : (z : ℤ) → cast_unsigned w32 z ≡ unsigned z
-bits_of (pos n) = refl
-bits_of (negsuc n) = omega arith
 
 -- the measurement call
 pub measured_placed : (table : List ℕ) (position : ℤ) (error : ℕ) → length table ≡ table_size → error < 256

@@ -12,8 +12,9 @@ use borrow.Author.Tests.{lt-ltb, le-leb, leb-true, eqb-true, ne_eqb}
 use mathlib.Core.List.{List}
 use lib.ListN.{get_or}
 use Rattle.table_registers.specs.Rows.{one_or_four}
+use Rattle.std.specs.Int.{cast_unsigned}
 use Rattle.lists.specs.Numbers.{number_at}
-use Rattle.table_items.specs.Items.{signed, value_at}
+use Rattle.table_items.specs.Items.{signed, unsigned, value_at}
 
 pub small : (u : ℕ) → u < 2 ^ 31 → to_z w32 u ≡ pos u
 small u h = simp (lt-ltb u (2 ^ 31) h)
@@ -54,3 +55,8 @@ one_byte n e f = eqb-true n 1 (one (eqb n 1) (rw (ne_eqb n 4 f) at e))
     one : (b : Bool) → (b || false) ≡ true → b ≡ true
     one true e = refl
     one false e = e
+
+-- the 32 bits of a number
+pub bits_of : (z : ℤ) → cast_unsigned w32 z ≡ unsigned z
+bits_of (pos n) = refl
+bits_of (negsuc n) = omega arith

@@ -9,7 +9,7 @@ ghost use Rattle.table_items.specs.Items.{signed, unsigned, in_range};
 // An item of so many bytes is a signed number, any other is not.
 pub const SIGNED_BYTES: usize = 4;
 
-// Four bytes, lowest first, as a signed number in two's complement. [T3]
+// Four bytes, lowest first, as a signed number in two's complement. [T1 T3]
 pub fn signed_of(a: u8, b: u8, c: u8, d: u8) -> i32
     ensures { result ≡ signed (number_at (a ∷ b ∷ c ∷ d ∷ []) 0 4) }
 {

@@ -10,6 +10,7 @@ use Rattle.plan.specs.Goals.{goals_refusal}
 use Rattle.plan.specs.Planner.{plan_of, plan_refusal}
 use Rattle.plan.proofs.Wanted.{goals_counted}
 use Rattle.plan_writer.proofs.Sending.{entries_good, count_few, size_is}
+use Rattle.plan_writer.proofs.Writing.{wanted_counted}
 use Rattle.plan_writer.proofs.write_plan.Goals as goal
 use Rattle.plan_writer.proofs.write_plan.Goals.{After-count_wanted-n}
 
@@ -30,10 +31,10 @@ module _ (k : After-count_wanted-n) where
       (counted (goals_refusal k.args.goals.now) tt _ (sym k.in_ok-test_goals.ensures)).0
 
   few : k.count_wanted-n.result ≤ 253
-  few = count_few k.args.goals.now good k.count_wanted-n.result k.count_wanted-n.ensures
+  few = count_few k.args.goals.now good k.count_wanted-n.result (k.count_wanted-n.ensures ∙ wanted_counted _ 0)
 
   size : 14 * ((k.count_wanted-n.result + 202) / 203) + 5 * k.count_wanted-n.result ≡ length (plan_of k.args.goals.now)
-  size = size_is k.args.goals.now good k.count_wanted-n.result k.count_wanted-n.ensures
+  size = size_is k.args.goals.now good k.count_wanted-n.result (k.count_wanted-n.ensures ∙ wanted_counted _ 0)
 
 pub overflow_add-size : goal.overflow_add-size
 overflow_add-size c = let f = few c in omega arith
@@ -60,7 +61,7 @@ returns-then-out-size c =
 pub write_packets-requires : goal.write_packets-requires
 write_packets-requires c =
     let a = c.args in
-    (omega (arith, goals_counted a.goals.now (good (goal.at.write_packets-requires c).After-count_wanted-n)), c.count_wanted-n.ensures, entries_good a.goals.now (good (goal.at.write_packets-requires c).After-count_wanted-n), omega (arith, size (goal.at.write_packets-requires c).After-count_wanted-n, c.if-out-size.false))
+    (omega (arith, goals_counted a.goals.now (good (goal.at.write_packets-requires c).After-count_wanted-n)), (c.count_wanted-n.ensures ∙ wanted_counted _ 0), entries_good a.goals.now (good (goal.at.write_packets-requires c).After-count_wanted-n), omega (arith, size (goal.at.write_packets-requires c).After-count_wanted-n, c.if-out-size.false))
 
 pub returns : goal.returns
 unfolding plan_refusal

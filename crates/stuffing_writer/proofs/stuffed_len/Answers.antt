@@ -1,13 +1,11 @@
 use mathlib.Core.Path.{◌≡◌, sym, ap, ◌∙◌}
 use mathlib.Core.List.{◌∷◌}
-use Prim.Native.Nat.{◌-◌}
 use native.Mathlib.Omega.{arith}
 use lib.ListN.{length}
 use borrow.Author.Tests.{le-leb, lt-leb}
 use Rattle.stuffing.specs.Stuffing.{stuff_after, stuff}
 use Rattle.stuffing.proofs.Laws.{length_stuff}
 use Rattle.stuffing_writer.proofs.Rounds.{stuff_plain, stuff_marked, stuff_end}
-use borrow.Author.Rules.{rules}
 use Rattle.stuffing_writer.proofs.stuffed_len.Goals as goal
 use Rattle.stuffing_writer.proofs.stuffed_len.Goals.{then-ends_mark, else-ends_mark}
 

@@ -6,7 +6,7 @@ use Rattle.lists.specs.Numbers.{bytes_of}
 use Rattle.table_registers.specs.Registers.{registers}
 use Rattle.table_items.specs.Items.{put}
 use Rattle.table_access.specs.Fresh.{freshened}
-use Rattle.table_access.proofs.Put.{cut}
+use Rattle.lists.proofs.Numbers.{written_is}
 use Rattle.table_access.proofs.fresh.Goals as goal
 
 -- computed, byte for byte
@@ -16,5 +16,5 @@ returns-clause-table_after c =
     let l = c.if-table-ne-TABLE_BYTES.false in
     let zeros = c.fill.ensures.after (λ y e. e) ∙ ap (λ (n : ℕ). replicate n 0) l in
     let model = c.copy_from_slice.ensures.after ∙ c.to_le_bytes-model.ensures in
-    let most = c.copy_from_slice-2.ensures.after ∙ c.to_le_bytes-most.ensures ∙ cut _ ∙ ap (bytes_of 4) c.from.ensures in
+    let most = c.copy_from_slice-2.ensures.after ∙ c.to_le_bytes-most.ensures ∙ written_is _ ∙ ap (bytes_of 4) c.from.ensures in
     rw (eq-eqb _ _ l, zeros, model, most)

@@ -5,7 +5,7 @@ use lib.ListN.{set, length-append, length-take, length-drop}
 use borrow.Rule.Slice.PartMut.{put_mid}
 use Rattle.lists.specs.Numbers.{bytes_of}
 use Rattle.table_registers.specs.Registers.{registers}
-use Rattle.table_access.proofs.Put.{cut}
+use Rattle.lists.proofs.Numbers.{written_is}
 use Rattle.table_resets.proofs.Resets.{filled, rom_stores}
 use Rattle.table_resets.proofs.reset_rom.Goals as goal
 use Rattle.table_resets.proofs.reset_rom.Goals.{then-not-keeps_id, else-not-keeps_id, then-not-keeps_baud, else-not-keeps_baud}
@@ -25,7 +25,7 @@ returns-clause-table_after c =
       | else-not-keeps_baud w ↦ rw w.if-not-keeps_baud.false w.table-is
     ] in
     let first = filled c.if-not-keeps_baud.table _ 20 4 (c.fill.ensures.after (λ y e. e)) (omega arith) in
-    let most = c.copy_from_slice.ensures.after ∙ c.to_le_bytes-most.ensures ∙ cut _ ∙ ap (bytes_of 4) c.from.ensures in
+    let most = c.copy_from_slice.ensures.after ∙ c.to_le_bytes-most.ensures ∙ written_is _ ∙ ap (bytes_of 4) c.from.ensures in
     let last = filled (put_mid 48 4 (put_mid 20 4 c.if-not-keeps_baud.table c.fill.new.self) c.copy_from_slice.new.self) _ 52 4
     (c.fill-2.ensures.after (λ y e. e)) (rw (first, most) (simp (length-append, length-take, length-drop) (omega arith))) in
     rw (first, most, last, baud, id) (rom_stores table l c.args.keeps_id c.args.keeps_baud)

@@ -3,8 +3,8 @@ use native.Mathlib.Omega.{arith}
 use Rattle.stuffing.specs.Answers.{checked}
 use Rattle.packet.specs.Packet.{body_of}
 use Rattle.device_packet.proofs.Hearing.{bad_stuffing, no_room, fits}
-use Rattle.device_packet.proofs.first_refusal.Goals as goal
-use Rattle.device_packet.proofs.first_refusal.Goals.{After-check}
+use Rattle.device_packet.proofs.removal_refusal.Goals as goal
+use Rattle.device_packet.proofs.removal_refusal.Goals.{After-check}
 
 -- the test's answer, of the packet's body
 stated : (k : After-check) → k.check.result ≡ checked (body_of k.args.packet.now)

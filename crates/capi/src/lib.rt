@@ -324,7 +324,9 @@ pub extern "C" fn dxl_device(
 {
     let heard = heard_by(kind);
     let heard_id = id_of_kind(kind, id);
-    numbers::response(device::hear(table, registered, heard, heard_id, body, reply))
+    let mut kept = registered;
+    let answer = device::hear(table, &mut kept, heard, heard_id, body, reply);
+    numbers::response(answer, kept)
 }
 
 // The device call on a packet as received; its body is written to `body` without its stuffing. What is no well-formed packet is
@@ -347,7 +349,9 @@ pub extern "C" fn dxl_exchange(
     ensures registered_after { state_of table.new result.registered
         ≡ after_call (state_of table.old registered) (call_exchange packet.now body.old reply.old) }
 {
-    numbers::response(device_packet::answer(table, registered, packet, body, reply))
+    let mut kept = registered;
+    let answer = device_packet::answer(table, &mut kept, packet, body, reply);
+    numbers::response(answer, kept)
 }
 
 // The first of two calls: what was heard is carried out, and its reply waits for its slot. Kinds as of `dxl_device`, whose theorems
@@ -370,7 +374,9 @@ pub extern "C" fn dxl_carry_out(
 {
     let heard = heard_by(kind);
     let heard_id = id_of_kind(kind, id);
-    numbers::carried(device::carry_out(table, registered, heard, heard_id, body))
+    let mut kept = registered;
+    let answer = device::carry_out(table, &mut kept, heard, heard_id, body);
+    numbers::carried(answer.map(|carried| carried.reply), kept)
 }
 
 // The first call on a packet as received; its body is written to `body` without its stuffing. The theorems of `dxl_carry_out` hold
@@ -391,7 +397,9 @@ pub extern "C" fn dxl_carry_out_packet(
     ensures registered_after { state_of table.new result.registered
         ≡ after_call (state_of table.old registered) (call_carry_packet packet.now body.old) }
 {
-    numbers::carried_packet(device_packet::carry_out(table, registered, packet, body))
+    let mut kept = registered;
+    let answer = device_packet::carry_out(table, &mut kept, packet, body);
+    numbers::carried(answer, kept)
 }
 
 // The second: the status of a reply that has waited. Any reply is accepted but for its refusals. [D52-D54 N8]

@@ -1,6 +1,6 @@
 -- What each instruction does. How it is answered is in the crates of reactions, the reply in `device`.
 use Rattle.std.specs.Prelude.{None, Option, Some}
-use Rattle.std.specs.Prelude.{cond, List, [], ◌++◌, ℕ, ◌+◌, eqb, take, drop}
+use Rattle.std.specs.Prelude.{cond, List, [], ◌++◌, ℕ, eqb, take, drop}
 use Rattle.answers.specs.Refusals.{unless_refused}
 use Rattle.table_registers.specs.Registers.{model_number, firmware_version, registered_instruction}
 use Rattle.table_items.specs.Items.{item_bytes, put}

@@ -12,8 +12,9 @@ use Rattle.capi.proofs.dxl_carry_out.Goals as goal
 
 pub returns : goal.returns
 returns c =
-    let e = c.carry_out.ensures in
-    let q = c.carried.ensures ∙ by_parts _ _ _ _ _ _ e.refused_value e.reply_value e.registered_value in
+    let e = c.carry_out-answer.ensures in
+    let m = mapped _ _ ? in
+    let q = c.carried.ensures ∙ by_parts _ _ _ _ _ _ (m.0 ∙ e.refused_value) (m.1 ∙ e.reply_value) e.registered_after in
     rw (sym c.heard_by-heard.ensures, sym c.id_of_kind-heard_id.ensures) record {
       value = q;
       table_after = e.table_after;

@@ -1,12 +1,9 @@
 use mathlib.Core.List.{[]}
-use mathlib.Core.Path.{◌≡◌, refl, sym, ap, ◌∙◌}
-use Prim.Native.Nat.{◌≤◌}
-use native.Mathlib.Omega.{arith}
-use lib.ListN.{length, length-set, length-take}
+use mathlib.Core.Path.{sym, ap, ◌∙◌}
 use borrow.Author.Tests.{eq-eqb}
 use Rattle.device_instructions.specs.Instructions.{Effect, action}
 use Rattle.device_instructions.specs.Results.{done_with, done_of}
-use Rattle.device_instructions.proofs.Sized.{done, not_done}
+use Rattle.device_instructions.proofs.Sized.{done}
 use Rattle.device_instructions.proofs.Acting.{not_acted, acted}
 use Rattle.device_instructions.specs.declared.RegisteredWrite.{RegisteredWrite}
 use borrow.Author.Rules.{rules}

@@ -1,15 +1,12 @@
 use Rattle.std.specs.Prelude.{None}
-use mathlib.Core.List.{[]}
-use mathlib.Core.Path.{◌≡◌, sym, ap, ◌∙◌}
+use mathlib.Core.Path.{◌≡◌, sym, ◌∙◌}
 use native.Mathlib.Omega.{arith}
 use lib.ListN.{length}
 use Rattle.table_registers.specs.Registers.{table_size}
 use Rattle.table_rules.specs.Rules.{write_rule}
 use Rattle.table_rules.specs.Outcomes.{in_table}
 use Rattle.table_access.proofs.Theorems.{write_short}
-use Rattle.device_instructions.specs.Results.{done_with}
 use Rattle.device_instructions.specs.Instructions.{reg_write}
-use Rattle.device_instructions.specs.declared.RegisteredWrite.{RegisteredWrite}
 use Rattle.device_instructions.proofs.Denied.{denied}
 use Rattle.device_instructions.proofs.Sized.{done}
 use Rattle.device_instructions.proofs.Effects.{reg_write_refused, reg_write_stays, reg_write_sized, reg_write_done, reg_write_table}

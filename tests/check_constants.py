@@ -28,7 +28,7 @@ NOT_IN_CODE = {"MAX_STATUS", "NO_EVENT", "PACKET", "BAD_CHECKSUM"}
 # A constant that begins so is in the header.
 GROUPS = ("REG_", "SIZE_", "FRESH_", "INST_", "ERROR_", "VERSION_")
 # Enums whose variants with numbers are names of the header, and what these begin with there.
-ENUMS = {"Refusal": "", "Instruction": "INST_", "ErrorNumber": "ERROR_"}
+ENUMS = {"Refusal": "", "Instruction": "INST_", "ErrorNumber": "ERROR_", "Fault": ""}
 
 
 def upper(name):
@@ -76,7 +76,7 @@ def errors():
     reactions, outcomes = REACTIONS.read_text(encoding="utf-8"), OUTCOMES.read_text(encoding="utf-8")
     undefined = re.search(r"^heard_undefined all table w = reacting \(refusing table w (\S+)\)", reactions, flags=re.M).group(1)
     checksum = re.search(r"^reaction BadChecksum all table w body = reacting \(refusing table w (\S+)\)", reactions, flags=re.M).group(1)
-    found = re.findall(r"^refusal_of (\w+) = Some (\S+)$", outcomes, flags=re.M)
+    found = re.findall(r"^denial_number (\w+) = (\S+)$", outcomes, flags=re.M)
     values = {f"DXL_ERROR_{upper(name)}": number(code) for name, code in found if name != "NotTable"}
     alert = re.search(r"\(error % (\S+) \+ \1\)", STATUS.read_text(encoding="utf-8")).group(1)
     return {"DXL_ERROR_INSTRUCTION": number(undefined), "DXL_ERROR_CHECKSUM": number(checksum), "DXL_ERROR_ALERT": number(alert),

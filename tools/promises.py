@@ -401,7 +401,7 @@ HEAD = """
 From each rule of [RULES.md](RULES.md) to its definitions; the functions that promise it; and the edits and tests that fail if it does not hold, in this order. `tools/promises.py` writes this page from the comments in the tree. An export is listed with the rules about the call itself, and also promises what the functions that it calls promise; a test of everything, as `device.random_calls`, is listed where no other test is.
 
 - `packet_front/Front.good_id` is a definition: `good_id` in `crates/packet_front/specs/Front.antt`; `.name` behind it is in the same file.
-- `dxl_encode` is the contract of an export, `packet_protocols::judge` that of a function in `crates/packet_protocols/src/lib.rt`. What the checker does not find of its proof by itself stands in `proofs/judge/`.
+- `dxl_encode` is the contract of an export, `packet_protocols::Protocol::judge` that of a method in `crates/packet_protocols/src/lib.rt`. What the checker does not find of its proof by itself stands in `proofs/Protocol/judge/`.
 - `packet_front/id_253` is an edit: `crates/packet_front/must-fail/id_253.edit`, a change that the checker has to refuse.
 - `verdict.every_id` is a test: `every_id` in the file `verdict` under `tests/`; `.name` behind it is in the same file.
 """

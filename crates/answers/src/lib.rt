@@ -25,14 +25,6 @@ pub enum Refusal {
     BadGoal = 42,
 }
 
-pub const NOT_A_TABLE: u8 = 21;
-
-pub const BAD_TABLE_ID: u8 = 22;
-
-pub const BAD_REGISTERED: u8 = 23;
-
-pub const BAD_READER: u8 = 25;
-
 // [N1-N9 N11 N15-N20]
 impl From<Refusal> for u8 {
     ghost from_gives = { λ refusal number. number ≡ number_of refusal };

@@ -14,7 +14,7 @@ ghost use Rattle.device_instructions.specs.Instructions.{action as instructions_
 ghost use Rattle.device_instructions.specs.Instructions.{reboot as instructions_reboot};
 ghost use Rattle.device_instructions.specs.Results.{fault_number, done_in, done_of, sized, HasRead};
 
-use answers::NOT_A_TABLE;
+use answers::Refusal;
 use device_codes::ErrorNumber;
 use table_registers::{
     MAX_DATA, REG_FIRMWARE_VERSION, REG_MODEL_NUMBER, REG_REGISTERED_INSTRUCTION,
@@ -110,7 +110,7 @@ impl From<Fault> for u8 {
     fn from(fault: Fault) -> u8 {
         match fault {
             Fault::Error(error) => error as u8,
-            Fault::NotATable => NOT_A_TABLE,
+            Fault::NotATable => u8::from(Refusal::NotATable),
         }
     }
 }

@@ -17,7 +17,7 @@ fn has_room(size: usize, front: usize, entries: usize) -> bool
     front <= size && entries <= (size - front) / LOG_ENTRY
 }
 
-// A number of 32 bits, low byte first. [I1]
+// A number of 32 bits, low byte first.
 fn put_number(out: &mut [u8], at: usize, value: usize)
     requires { at + 4 ≤ length out.old }
     ensures { out.new ≡ placed out.old at (bytes_of 4 value) }

@@ -10,7 +10,6 @@
 
 ghost use Rattle.std.specs.Prelude.{◌<◌, length, IfSome};
 
-use device::Replied;
 use device_dispatch::Heard;
 use device_instructions::RegisteredWrite;
 use device_status::{MIN_REPLY, Reply};
@@ -114,11 +113,9 @@ impl Device {
     // It hears a packet's body or a bad checksum, and replies.
     fn answer(&mut self, rt: &impl Print, heard: Heard, id: u8, body: &[u8]) {
         let before = self.table;
-        let carried = device::carry_out(&mut self.table, self.registered, heard, id, body);
-        self.registered = carried.registered;
-        match carried.refused {
-            Replied::Sent(..) => print_reply(rt, carried.reply),
-            Replied::Refused(_) => print_text(rt, b"refused"),
+        match device::carry_out(&mut self.table, &mut self.registered, heard, id, body) {
+            Ok(carried) => print_reply(rt, carried.reply),
+            Err(_) => print_text(rt, b"refused"),
         }
         print_changes(rt, &before, &self.table);
     }

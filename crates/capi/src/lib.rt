@@ -124,7 +124,7 @@ pub extern "C" fn dxl_fresh(table: &mut [u8]) -> i64
     ensures w_after { (w : Ghost-as-RegisteredWrite) → state_of table.new w ≡ after_call (state_of table.old w) call_fresh }
     ensures stays_accepted { StaysAccepted × GoalWithinLimits }
 {
-    answers::exported(table_access::fresh(table).map(|()| 0))
+    answers::exported_done(table_access::fresh(table))
 }
 
 // Present position and hardware error: 0, or minus 21. [N13 T5]
@@ -135,7 +135,7 @@ pub extern "C" fn dxl_measure(table: &mut [u8], position: i32, hardware_error: u
     ensures w_after { (w : Ghost-as-RegisteredWrite) → state_of table.new w ≡ after_call (state_of table.old w) (call_measurement position hardware_error) }
     ensures stays_accepted { StaysAccepted × GoalWithinLimits }
 {
-    answers::exported(table_access::measure(table, position, hardware_error).map(|()| 0))
+    answers::exported_done(table_access::measure(table, position, hardware_error))
 }
 
 // A feeding call on a reader's record in parts, the held bytes and their count. It promises demand 3, and that a packet in which

@@ -124,7 +124,7 @@ pub extern "C" fn dxl_fresh(table: &mut [u8]) -> i64
     ensures w_after { (w : Ghost-as-RegisteredWrite) → state_of table.new w ≡ after_call (state_of table.old w) call_fresh }
     ensures stays_accepted { StaysAccepted × GoalWithinLimits }
 {
-    answers::exported(table_access::fresh(table).map(|()| 0))
+    answers::exported_done(table_access::fresh(table))
 }
 
 // Present position and hardware error: 0, or minus 21. [N13 T5]
@@ -135,7 +135,7 @@ pub extern "C" fn dxl_measure(table: &mut [u8], position: i32, hardware_error: u
     ensures w_after { (w : Ghost-as-RegisteredWrite) → state_of table.new w ≡ after_call (state_of table.old w) (call_measurement position hardware_error) }
     ensures stays_accepted { StaysAccepted × GoalWithinLimits }
 {
-    answers::exported(table_access::measure(table, position, hardware_error).map(|()| 0))
+    answers::exported_done(table_access::measure(table, position, hardware_error))
 }
 
 // A feeding call on a reader's record in parts, the held bytes and their count. It promises demand 3, and that a packet in which
@@ -159,7 +159,7 @@ pub extern "C" fn dxl_feed(
     if let Ok(step) = step {
         *count = step.held;
     }
-    numbers::step(step)
+    StepNumbers::from(step)
 }
 
 // A gap call, likewise. [F12-F14 V1]
@@ -179,7 +179,7 @@ pub extern "C" fn dxl_gap(
     if let Ok(step) = step {
         *count = step.held;
     }
-    numbers::step(step)
+    StepNumbers::from(step)
 }
 
 // A feeding call on a reader's record, in place: its held bytes are passed on without a copy. [F1 F5 N9 Q10 Q11]
@@ -199,7 +199,7 @@ pub extern "C" fn dxl_reader_feed<'r, 'c, 'p>(
     if let Ok(step) = step {
         reader.count = step.held;
     }
-    numbers::step(step)
+    StepNumbers::from(step)
 }
 
 // A gap call on a reader's record, likewise. [F12 N9 Q10]
@@ -218,7 +218,7 @@ pub extern "C" fn dxl_reader_gap<'r, 'p>(
     if let Ok(step) = step {
         reader.count = step.held;
     }
-    numbers::step(step)
+    StepNumbers::from(step)
 }
 
 // The plain reader: the next event of a whole segment at an offset or behind it. That calls one after the other give the reading of
@@ -229,7 +229,7 @@ pub extern "C" fn dxl_next_event(segment: &[u8], from: usize) -> EventNumbers
     ensures plain_promises { PlainPromises records × EventFits }
     ensures burst_detected { BurstDetected }
 {
-    numbers::next(reader_plain::next_event(segment, from))
+    EventNumbers::from(reader_plain::next_event(segment, from))
 }
 
 // The writer of a log: its byte count, or minus a refusal number. That what is written is sound is promised too.
@@ -261,7 +261,7 @@ pub extern "C" fn dxl_log_last(file: &[u8], id: u8) -> FoundNumbers
     ensures value { result ≡ found_numbers (question file.now id) }
     ensures log_promises { LogPromises × FoundFits }
 {
-    numbers::found(line_log::last(file, id))
+    FoundNumbers::from(line_log::last(file, id))
 }
 
 // Salvage of a cut log: what is sound in it is written, and what was altered is reported. That what is written is a sound log of the
@@ -278,7 +278,7 @@ pub extern "C" fn dxl_log_salvage(
     ensures report_after { report.new ≡ salvage_report file.now out.old report.old }
     ensures salvage { Salvage × SalvageCases × SalvagedFits }
 {
-    numbers::salvaged(log_salvage::salvage(file, out, report))
+    SalvagedNumbers::from(log_salvage::salvage(file, out, report))
 }
 
 fn heard_by(kind: u8) -> Heard

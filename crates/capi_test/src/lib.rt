@@ -153,7 +153,7 @@ pub extern "C" fn dxl_test_feed_value(
     let packet = fed.packet;
     let reader = fed.reader;
     FedNumbers {
-        step: numbers::step(step),
+        step: StepNumbers::from(step),
         packet,
         reader,
     }

@@ -81,7 +81,7 @@ pub extern "C" fn dxl_p1_feed(
     if let Ok(step) = step {
         *count = step.held;
     }
-    numbers::step(step)
+    StepNumbers::from(step)
 }
 
 // The gap call of Protocol 1.0, likewise. [O13]
@@ -101,7 +101,7 @@ pub extern "C" fn dxl_p1_gap(
     if let Ok(step) = step {
         *count = step.held;
     }
-    numbers::step(step)
+    StepNumbers::from(step)
 }
 
 // The feeding call of Mercury, likewise. [N9 O13 O15]
@@ -122,7 +122,7 @@ pub extern "C" fn dxl_mercury_feed(
     if let Ok(step) = step {
         *count = step.held;
     }
-    numbers::step(step)
+    StepNumbers::from(step)
 }
 
 // The gap call of Mercury, likewise. [O13]
@@ -142,5 +142,5 @@ pub extern "C" fn dxl_mercury_gap(
     if let Ok(step) = step {
         *count = step.held;
     }
-    numbers::step(step)
+    StepNumbers::from(step)
 }

@@ -1,5 +1,4 @@
-// Results as C gets them: each result of a crate below becomes a number or a record of numbers. A function has the name of what
-// it converts.
+// Results as C gets them: each result of a crate below becomes a number or a record of numbers.
 #![tactic(auto)]
 
 ghost use Rattle.std.specs.Prelude.{◌≡◌};
@@ -84,74 +83,78 @@ pub struct SalvagedNumbers {
 }
 
 // The packet's bytes are in the caller's buffer.
-pub fn step(answer: Result<Step, Refusal>) -> StepNumbers
-    ensures { result ≡ step_numbers answer }
-{
-    let step = match answer {
-        Ok(step) => step,
-        Err(refusal) => return StepNumbers {
-            taken: 0,
-            count: 0,
-            kind: u8::from(refusal),
-            id: 0,
-        },
-    };
-    let taken = step.taken;
-    match step.event {
-        Some(Event::Packet { id, size }) => StepNumbers {
-            taken,
-            count: size,
-            kind: 1,
-            id,
-        },
-        Some(Event::BadChecksum { id }) => StepNumbers {
-            taken,
-            count: 0,
-            kind: 2,
-            id,
-        },
-        None => StepNumbers {
-            taken,
-            count: 0,
-            kind: 0,
-            id: 0,
-        },
+impl From<Result<Step, Refusal>> for StepNumbers {
+    ghost from_gives = { λ answer numbers. numbers ≡ step_numbers answer };
+
+    fn from(answer: Result<Step, Refusal>) -> StepNumbers {
+        let step = match answer {
+            Ok(step) => step,
+            Err(refusal) => return StepNumbers {
+                taken: 0,
+                count: 0,
+                kind: u8::from(refusal),
+                id: 0,
+            },
+        };
+        let taken = step.taken;
+        match step.event {
+            Some(Event::Packet { id, size }) => StepNumbers {
+                taken,
+                count: size,
+                kind: 1,
+                id,
+            },
+            Some(Event::BadChecksum { id }) => StepNumbers {
+                taken,
+                count: 0,
+                kind: 2,
+                id,
+            },
+            None => StepNumbers {
+                taken,
+                count: 0,
+                kind: 0,
+                id: 0,
+            },
+        }
     }
 }
 
 // The packet's bytes are in the caller's segment.
-pub fn next(answer: Option<SegmentEvent>) -> EventNumbers
-    ensures { result ≡ next_numbers answer }
-{
-    let Some(event) = answer else {
-        return EventNumbers {
-            offset: 0,
-            count: 0,
-            next: 0,
-            kind: 0,
-            id: 0,
+impl From<Option<SegmentEvent>> for EventNumbers {
+    ghost from_gives = { λ answer numbers. numbers ≡ next_numbers answer };
+
+    fn from(answer: Option<SegmentEvent>) -> EventNumbers {
+        let Some(event) = answer else {
+            return EventNumbers {
+                offset: 0,
+                count: 0,
+                next: 0,
+                kind: 0,
+                id: 0,
+            };
         };
-    };
-    match event {
-        SegmentEvent::Packet {
-            offset,
-            count,
-            next,
-            id,
-        } => EventNumbers {
-            offset,
-            count,
-            next,
-            kind: 1,
-            id,
-        },
-        SegmentEvent::BadChecksum { offset, next, id } => EventNumbers {
-            offset,
-            count: 0,
-            next,
-            kind: 2,
-            id,
-        },
+        match event {
+            SegmentEvent::Packet {
+                offset,
+                count,
+                next,
+                id,
+            } => EventNumbers {
+                offset,
+                count,
+                next,
+                kind: 1,
+                id,
+            },
+            SegmentEvent::BadChecksum { offset, next, id } => EventNumbers {
+                offset,
+                count: 0,
+                next,
+                kind: 2,
+                id,
+            },
+        }
     }
 }
 
@@ -206,46 +209,50 @@ pub fn carried(answer: Result<Reply, Refusal>, registered: RegisteredWrite) -> C
     }
 }
 
-pub fn found(answer: Result<Option<Place>, Refusal>) -> FoundNumbers
-    ensures { result ≡ found_numbers answer }
-{
-    match answer {
-        Ok(Some(Place { segment, offset })) => FoundNumbers {
-            found: 1,
-            segment,
-            offset,
-        },
-        Ok(None) => FoundNumbers {
-            found: 0,
-            segment: 0,
-            offset: 0,
-        },
-        Err(refusal) => FoundNumbers {
-            found: answers::exported_refusal(refusal),
-            segment: 0,
-            offset: 0,
-        },
+impl From<Result<Option<Place>, Refusal>> for FoundNumbers {
+    ghost from_gives = { λ answer numbers. numbers ≡ found_numbers answer };
+
+    fn from(answer: Result<Option<Place>, Refusal>) -> FoundNumbers {
+        match answer {
+            Ok(Some(Place { segment, offset })) => FoundNumbers {
+                found: 1,
+                segment,
+                offset,
+            },
+            Ok(None) => FoundNumbers {
+                found: 0,
+                segment: 0,
+                offset: 0,
+            },
+            Err(refusal) => FoundNumbers {
+                found: answers::exported_refusal(refusal),
+                segment: 0,
+                offset: 0,
+            },
+        }
     }
 }
 
-pub fn salvaged(answer: Result<Figures, Refusal>) -> SalvagedNumbers
-    ensures { result ≡ salvaged_numbers answer }
-{
-    match answer {
-        Ok(figures) => SalvagedNumbers {
-            count: answers::exported_count(figures.count),
-            dropped: figures.dropped,
-            index: figures.index,
-            leftover: figures.leftover,
-            header: u8::from(figures.header),
-        },
-        Err(refusal) => SalvagedNumbers {
-            count: answers::exported_refusal(refusal),
-            dropped: 0,
-            index: 0,
-            leftover: 0,
-            header: 0,
-        },
+impl From<Result<Figures, Refusal>> for SalvagedNumbers {
+    ghost from_gives = { λ answer numbers. numbers ≡ salvaged_numbers answer };
+
+    fn from(answer: Result<Figures, Refusal>) -> SalvagedNumbers {
+        match answer {
+            Ok(figures) => SalvagedNumbers {
+                count: answers::exported_count(figures.count),
+                dropped: figures.dropped,
+                index: figures.index,
+                leftover: figures.leftover,
+                header: u8::from(figures.header),
+            },
+            Err(refusal) => SalvagedNumbers {
+                count: answers::exported_refusal(refusal),
+                dropped: 0,
+                index: 0,
+                leftover: 0,
+                header: 0,
+            },
+        }
     }
 }
 

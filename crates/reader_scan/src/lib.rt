@@ -49,18 +49,6 @@ pub enum Stop {
     },
 }
 
-fn wanting(seen: Scanned, lacks: usize) -> Live
-    ensures { result ≡ record { seen = seen; lacks = lacks } }
-{
-    Live { seen, lacks }
-}
-
-fn ending(seen: Scanned, end: usize) -> Window
-    ensures { result ≡ record { seen = seen; end = end } }
-{
-    Window { seen, end }
-}
-
 // The bytes of s from `from` on, offset by offset; those before the next at which a packet may begin say nothing.
 fn scan(protocol: Protocol, s: &[u8], from: usize) -> Live
     requires { from ≤ length s.now }
@@ -70,16 +58,28 @@ fn scan(protocol: Protocol, s: &[u8], from: usize) -> Live
     loop {
         let at = protocol.next_start(s, next);
         if s.len() <= at {
-            return wanting(Scanned::Waiting { at }, 0);
+            return Live {
+                seen: Scanned::Waiting { at },
+                lacks: 0,
+            };
         }
         let front = protocol.peek(&s[at..]);
         if let Front::Waiting(lacks) = front {
-            return wanting(Scanned::Waiting { at }, lacks);
+            return Live {
+                seen: Scanned::Waiting { at },
+                lacks,
+            };
         }
         if let Front::Whole(size) = front {
             match protocol.judge_whole(&s[at..at + size]) {
-                Verdict::Packet(count) => return wanting(Scanned::Packet { at, count }, 0),
-                Verdict::BadChecksum(id) => return wanting(Scanned::BadChecksum { at, id }, 0),
+                Verdict::Packet(count) => return Live {
+                    seen: Scanned::Packet { at, count },
+                    lacks: 0,
+                },
+                Verdict::BadChecksum(id) => return Live {
+                    seen: Scanned::BadChecksum { at, id },
+                    lacks: 0,
+                },
                 _ => {}
             }
         }
@@ -123,19 +123,31 @@ pub fn advance(protocol: Protocol, chunk: &[u8]) -> Window
     loop {
         let at = protocol.next_start(chunk, past);
         if chunk.len() <= at {
-            return ending(Scanned::Waiting { at }, chunk.len());
+            return Window {
+                seen: Scanned::Waiting { at },
+                end: chunk.len(),
+            };
         }
         let front = protocol.peek(&chunk[at..]);
         // A match, not a second `if let`: so compiled, noise is passed by one test.
         match front {
             Front::Nothing => {}
-            Front::Waiting(_) => return ending(Scanned::Waiting { at }, chunk.len()),
+            Front::Waiting(_) => return Window {
+                seen: Scanned::Waiting { at },
+                end: chunk.len(),
+            },
             Front::Whole(size) => end = end.max(at + size),
         }
         if let Front::Whole(size) = front {
             match protocol.judge_whole(&chunk[at..at + size]) {
-                Verdict::Packet(count) => return ending(Scanned::Packet { at, count }, end),
-                Verdict::BadChecksum(id) => return ending(Scanned::BadChecksum { at, id }, end),
+                Verdict::Packet(count) => return Window {
+                    seen: Scanned::Packet { at, count },
+                    end,
+                },
+                Verdict::BadChecksum(id) => return Window {
+                    seen: Scanned::BadChecksum { at, id },
+                    end,
+                },
                 _ => {}
             }
         }
@@ -183,8 +195,7 @@ pub fn fill(protocol: Protocol, held: &mut [u8], count: usize, chunk: &[u8]) -> 
     let mut at = 0;
     let mut taken = 0;
     loop {
-        let live = scan(protocol, &held[..end], at);
-        let seen = live.seen;
+        let Live { seen, lacks } = scan(protocol, &held[..end], at);
         let Scanned::Waiting { at: start } = seen else {
             return Stop::Done { seen, end, taken };
         };
@@ -202,7 +213,7 @@ pub fn fill(protocol: Protocol, held: &mut [u8], count: usize, chunk: &[u8]) -> 
         if room == 0 {
             return Stop::Full { taken };
         }
-        let more = live.lacks.min(room).min(left);
+        let more = lacks.min(room).min(left);
         at = append(held, start, end, &chunk[taken..taken + more]);
         end = at + waiting + more;
         taken += more;

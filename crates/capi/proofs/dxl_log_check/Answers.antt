@@ -1,17 +1,11 @@
-use Rattle.std.specs.Prelude.{None, Option, Some}
-use mathlib.Core.Path.{◌≡◌, refl, ap, ◌∙◌}
+use mathlib.Core.Path.{ap, ◌∙◌}
 use mir.Facts.{to_z-of_z}
 use mir.Syntax.{w64}
 use Rattle.line_log.specs.Soundness.{check_refusal}
 use Rattle.line_log.proofs.Promises.{sound_exactly}
-use Rattle.answers.specs.declared.Refusal.{Refusal}
-use Rattle.answers.specs.Answers.{answered, exported, exported_done}
+use Rattle.answers.specs.Answers.{exported_done}
+use Rattle.capi.proofs.Done.{done_is}
 use Rattle.capi.proofs.dxl_log_check.Goals as goal
-
--- done, with nothing to count, is the count 0
-done_is : (r : Option Refusal) → exported_done (answered r tt) ≡ exported (answered r 0)
-done_is None = refl
-done_is (Some refusal) = refl
 
 pub returns : goal.returns
 returns c =

@@ -15,10 +15,10 @@ pub returns : goal.returns
 unfolding step_in packet_in
 returns c =
     let e = c.feed-step.ensures in
-    let answer : c.step.result ≡ step_numbers c.feed-step.result =
+    let answer : c.from.result ≡ step_numbers c.feed-step.result =
     elim c.match-step.branch [
-      | in-Ok w ↦ c.step.ensures ∙ ap step_numbers (w.step-is ∙ sym w.in-Ok.is)
-      | in_default w ↦ c.step.ensures ∙ ap step_numbers w.step-is
+      | in-Ok w ↦ c.from.ensures ∙ ap step_numbers (w.step-is ∙ sym w.in-Ok.is)
+      | in_default w ↦ c.from.ensures ∙ ap step_numbers w.step-is
     ] in
     let left : Result Step Refusal → Reader =
     λ a. record { bytes = c.feed-step.new.held; count = held_by c.args.reader.now.count a } in

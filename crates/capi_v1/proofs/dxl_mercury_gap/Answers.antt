@@ -11,10 +11,10 @@ pub returns : goal.returns
 unfolding step_in packet_in
 returns c =
     let e = c.gap-step.ensures in
-    let answer : c.step.result ≡ step_numbers c.gap-step.result =
+    let answer : c.from.result ≡ step_numbers c.gap-step.result =
     elim c.match-step.branch [
-      | in-Ok w ↦ c.step.ensures ∙ ap step_numbers (w.step-is ∙ sym w.in-Ok.is)
-      | in_default w ↦ c.step.ensures ∙ ap step_numbers w.step-is
+      | in-Ok w ↦ c.from.ensures ∙ ap step_numbers (w.step-is ∙ sym w.in-Ok.is)
+      | in_default w ↦ c.from.ensures ∙ ap step_numbers w.step-is
     ] in
     let count : c.match-step.count ≡ held_by c.args.count.now c.gap-step.result =
     elim c.match-step.branch [

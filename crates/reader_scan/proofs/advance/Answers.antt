@@ -27,7 +27,6 @@ module _ (f : After-next_start-at) where
 
 pub returns-then-chunk-at : goal.returns-then-chunk-at
 returns-then-chunk-at c =
-    rw c.ending.ensures
     (sought_end (rules_of c.args.protocol) (laws c.args.protocol) (settled_by (shape_of c.args.protocol)) (settles c.args.protocol) c.args.chunk.now (c.next_start-at.result) c.loop-protocol.end (sought (goal.at.returns-then-chunk-at c).After-next_start-at) (inr c.if-chunk-at.true))
 
 -- what the look at the offset tells
@@ -40,7 +39,6 @@ module _ (l : After-peek-front) where
 
 pub returns-in-Waiting : goal.returns-in-Waiting
 returns-in-Waiting c =
-    rw c.ending-in-Waiting.ensures
     (sought_end (rules_of c.args.protocol) (laws c.args.protocol) (settled_by (shape_of c.args.protocol)) (settles c.args.protocol) c.args.chunk.now (c.next_start-at.result) c.loop-protocol.end (sought (goal.at.returns-in-Waiting c).After-next_start-at) (inl (stated (goal.at.returns-in-Waiting c).After-peek-front _ c.in-Waiting.is).0))
 
 -- all bytes of a packet are there
@@ -97,7 +95,6 @@ pub returns-in-Packet : goal.returns-in-Packet
 returns-in-Packet c =
     let k = (goal.at.returns-in-Packet c).Joined-front in
     let b = settling k (stated (goal.at.returns-in-Packet c).After-peek-front) _ c.in-Whole-front.is in
-    rw c.ending-in-Packet.ensures
     (sought_packet (rules_of c.args.protocol) (laws c.args.protocol) (settled_by (shape_of c.args.protocol)) (settles c.args.protocol) c.args.chunk.now (c.next_start-at.result) c.loop-protocol.end (sought (goal.at.returns-in-Packet c).After-next_start-at) c.match-front.end (some (goal.at.returns-in-Packet c).After-peek-front) b.0
     b.1 b.2 _ (some_lacking c.args.protocol) (judgement (goal.at.returns-in-Packet c).After-judge_whole (same k) _ c.in-Packet.is))
 
@@ -105,7 +102,6 @@ pub returns-in-BadChecksum : goal.returns-in-BadChecksum
 returns-in-BadChecksum c =
     let k = (goal.at.returns-in-BadChecksum c).Joined-front in
     let b = settling k (stated (goal.at.returns-in-BadChecksum c).After-peek-front) _ c.in-Whole-front.is in
-    rw c.ending-in-BadChecksum.ensures
     (sought_bad (rules_of c.args.protocol) (laws c.args.protocol) (settled_by (shape_of c.args.protocol)) (settles c.args.protocol) c.args.chunk.now (c.next_start-at.result) c.loop-protocol.end (sought (goal.at.returns-in-BadChecksum c).After-next_start-at) c.match-front.end (some (goal.at.returns-in-BadChecksum c).After-peek-front) b.0
     b.1 b.2 _ (some_longest c.args.protocol) (some_lacking c.args.protocol) (judgement (goal.at.returns-in-BadChecksum c).After-judge_whole (same k) _ c.in-BadChecksum.is))
 

@@ -43,8 +43,8 @@ slice_bounds-scan-end c = filling_fits (rules_of c.args.protocol) (laws c.args.p
 pub slice_bounds-scan-end-in-loop-start : goal.slice_bounds-scan-end-in-loop-start
 slice_bounds-scan-end-in-loop-start c = sym (length-take-le _ _ (filling_fits (rules_of c.args.protocol) (laws c.args.protocol) _ _ _ _ _ _ _ c.loop-start.invariant.0))
 
-pub scan-live-requires : goal.scan-live-requires
-scan-live-requires c = filling_ordered (rules_of c.args.protocol) (laws c.args.protocol) _ _ _ _ _ _ _ c.loop-start.invariant.0
+pub scan-seen-requires : goal.scan-seen-requires
+scan-seen-requires c = filling_ordered (rules_of c.args.protocol) (laws c.args.protocol) _ _ _ _ _ _ _ c.loop-start.invariant.0
 
 pub returns-in_default : goal.returns-in_default
 returns-in_default c =
@@ -53,8 +53,8 @@ returns-in_default c =
         w.size,
         w.taken_within,
         filling_fits (rules_of c.args.protocol) (laws c.args.protocol) _ _ _ _ _ _ _ w,
-        filling_decided (rules_of c.args.protocol) (laws c.args.protocol) _ _ _ _ _ _ _ w c.scan-live.result.seen
-            c.in_default.not-Waiting c.scan-live.ensures.0,
+        filling_decided (rules_of c.args.protocol) (laws c.args.protocol) _ _ _ _ _ _ _ w c.scan-seen.result.seen
+            c.in_default.not-Waiting c.scan-seen.ensures.0,
       );
       held_unchanged = stays (goal.at.returns-in_default c).At-loop-start;
     }
@@ -62,11 +62,11 @@ returns-in_default c =
 -- the held bytes wait, from `start` on
 module _ (g : In-Waiting) where
   waits : Waits (rules_of g.args.protocol) open' (take g.loop-start.end g.loop-start.held) g.loop-start.at g.in-Waiting.start
-  waits = rw g.in-Waiting.is at g.scan-live.ensures.0
+  waits = rw g.in-Waiting.is at g.scan-seen.ensures.0
 
   wants : g.in-Waiting.start < length (take g.loop-start.end g.loop-start.held)
-      → Patient (rules_of g.args.protocol) (drop g.in-Waiting.start (take g.loop-start.end g.loop-start.held)) g.scan-live.result.lacks
-  wants = rw g.in-Waiting.is at g.scan-live.ensures.1
+      → Patient (rules_of g.args.protocol) (drop g.in-Waiting.start (take g.loop-start.end g.loop-start.held)) g.scan-seen.result.lacks
+  wants = rw g.in-Waiting.is at g.scan-seen.ensures.1
 
 pub returns-then-left-eq0 : goal.returns-then-left-eq0
 returns-then-left-eq0 c =
@@ -105,8 +105,8 @@ returns-then-back_in_chunk c =
 module _ (l : After-min-more)
     (ws : Waits (rules_of l.args.protocol) open' (take l.loop-start.end l.loop-start.held) l.loop-start.at l.in-Waiting.start)
     (wt : l.in-Waiting.start < length (take l.loop-start.end l.loop-start.held)
-    → Patient (rules_of l.args.protocol) (drop l.in-Waiting.start (take l.loop-start.end l.loop-start.held)) l.scan-live.result.lacks) where
-  patient : Patient (rules_of l.args.protocol) (drop l.in-Waiting.start (take l.loop-start.end l.loop-start.held)) l.scan-live.result.lacks
+    → Patient (rules_of l.args.protocol) (drop l.in-Waiting.start (take l.loop-start.end l.loop-start.held)) l.scan-seen.result.lacks) where
+  patient : Patient (rules_of l.args.protocol) (drop l.in-Waiting.start (take l.loop-start.end l.loop-start.held)) l.scan-seen.result.lacks
   patient = wt (window_waits (rules_of l.args.protocol) (laws l.args.protocol) _ _ _ _ _ _ _ l.loop-start.invariant.0 _ ws
       (not_back (shape_of l.args.protocol).shortest _ _ (some_shortest l.args.protocol) (sym l.back_in_chunk.ensures ∙ l.if-back_in_chunk.false)))
 
@@ -121,8 +121,8 @@ module _ (l : After-min-more)
         not_none _ l.if-left-eq0.false,
       )
 
-  within : l.min-more.result ≤ l.scan-live.result.lacks
-  within = least_first l.scan-live.result.lacks _ _ _ _ l.min.ensures l.min-more.ensures
+  within : l.min-more.result ≤ l.scan-seen.result.lacks
+  within = least_first l.scan-seen.result.lacks _ _ _ _ l.min.ensures l.min-more.ensures
 
   taken_fits : l.loop-start.taken + l.min-more.result ≤ length l.args.chunk.now
   taken_fits = omega (arith, l.min-more.ensures, l.loop-start.invariant.0.taken_within)
@@ -164,8 +164,8 @@ append-at-requires c =
 module _ (j : After-append-at)
     (ws : Waits (rules_of j.args.protocol) open' (take j.loop-start.end j.loop-start.held) j.loop-start.at j.in-Waiting.start)
     (tf : j.loop-start.taken + j.min-more.result ≤ length j.args.chunk.now)
-    (pt : Patient (rules_of j.args.protocol) (drop j.in-Waiting.start (take j.loop-start.end j.loop-start.held)) j.scan-live.result.lacks)
-    (wn : j.min-more.result ≤ j.scan-live.result.lacks) where
+    (pt : Patient (rules_of j.args.protocol) (drop j.in-Waiting.start (take j.loop-start.end j.loop-start.held)) j.scan-seen.result.lacks)
+    (wn : j.min-more.result ≤ j.scan-seen.result.lacks) where
   room : j.append-at.result + (j.loop-start.end - j.in-Waiting.start) + j.min-more.result ≤ length j.args.held.now
   room =
       room_behind (rules_of j.args.protocol) (laws j.args.protocol) j.args.chunk.now (length j.args.held.now) _ _ _ j.min-more.result j.loop-start.taken

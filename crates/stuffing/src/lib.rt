@@ -61,37 +61,31 @@ pub fn check(body: &[u8]) -> Option<usize>
 {
     let plain = before_fd(body);
     let mut n = plain;
-    let mut i = plain;
-    while i < body.len() {
-        if ends_mark(0, body, i) {
-            i += 1;
-            if body.len() <= i {
-                return None;
-            }
-            if body[i] != 0xFD {
-                return None;
-            }
+    let mut after_mark = false;
+    for i in plain..body.len() {
+        if !after_mark {
+            n += 1;
+        } else if body[i] != 0xFD {
+            return None;
         }
-        n += 1;
-        i += 1;
+        after_mark = ends_mark(0, body, i);
     }
-    Some(n)
+    if after_mark { None } else { Some(n) }
 }
 
 // Writes the body without its stuffing to the start of out, which has room for it.
 fn write_unstuffed(body: &[u8], out: &mut [u8])
-    requires { (well_stuffed body.now ≡ true) × (length (unstuff body.now) ≤ length out.old) }
+    requires { length (unstuff body.now) ≤ length out.old }
     ensures { out.new ≡ overwritten out.old (unstuff body.now) }
 {
     let mut j = 0;
-    let mut i = 0;
-    while i < body.len() {
-        out[j] = body[i];
-        j += 1;
-        if ends_mark(0, body, i) {
-            i += 1;
+    let mut after_mark = false;
+    for (i, &byte) in body.iter().enumerate() {
+        if !after_mark {
+            out[j] = byte;
+            j += 1;
         }
-        i += 1;
+        after_mark = ends_mark(0, body, i);
     }
 }
 

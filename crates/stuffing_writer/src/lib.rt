@@ -29,7 +29,7 @@ pub fn write_stuffed(first: u8, rest: &[u8], out: &mut [u8]) -> usize
     ensures value { result ≡ min (length out.old) (length (stuff (first ∷ rest.now))) }
     ensures out_after { out.new ≡ overwritten out.old (take (length out.old) (stuff (first ∷ rest.now))) }
 {
-    if out.len() == 0 {
+    if out.is_empty() {
         return 0;
     }
     out[0] = first;

@@ -10,8 +10,8 @@ ghost use Rattle.table_access.specs.Answers.{fresh_out, measure_out, read_bytes,
 
 use answers::Refusal;
 use table_registers::{
-    FRESH_BAUD_CODE, FRESH_FIRMWARE_VERSION, FRESH_ID, FRESH_MAX_POSITION, FRESH_MODEL_NUMBER,
-    FRESH_STATUS_RETURN_LEVEL, MAX_DATA, PERMITS_READ, REG_BAUD_CODE, REG_FIRMWARE_VERSION,
+    Access, FRESH_BAUD_CODE, FRESH_FIRMWARE_VERSION, FRESH_ID, FRESH_MAX_POSITION,
+    FRESH_MODEL_NUMBER, FRESH_STATUS_RETURN_LEVEL, MAX_DATA, REG_BAUD_CODE, REG_FIRMWARE_VERSION,
     REG_HARDWARE_ERROR, REG_ID, REG_MAX_POSITION, REG_MODEL_NUMBER, REG_PRESENT_POSITION,
     REG_STATUS_RETURN_LEVEL, SIZE_MAX_POSITION, SIZE_MODEL_NUMBER, SIZE_PRESENT_POSITION,
     TABLE_BYTES,
@@ -50,7 +50,7 @@ pub fn read(table: &[u8], address: u16, count: u16) -> Result<[u8; MAX_DATA], De
     }
     let at = address as usize;
     let n = count as usize;
-    if !table_registers::every_byte(PERMITS_READ, at, n) {
+    if !table_registers::every_byte(Access::Read as u8, at, n) {
         return Err(Denied::NoAccess);
     }
     Ok(bytes_from(table, at, n))

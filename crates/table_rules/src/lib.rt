@@ -14,8 +14,8 @@ ghost use Rattle.table_rules.specs.Stages.{whole, items_rule};
 
 use table_items::SIGNED_BYTES;
 use table_registers::{
-    PERMITS_RAM_WRITE, PERMITS_ROM_WRITE, REG_GOAL_POSITION, REG_MAX_POSITION, REG_MIN_POSITION,
-    REG_TORQUE_ENABLE, Row, SIZE_GOAL_POSITION, SIZE_MAX_POSITION, SIZE_MIN_POSITION, TABLE_BYTES,
+    Access, REG_GOAL_POSITION, REG_MAX_POSITION, REG_MIN_POSITION, REG_TORQUE_ENABLE, Row,
+    SIZE_GOAL_POSITION, SIZE_MAX_POSITION, SIZE_MIN_POSITION, TABLE_BYTES,
 };
 
 // Why a read or a write is denied: an error of the status packet, or a table of another size.
@@ -133,7 +133,9 @@ fn judge_items(table: &[u8], address: usize, bytes: &[u8]) -> Result<(), Denied>
     let mut good = true;
     let mut a = address;
     while a < written.end {
-        let row = table_registers::register_at(a);
+        let Some(row) = table_registers::register_at(a) else {
+            unreachable!()
+        };
         let item = Span {
             start: row.start,
             end: row.start + row.bytes,
@@ -179,9 +181,9 @@ fn least_to_write(table: &[u8]) -> u8
     ensures { result ≡ least_to_write table.now }
 {
     if table[REG_TORQUE_ENABLE] == 0 {
-        PERMITS_ROM_WRITE
+        Access::RomWrite as u8
     } else {
-        PERMITS_RAM_WRITE
+        Access::RamWrite as u8
     }
 }
 

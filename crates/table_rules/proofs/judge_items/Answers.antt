@@ -13,7 +13,7 @@ use Rattle.lists.proofs.Bools.{and_left, and_right}
 use Rattle.table_registers.specs.Registers.{Register, Access, read_only, read_write, Area, registers, end_of, grant, permits}
 use Rattle.table_registers.specs.Rows.{lowest, highest, row_of, one_or_four}
 use Rattle.table_registers.specs.declared.Row.{Row}
-use Rattle.table_registers.proofs.Rows.{nth, place, place_inside, own_grant, ends, found_row, found_inside, nth_bytes}
+use Rattle.table_registers.proofs.Rows.{nth, place, place_inside, own_grant, ends, found_row, found_inside, none_permits, nth_bytes}
 use Rattle.table_registers.proofs.Permits.{every_at}
 use Rattle.table_items.specs.Items.{value_at, in_range, value_in_range}
 use Rattle.table_rules.specs.Rules.{stored, covers, every_touched}
@@ -36,6 +36,13 @@ can_be_written c =
     let e : c.args.address + (h.a - c.args.address) ≡ h.a = omega arith in
     rw e at (every_at 2 c.args.address _ (h.a - c.args.address) c.requires.2 (omega arith))
 
+-- so that it has a register
+pub unreachable-requires : goal.unreachable-requires
+unreachable-requires c =
+    let w = can_be_written (goal.at.unreachable-requires c).In-loop-a in
+    let p = none_permits c.loop-a.a (sym c.in_default.is ∙ c.register_at.ensures) in
+    absurd (omega arith)
+
 -- a register that can be written has a range
 row_range : (access : Access) (area : Area) (value : ℤ) → 2 ≤ grant access area
     → (le_z (lowest access) value && le_z value (highest access)) ≡ in_range access value
@@ -50,12 +57,12 @@ covers_is c w =
     let a = c.args in
     c.covers.ensures
     ∙ ap (λ (r : Row). leb a.address r.start && leb (r.start + r.bytes) (a.address + length a.bytes.now))
-    (found_row _ c.loop-a.a c.register_at-row.ensures (omega arith))
+    (found_row _ c.loop-a.a (sym c.in-Some.is ∙ c.register_at.ensures) (omega arith))
 
 pub overflow_add-item : goal.overflow_add-item
 overflow_add-item c =
     let w = can_be_written (goal.at.overflow_add-item c).In-loop-a in
-    let n = found_inside _ c.loop-a.a c.register_at-row.ensures (omega arith) in
+    let n = found_inside _ c.loop-a.a (sym c.in-Some.is ∙ c.register_at.ensures) (omega arith) in
     omega arith
 
 pub returns-then-not-covers : goal.returns-then-not-covers
@@ -80,9 +87,9 @@ bounds c e =
 
 -- the row that was found
 row_of_lem : (c : Else-not-covers) → 2 ≤ permits c.loop-a.a
-    → c.register_at-row.result ≡ row_of (nth (place c.loop-a.a))
+    → c.in-Some.row ≡ row_of (nth (place c.loop-a.a))
 row_of_lem c w =
-    found_row _ c.loop-a.a c.register_at-row.ensures (omega arith)
+    found_row _ c.loop-a.a (sym c.in-Some.is ∙ c.register_at.ensures) (omega arith)
 
 pub in_range-good-requires : goal.in_range-good-requires
 in_range-good-requires c =
@@ -97,7 +104,7 @@ in_range-good-requires c =
 
 in_range_is : (c : After-in_range-good) → 2 ≤ permits c.loop-a.a
     → (let a = c.args in let own = nth (place c.loop-a.a) in (a.address ≤ own.address) × (end_of own ≤ a.address + length a.bytes.now))
-    → c.register_at-row.result ≡ row_of (nth (place c.loop-a.a))
+    → c.in-Some.row ≡ row_of (nth (place c.loop-a.a))
     → let a = c.args in
     c.in_range-good.result
     ≡ value_in_range (stored a.table.now a.address a.bytes.now) (nth (place c.loop-a.a))
@@ -116,7 +123,7 @@ in_range_is c w b row =
 
 -- the next round begins at the register's end
 next : (c : Else-not-covers) → 2 ≤ permits c.loop-a.a
-    → let row = c.register_at-row.result in
+    → let row = c.in-Some.row in
     row.start + row.bytes ≡ end_of (nth (place c.loop-a.a))
 next c w = ap (λ (r : Row). r.start + r.bytes) (row_of_lem c w)
 

@@ -52,21 +52,21 @@ module _ (w buffer : List ℕ) (f : WellFormed w) (room : length buffer ≡ 1022
       )
 
 -- a body that begins as it should
-pub body_says : (goals : List ℤ) (old body params new : List ℕ) (r : Bool) → take 5 body ≡ plan_head → params ≡ drop 1 body
+pub body_says : (goals : List ℤ) (old : List Bool) (body params : List ℕ) (new : List Bool) (r : Bool) → take 5 body ≡ plan_head → params ≡ drop 1 body
     → MarkSays goals old params new r → BodySays goals old body new r
 body_says goals old body params new true h e m = (h, subst (λ (l : List ℕ). Marked goals old l new) e m)
 body_says goals old body params new false h e m = λ _. subst (λ (l : List ℕ). Unfit goals old l) e m
 
 -- a packet to all devices with a body that fits, or does not
-pub packet_says : (goals : List ℤ) (old w new : List ℕ) (r : Bool) → WellFormed w → id_of w ≡ 254
+pub packet_says : (goals : List ℤ) (old : List Bool) (w : List ℕ) (new : List Bool) (r : Bool) → WellFormed w → id_of w ≡ 254
     → BodySays goals old (unstuff (body_of w)) new r → PacketSays goals old w new r
 packet_says goals old w new true f i b = (record { well = f; to_all = i; head = b.0; carried_out_lem = b.1.some_id }, b.1)
 packet_says goals old w new false f i b = λ g. b g.head g.carried_out_lem
 
-pub packet_yes : (goals : List ℤ) (old w new : List ℕ) (r : Bool) → PacketSays goals old w new r → not r ≡ false → GoalWrite w × Marked goals old (params_of w) new
+pub packet_yes : (goals : List ℤ) (old : List Bool) (w : List ℕ) (new : List Bool) (r : Bool) → PacketSays goals old w new r → not r ≡ false → GoalWrite w × Marked goals old (params_of w) new
 packet_yes goals old w new true p e = p
 packet_yes goals old w new false p e = let z : ◌≡◌ {A = ℕ} 0 1 = cc in absurd (omega arith)
 
-pub packet_no : (goals : List ℤ) (old w new : List ℕ) (r : Bool) → PacketSays goals old w new r → not r ≡ true → GoalWrite w → Clash goals old (params_of w)
+pub packet_no : (goals : List ℤ) (old : List Bool) (w : List ℕ) (new : List Bool) (r : Bool) → PacketSays goals old w new r → not r ≡ true → GoalWrite w → Clash goals old (params_of w)
 packet_no goals old w new true p e = let z : ◌≡◌ {A = ℕ} 0 1 = cc in absurd (omega arith)
 packet_no goals old w new false p e = p

@@ -84,8 +84,8 @@ module _ (params : List ℕ) where
 
 -- ---- the walk
 
-module _ (goals : List ℤ) (params old : List ℕ) where
-  pub record Marking (stood : List ℕ) (at : ℕ) : Type 0 where
+module _ (goals : List ℤ) (params : List ℕ) (old : List Bool) where
+  pub record Marking (stood : List Bool) (at : ℕ) : Type 0 where
     pub found : ℕ → Option OwnEntry
     pub walk : Walk (plain 5) params 4 at found
     pub long : length stood ≡ 253
@@ -95,7 +95,7 @@ module _ (goals : List ℤ) (params old : List ℕ) where
     pub marking_start : length old ≡ 253 → Marking old 4
     marking_start l = record { found = λ own. None; walk = walking params some; long = l; so_far = λ id. sym (append-nil (past goals old id)) }
 
-    module _ (stood : List ℕ) (at : ℕ) (m : Marking stood at) (h : at < length params) where
+    module _ (stood : List Bool) (at : ℕ) (m : Marking stood at) (h : at < length params) where
       abbrev id : ℕ
       id = get_or params at 0
 
@@ -118,19 +118,19 @@ module _ (goals : List ℤ) (params old : List ℕ) where
       found_goal = goal_search params id (has_length params some) ∙ ap (goal_at params) (found_here (plain 5) params 4 at m.found m.walk h)
 
       -- the test of the code
-      module _ (sized : length goals ≡ 253) (b : Bool) (e : b ≡ fits (get_or goals id (pos 0)) (get_or stood id 0) number) where
-        stated : fits (get_or goals id unwanted) (get_or stood id 0) number ≡ b
-        stated = let k = known in sym (e ∙ ap (λ (g : ℤ). fits g (get_or stood id 0) number) (goal_there goals id (pos 0) unwanted (omega arith)))
+      module _ (sized : length goals ≡ 253) (b : Bool) (e : b ≡ fits (get_or goals id (pos 0)) (get_or stood id false) number) where
+        stated : fits (get_or goals id unwanted) (get_or stood id false) number ≡ b
+        stated = let k = known in sym (e ∙ ap (λ (g : ℤ). fits g (get_or stood id false) number) (goal_there goals id (pos 0) unwanted (omega arith)))
 
         pub marking_other : b ≡ false → Unfit goals old params
         marking_other f = λ _. (
           id,
           let k = known in omega arith,
-          λ more d. clashes (get_or goals id unwanted) (get_or stood id 0) number more (stated ∙ f)
+          λ more d. clashes (get_or goals id unwanted) (get_or stood id false) number more (stated ∙ f)
               (ap (λ (l : List ℕ). l ++ (number ∷ more)) same_past ∙ ap (λ (l : List ℕ). past goals old id ++ (l ++ more)) (sym found_goal) ∙ d),
         )
 
-        pub marking_new : b ≡ true → Marking (set stood id 1) (at + 5)
+        pub marking_new : b ≡ true → Marking (set stood id true) (at + 5)
         marking_new t =
             let l = m.long in
             record {
@@ -141,18 +141,18 @@ module _ (goals : List ℤ) (params old : List ℕ) where
             }
           where
             by_id : (own : ℕ) (x : Bool) → eqb id own ≡ x
-                → past goals (set stood id 1) own ≡ past goals old own ++ goal_at params (cond x (entry_at (length m.walk.passed) at) (m.found own))
+                → past goals (set stood id true) own ≡ past goals old own ++ goal_at params (cond x (entry_at (length m.walk.passed) at) (m.found own))
             by_id own false i =
-                ap (past_by (get_or goals own unwanted)) (get_or-set_other stood id own 1 0 (λ q. eqb-false id own i (sym q))) ∙ m.so_far own
+                ap (past_by (get_or goals own unwanted)) (get_or-set_other stood id own true false (λ q. eqb-false id own i (sym q))) ∙ m.so_far own
             by_id own true i =
                 let k = known in
                 let l = m.long in
-                subst (λ (x : ℕ). past goals (set stood id 1) x ≡ past goals old x ++ (number ∷ [])) (eqb-true id own i)
-                (ap (past_by (get_or goals id unwanted)) (get_or-set_same stood id 1 0 (omega arith))
-                ∙ sym (completes (get_or goals id unwanted) (get_or stood id 0) number (stated ∙ t))
+                subst (λ (x : ℕ). past goals (set stood id true) x ≡ past goals old x ++ (number ∷ [])) (eqb-true id own i)
+                (ap (past_by (get_or goals id unwanted)) (get_or-set_same stood id true false (omega arith))
+                ∙ sym (completes (get_or goals id unwanted) (get_or stood id false) number (stated ∙ t))
                 ∙ ap (λ (l : List ℕ). l ++ (number ∷ [])) same_past)
 
-    pub marking_end : (stood : List ℕ) (at : ℕ) → Marking stood at → length params ≤ at → Marked goals old params stood
+    pub marking_end : (stood : List Bool) (at : ℕ) → Marking stood at → length params ≤ at → Marked goals old params stood
     marking_end stood at m h =
         record {
           sized = m.long;

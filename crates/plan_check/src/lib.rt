@@ -29,15 +29,15 @@ fn goal_at(params: &[u8], k: usize) -> i32
 }
 
 // Whether an entry may stand: its goal is the wanted one, and nothing has stood of its ID.
-fn entry_fits(params: &[u8], at: usize, goal: i32, stood: u8) -> bool
+fn entry_fits(params: &[u8], at: usize, goal: i32, stood: bool) -> bool
     requires { at + 5 ≤ length params.now }
     ensures { result ≡ fits goal stood (number_at params.now (at + 1) 4) }
 {
-    goal >= 0 && stood == 0 && goal_at(params, at + 1) == goal
+    goal >= 0 && !stood && goal_at(params, at + 1) == goal
 }
 
 // Marks the ID of each entry of a list that devices carry out; false if there is one that may not stand.
-fn mark_list(goals: &[i32], params: &[u8], stood: &mut [u8]) -> bool
+fn mark_list(goals: &[i32], params: &[u8], stood: &mut [bool]) -> bool
     requires { (length goals.now ≡ 253) × (length stood.old ≡ 253) × SomeFound params.now }
     ensures { MarkSays goals.now stood.old params.now stood.new result }
 {
@@ -47,7 +47,7 @@ fn mark_list(goals: &[i32], params: &[u8], stood: &mut [u8]) -> bool
         if !entry_fits(params, at, goals[id], stood[id]) {
             return false;
         }
-        stood[id] = 1;
+        stood[id] = true;
         at += ENTRY;
     }
     true
@@ -55,7 +55,7 @@ fn mark_list(goals: &[i32], params: &[u8], stood: &mut [u8]) -> bool
 
 // Marks each ID that has an entry; false if there is none, or one that may not stand. Whether devices carry the list out is asked of
 // their own search, for the first ID in it.
-fn mark_entries(goals: &[i32], params: &[u8], stood: &mut [u8]) -> bool
+fn mark_entries(goals: &[i32], params: &[u8], stood: &mut [bool]) -> bool
     requires { (length goals.now ≡ 253) × (length stood.old ≡ 253) }
     ensures { MarkSays goals.now stood.old params.now stood.new result }
 {
@@ -82,7 +82,7 @@ fn has_head(body: &[u8]) -> bool
 }
 
 // Marks the IDs of an unstuffed body; false if it is not one that a plan may have here.
-fn mark_body(goals: &[i32], body: &[u8], stood: &mut [u8]) -> bool
+fn mark_body(goals: &[i32], body: &[u8], stood: &mut [bool]) -> bool
     requires { (length goals.now ≡ 253) × (length stood.old ≡ 253) }
     ensures { BodySays goals.now stood.old body.now stood.new result }
 {
@@ -93,7 +93,7 @@ fn mark_body(goals: &[i32], body: &[u8], stood: &mut [u8]) -> bool
 }
 
 // Marks the IDs of a packet; false if it is not one that a plan may have here.
-fn mark_packet(goals: &[i32], packet: &[u8], stood: &mut [u8]) -> bool
+fn mark_packet(goals: &[i32], packet: &[u8], stood: &mut [bool]) -> bool
     requires { (length goals.now ≡ 253) × (length stood.old ≡ 253) × WellFormed packet.now }
     ensures { PacketSays goals.now stood.old packet.now stood.new result }
 {
@@ -109,20 +109,14 @@ fn mark_packet(goals: &[i32], packet: &[u8], stood: &mut [u8]) -> bool
 }
 
 // Whether every wanted ID has stood.
-fn all_stood(goals: &[i32], stood: &[u8]) -> bool
+fn all_stood(goals: &[i32], stood: &[bool]) -> bool
     requires { (length goals.now ≡ 253) × (length stood.now ≡ 253) }
     ensures { SaysWhether result ((id : ℕ) → id < 253 → past goals.now stood.now id ≡ wanted goals.now id) }
 {
-    let mut id = 0;
-    while id < plan::IDS {
-        if 0 <= goals[id] {
-            if stood[id] == 0 {
-                return false;
-            }
-        }
-        id += 1;
-    }
-    true
+    goals
+        .iter()
+        .zip(stood)
+        .all(|(&goal, &stood)| goal < 0 || stood)
 }
 
 // Packet after packet, to the end.
@@ -130,7 +124,7 @@ fn is_plan(goals: &[i32], plan: &[u8]) -> bool
     requires { length goals.now ≡ 253 }
     ensures { SaysWhether result (Plan goals.now plan.now) }
 {
-    let mut stood = [0u8; plan::IDS];
+    let mut stood = [false; plan::IDS];
     let mut at = 0;
     while at < plan.len() {
         let Verdict::Packet(n) = Protocol::Two.judge(plan, at) else {

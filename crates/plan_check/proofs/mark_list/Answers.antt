@@ -1,4 +1,5 @@
 use mathlib.Core.Path.{◌≡◌, sym, ap, ◌∙◌}
+use mathlib.Core.Bool.{false}
 use Prim.Native.Nat.{ℕ, ◌+◌, ◌≤◌}
 use native.Mathlib.Omega.{arith}
 use lib.IntN.{ℤ, pos}
@@ -46,10 +47,10 @@ module _ (c : After-entry_fits) where
   held = to_z-of_z {w = w32} (sfits_of c.entry_fits-arg-1.given)
 
   stated : let a = c.args in
-      c.entry_fits.result ≡ fits (get_or a.goals.now id (pos 0)) (get_or c.loop-at.stood id 0) (number_at a.params.now (c.loop-at.at + 1) 4)
+      c.entry_fits.result ≡ fits (get_or a.goals.now id (pos 0)) (get_or c.loop-at.stood id false) (number_at a.params.now (c.loop-at.at + 1) 4)
   stated =
       let a = c.args in
-      c.entry_fits.ensures ∙ ap (λ (g : ℤ). fits g (get_or c.loop-at.stood id 0) (number_at a.params.now (c.loop-at.at + 1) 4)) held
+      c.entry_fits.ensures ∙ ap (λ (g : ℤ). fits g (get_or c.loop-at.stood id false) (number_at a.params.now (c.loop-at.at + 1) 4)) held
 
   fits_whole : c.loop-at.at + 5 ≤ length c.args.params.now
   fits_whole =

@@ -23,23 +23,23 @@ pub fn ends_mark(before: u8, bytes: &[u8], i: usize) -> bool
 fn fours_before_fd(body: &[u8]) -> usize
     ensures { (result ≤ length body.now) × NoFd body.now result }
 {
-    let mut n = 0;
-    while 4 <= body.len() - n {
-        if body[n] == 0xFD {
+    let (fours, _) = body.as_chunks::<4>();
+    for (i, four) in fours.iter().enumerate() {
+        let n = 4 * i;
+        if four[0] == 0xFD {
             return n;
         }
-        if body[n + 1] == 0xFD {
+        if four[1] == 0xFD {
             return n + 1;
         }
-        if body[n + 2] == 0xFD {
+        if four[2] == 0xFD {
             return n + 2;
         }
-        if body[n + 3] == 0xFD {
+        if four[3] == 0xFD {
             return n + 3;
         }
-        n += 4;
     }
-    n
+    4 * fours.len()
 }
 
 // How many bytes stand before the first FD. Up to there nothing is stuffed. [S1]

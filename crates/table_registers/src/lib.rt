@@ -195,25 +195,22 @@ fn first_ram(a: usize) -> Option<Row>
     requires { (64 ≤ a) × (a < 104) }
     ensures { result ≡ row_at a }
 {
-    if a < REG_TORQUE_ENABLE + SIZE_TORQUE_ENABLE {
-        return Some(Row::in_ram(REG_TORQUE_ENABLE, SIZE_TORQUE_ENABLE, 0, 1));
+    match a {
+        REG_TORQUE_ENABLE => Some(Row::in_ram(REG_TORQUE_ENABLE, SIZE_TORQUE_ENABLE, 0, 1)),
+        REG_LAMP => Some(Row::in_ram(REG_LAMP, SIZE_LAMP, 0, 1)),
+        REG_STATUS_RETURN_LEVEL => Some(Row::in_ram(
+            REG_STATUS_RETURN_LEVEL,
+            SIZE_STATUS_RETURN_LEVEL,
+            0,
+            2,
+        )),
+        REG_REGISTERED_INSTRUCTION => Some(Row::read_only(
+            REG_REGISTERED_INSTRUCTION,
+            SIZE_REGISTERED_INSTRUCTION,
+        )),
+        REG_HARDWARE_ERROR => Some(Row::read_only(REG_HARDWARE_ERROR, SIZE_HARDWARE_ERROR)),
+        _ => None,
     }
-    if a < REG_LAMP + SIZE_LAMP {
-        return Some(Row::in_ram(REG_LAMP, SIZE_LAMP, 0, 1));
-    }
-    if a < REG_STATUS_RETURN_LEVEL {
-        return None;
-    }
-    if a < REG_STATUS_RETURN_LEVEL + SIZE_STATUS_RETURN_LEVEL {
-        return Some(Row::in_ram(REG_STATUS_RETURN_LEVEL, SIZE_STATUS_RETURN_LEVEL, 0, 2));
-    }
-    if a < REG_REGISTERED_INSTRUCTION + SIZE_REGISTERED_INSTRUCTION {
-        return Some(Row::read_only(REG_REGISTERED_INSTRUCTION, SIZE_REGISTERED_INSTRUCTION));
-    }
-    if a < REG_HARDWARE_ERROR + SIZE_HARDWARE_ERROR {
-        return Some(Row::read_only(REG_HARDWARE_ERROR, SIZE_HARDWARE_ERROR));
-    }
-    None
 }
 
 // Goal velocity, goal position, present position.

@@ -41,14 +41,12 @@ fn mark_list(goals: &[i32], params: &[u8], stood: &mut [bool]) -> bool
     requires { (length goals.now ≡ 253) × (length stood.old ≡ 253) × SomeFound params.now }
     ensures { MarkSays goals.now stood.old params.now stood.new result }
 {
-    let mut at = LIST;
-    while at < params.len() {
+    for at in (LIST..params.len()).step_by(ENTRY) {
         let id = params[at] as usize;
         if !entry_fits(params, at, goals[id], stood[id]) {
             return false;
         }
         stood[id] = true;
-        at += ENTRY;
     }
     true
 }

@@ -1,18 +1,17 @@
 -- Entry after entry.
 use mathlib.Core.Path.{◌≡◌, refl, sym, ap, ap₂, ◌∙◌}
-use mathlib.Core.Bool.{Bool, true, false}
+use mathlib.Core.Bool.{true, false}
 use mathlib.Core.List.{List, [], ◌∷◌, ◌++◌, append-nil, append_assoc}
 use borrow.Rule.Slice.PartMut.{put_mid}
 use Rattle.std.specs.List.{filter}
 use Prim.Native.Nat.{ℕ, suc, ◌+◌, ◌*◌, ◌≤◌, ◌<◌}
 use native.Mathlib.Numerals.{add-one}
 use native.Mathlib.Omega.{arith}
-use lib.Dec.{ltb}
 use lib.IntN.{ℤ, pos, negsuc}
 use lib.ListN.{length, take, drop, get_or, set, length-append, length-drop, length-take, drop_of_length-le}
 use lib.Seq.{drop-cons, drop-drop, take-add, drop-append_seam}
 use lib.Signed.{le_z}
-use borrow.Author.Tests.{le-leb, leb-false, ltb-true, ltb-false}
+use borrow.Author.Tests.{le-leb, leb-false}
 use Rattle.lists.specs.Write.{overwritten, placed}
 use Rattle.lists.proofs.Write.{overwritten_take, overwritten_parts}
 use Rattle.table_items.specs.Items.{unsigned}
@@ -54,13 +53,6 @@ module _ (goals : List ℤ) (id : ℕ) where
   pub at_end : length goals ≤ id → entries_at goals id ≡ []
   unfolding entries_from
   at_end h = ap (λ (l : List ℤ). entries_from l id) (drop_of_length-le goals h)
-
-  pub at_some : 0 < length (entries_at goals id) → id < length goals
-  at_some h = by_test (ltb id (length goals)) refl
-    where
-      by_test : (b : Bool) → ltb id (length goals) ≡ b → id < length goals
-      by_test true t = ltb-true id (length goals) t
-      by_test false t = absurd (omega (arith, ap length (at_end (ltb-false id (length goals) t))))
 
 -- ---- writing
 
@@ -108,9 +100,6 @@ module _ (goals : List ℤ) (from k : ℕ) (old : List ℕ) where
 
     pub filling_skip : id < length goals → le_z (pos 0) (get_or goals id (pos 0)) ≡ false → Filling out (id + 1) i
     filling_skip h e = record { some = f.some; left = sym (at_unwanted goals id h e) ∙ f.left; holds = f.holds }
-
-    pub filling_more : k ≤ length entries → i < k → 0 < length (entries_at goals id)
-    filling_more h l = omega (arith, ap length f.left, length-drop i entries)
 
     pub filling_next : (new : List ℕ) → k ≤ length entries → i < k → id < length goals → le_z (pos 0) (get_or goals id (pos 0)) ≡ true
         → new ≡ placed out (5 * i) (entry_bytes (id, unsigned (get_or goals id (pos 0)))) → Filling new (id + 1) (i + 1)

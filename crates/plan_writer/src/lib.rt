@@ -40,16 +40,17 @@ fn write_entries(goals: &[i32], from: usize, k: usize, out: &mut [u8]) -> usize
     ensures result_value { entries_at goals.now result ≡ drop k (entries_at goals.now from) }
     ensures out_after { out.new ≡ overwritten out.old (list_bytes (take k (entries_at goals.now from))) }
 {
-    let mut id = from;
     let mut i = 0;
-    while i < k {
-        if 0 <= goals[id] {
+    for id in from..goals.len() {
+        if i == k {
+            return id;
+        }
+        if goals[id] >= 0 {
             write_entry(id as u8, goals[id], &mut out[5 * i..]);
             i += 1;
         }
-        id += 1;
     }
-    id
+    goals.len()
 }
 
 fn write_head(out: &mut [u8])
@@ -112,7 +113,7 @@ pub fn write_plan(goals: &[i32], out: &mut [u8]) -> Result<usize, Refusal>
 {
     plan::test_goals(goals)?;
     let n = count_wanted(goals);
-    let size = 14 * ((n + 202) / MOST) + 5 * n;
+    let size = 14 * n.div_ceil(MOST) + 5 * n;
     if out.len() < size {
         return Err(Refusal::NoRoom);
     }

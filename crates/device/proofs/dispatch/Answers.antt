@@ -22,7 +22,7 @@ pub returns : goal.returns
 returns c =
     let a = c.args in
     let e = to_device a.table.now a.registered.now a.heard a.id a.body.now _ refl
-        (λ f. elim c.else-not-own.either [ inl p ↦ p.1 | inr e ↦ absurd (both_ways _ (eq-eqb _ _ e) f) ]) in
+    (λ f. elim c.else-not-own.either [ inl p ↦ p.1 | inr e ↦ absurd (both_ways _ (eq-eqb _ _ e) f) ]) in
     record {
       value = c.execute.ensures.value ∙ ap carried_of e;
       registered_after = c.execute.ensures.registered_after ∙ ap (λ (x : Carried). x.registered) e;

@@ -173,6 +173,7 @@ fn moved(registered: RegisteredWrite) -> RegisteredWrite
     }
 }
 
+// The status is in the caller's buffer.
 pub fn response(answer: Result<Sent, Refusal>, kept: RegisteredWrite) -> DeviceNumbers
     ensures { result ≡ device_numbers answer kept }
 {
@@ -256,6 +257,7 @@ impl From<Result<Figures, Refusal>> for SalvagedNumbers {
     }
 }
 
+// 1 for a plan of the wanted goals, 0 for other bytes.
 pub fn tested(answer: Result<bool, Refusal>) -> i64
     ensures { result ≡ tested_number answer }
 {

@@ -98,7 +98,7 @@ impl Device {
     fn blank() -> Self {
         Device {
             table: [0u8; TABLE_BYTES],
-            registered: device_instructions::dropped(),
+            registered: RegisteredWrite::none(),
         }
     }
 

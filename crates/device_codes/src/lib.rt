@@ -1,7 +1,7 @@
 // The numbers in the bodies of packets: instructions, and the error numbers of a status.
 #![tactic(auto)]
 
-ghost use Rattle.std.specs.Prelude.{◌≡◌};
+ghost use Rattle.std.specs.Prelude.{◌≡◌, Some};
 ghost use Rattle.device_codes.specs.Codes.{instruction_of};
 
 // The instructions, by the first byte of a body.
@@ -42,6 +42,16 @@ impl Instruction {
             0x93 => Some(Instruction::BulkWrite),
             _ => None,
         }
+    }
+}
+
+// Its number, by which it is found again. [D2]
+impl From<Instruction> for u8 {
+    ghost from_gives = { λ instruction code. instruction_of code ≡ Some instruction };
+
+    #[tactic(auto, unfolding(crate::specs::Codes::instruction_of))]
+    fn from(instruction: Instruction) -> u8 {
+        instruction as u8
     }
 }
 

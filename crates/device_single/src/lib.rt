@@ -32,7 +32,7 @@ fn refused(table: &[u8], right: bool, all: bool, level: Level) -> Option<Reacted
 pub fn heard_ping(table: &[u8], all: bool, params: &[u8]) -> Reacted
     ensures { (w : _) → told result w ≡ reacted_of (sized_reaction table.now w (heard_ping all table.now w params.now)) }
 {
-    if let Some(refused) = refused(table, params.len() == 0, all, Level::Ping) {
+    if let Some(refused) = refused(table, params.is_empty(), all, Level::Ping) {
         return refused;
     }
     let slot = if all { usize::from(table[REG_ID]) } else { 0 };
@@ -94,7 +94,7 @@ pub fn heard_action(
     ensures value { told result registered.new ≡ reacted_of (sized_reaction table.old registered.old (heard_action all table.old registered.old params.now)) }
     ensures table_after { table.new ≡ (sized_reaction table.old registered.old (heard_action all table.old registered.old params.now)).effect.table }
 {
-    if let Some(refused) = refused(&table[..], params.len() == 0, all, Level::All) {
+    if let Some(refused) = refused(&table[..], params.is_empty(), all, Level::All) {
         return refused;
     }
     let outcome = device_instructions::action(table, registered);
@@ -111,7 +111,7 @@ pub fn heard_reboot(
     ensures value { told result registered.new ≡ reacted_of (sized_reaction table.old registered.old (heard_reboot all table.old registered.old params.now)) }
     ensures table_after { table.new ≡ (sized_reaction table.old registered.old (heard_reboot all table.old registered.old params.now)).effect.table }
 {
-    if let Some(refused) = refused(&table[..], params.len() == 0, all, Level::All) {
+    if let Some(refused) = refused(&table[..], params.is_empty(), all, Level::All) {
         return refused;
     }
     let outcome = device_instructions::reboot(table, registered);

@@ -267,9 +267,7 @@ fn feed_slices(
                 taken + more,
                 packet,
             ),
-            Stop::Full { taken: more } => {
-                taken += more;
-            }
+            Stop::Full { taken: more } => taken += more,
         }
         let byte = chunk[taken];
         taken += 1;

@@ -267,31 +267,24 @@ fn feed_slices(
                 taken + more,
                 packet,
             ),
-            Stop::Full { taken: more } => {
-                taken += more;
-            }
+            Stop::Full { taken: more } => taken += more,
         }
         let byte = chunk[taken];
         taken += 1;
         n = held.len();
-        match judge_longest(protocol, held, byte, packet) {
+        let (left, event) = match judge_longest(protocol, held, byte, packet) {
             Verdict::Packet(size) => {
                 let id = id_in(protocol, packet);
-                return Step {
-                    taken,
-                    held: 0,
-                    event: Some(Event::Packet { id, size }),
-                };
+                (0, Event::Packet { id, size })
             }
-            Verdict::BadChecksum(id) => {
-                return Step {
-                    taken,
-                    held: n,
-                    event: Some(Event::BadChecksum { id }),
-                }
-            }
-            _ => {}
-        }
+            Verdict::BadChecksum(id) => (n, Event::BadChecksum { id }),
+            _ => continue,
+        };
+        return Step {
+            taken,
+            held: left,
+            event: Some(event),
+        };
     }
 }
 

@@ -134,6 +134,7 @@ struct Received {
 }
 
 // The stuffing of a packet is removed; what is no packet has an empty body.
+#[inline(always)]
 fn receive(event: Event, packet: &mut [u8]) -> Received
     requires { Fits (Some event) packet.old }
     ensures value { result ≡ received_by event packet.old }
@@ -181,6 +182,7 @@ impl Came {
 }
 
 // An event for this device is carried out; its body stands in the buffer.
+#[inline(always)]
 fn carry_out(
     table: &mut [u8; TABLE_BYTES],
     registered: RegisteredWrite,
@@ -207,6 +209,7 @@ fn carry_out(
 }
 
 // What follows a call of the reader: its event, if any, is carried out if it is for this device.
+#[inline(always)]
 fn follow(
     step: Step,
     packet: &mut [u8; MAX_PACKET],

@@ -131,12 +131,15 @@ impl Protocol {
     pub fn next_start(self, segment: &[u8], from: usize) -> usize
         ensures { result ≡ from + before_start (may_begin_of self) (drop from segment.now) }
     {
-        for at in from..segment.len() {
+        // A `while`: as a `for` it takes a fifth more instructions on noise.
+        let mut at = from;
+        while at < segment.len() {
             if self.may_begin(&segment[at..]) {
                 return at;
             }
+            at += 1;
         }
-        from.max(segment.len())
+        at
     }
 
     // The verdict on all bytes of a packet whose header, ID and length are right. [O5 O6]
@@ -152,6 +155,7 @@ impl Protocol {
     // The verdict on the bytes of a segment from an offset on, while the segment is open; past its end there are none. The
     // checksum is computed at most once, and only if all bytes of the packet are there.
     // [C4 M1 M2 O1-O7 P1-P5 P7-P10 S2 S4 S5 V3-V6 V8 V9 V11]
+    #[inline]
     pub fn judge(self, segment: &[u8], offset: usize) -> Verdict
         ensures { result ≡ answer_by (rules_of self) (drop offset segment.now) }
     {

@@ -23,23 +23,23 @@ pub fn ends_mark(before: u8, bytes: &[u8], i: usize) -> bool
 fn fours_before_fd(body: &[u8]) -> usize
     ensures { (result ≤ length body.now) × NoFd body.now result }
 {
-    let (fours, _) = body.as_chunks::<4>();
-    for (i, four) in fours.iter().enumerate() {
-        let n = 4 * i;
-        if four[0] == 0xFD {
+    let mut n = 0;
+    while 4 <= body.len() - n {
+        if body[n] == 0xFD {
             return n;
         }
-        if four[1] == 0xFD {
+        if body[n + 1] == 0xFD {
             return n + 1;
         }
-        if four[2] == 0xFD {
+        if body[n + 2] == 0xFD {
             return n + 2;
         }
-        if four[3] == 0xFD {
+        if body[n + 3] == 0xFD {
             return n + 3;
         }
+        n += 4;
     }
-    4 * fours.len()
+    n
 }
 
 // How many bytes stand before the first FD. Up to there nothing is stuffed. [S1]
@@ -61,31 +61,37 @@ pub fn check(body: &[u8]) -> Option<usize>
 {
     let plain = before_fd(body);
     let mut n = plain;
-    let mut after_mark = false;
-    for i in plain..body.len() {
-        if !after_mark {
-            n += 1;
-        } else if body[i] != 0xFD {
-            return None;
+    let mut i = plain;
+    while i < body.len() {
+        if ends_mark(0, body, i) {
+            i += 1;
+            if body.len() <= i {
+                return None;
+            }
+            if body[i] != 0xFD {
+                return None;
+            }
         }
-        after_mark = ends_mark(0, body, i);
+        n += 1;
+        i += 1;
     }
-    if after_mark { None } else { Some(n) }
+    Some(n)
 }
 
 // Writes the body without its stuffing to the start of out, which has room for it.
 fn write_unstuffed(body: &[u8], out: &mut [u8])
-    requires { length (unstuff body.now) ≤ length out.old }
+    requires { (well_stuffed body.now ≡ true) × (length (unstuff body.now) ≤ length out.old) }
     ensures { out.new ≡ overwritten out.old (unstuff body.now) }
 {
     let mut j = 0;
-    let mut after_mark = false;
-    for (i, &byte) in body.iter().enumerate() {
-        if !after_mark {
-            out[j] = byte;
-            j += 1;
+    let mut i = 0;
+    while i < body.len() {
+        out[j] = body[i];
+        j += 1;
+        if ends_mark(0, body, i) {
+            i += 1;
         }
-        after_mark = ends_mark(0, body, i);
+        i += 1;
     }
 }
 

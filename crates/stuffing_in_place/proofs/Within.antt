@@ -1,13 +1,10 @@
 -- Bytes that are written over those that were read: what is behind the place of reading is as it was.
-use mathlib.Core.Path.{◌≡◌, refl, sym, ap, subst, ◌∙◌}
-use mathlib.Core.Bool.{Bool, true, false, cond, ◌&&◌}
+use mathlib.Core.Path.{◌≡◌, refl, sym, ap, ◌∙◌}
+use mathlib.Core.Bool.{true, false, cond}
 use mathlib.Core.List.{List, [], ◌∷◌, ◌++◌}
 use Prim.Native.Nat.{ℕ, ◌+◌, ◌-◌, ◌≤◌, ◌<◌}
 use native.Mathlib.Numerals.{add-one}
 use native.Mathlib.Omega.{arith}
-use lib.Dec.{eqb}
-use borrow.Author.Tests.{eqb-true}
-use Rattle.lists.proofs.Bools.{and_left}
 use lib.ListN.{length, take, drop, get_or, set, drop_of_length-le, length-append, take-append-drop}
 use lib.Seq.{length-take-le, take_at, drop-cons, drop_at, drop-drop}
 use Rattle.lists.specs.Write.{overwritten}
@@ -20,10 +17,6 @@ pub record Within (old body : List ℕ) (a b c j i : ℕ) : Type 0 where
   pub read : i ≤ length old
   pub back : j ≤ i
   pub fill : Filling (unstuff old) old body j (unstuff_after a b c (drop i old))
-
--- the first of the last three is FF where a mark ends with them, and else it does not matter
-abbrev pub Flagged : List ℕ → List ℕ → Bool → ℕ → ℕ → ℕ → ℕ → Type 0
-Flagged old body m b c j i = (m ≡ mark (cond m 0xFF 0) b c) × Within old body (cond m 0xFF 0) b c j i
 
 pub starts : (old : List ℕ) (n : ℕ) → Plain old n → Within old old 0 0 0 n n
 starts old n p =
@@ -46,7 +39,7 @@ unmarked_after a b c [] m = refl
 unmarked_after a b c (d ∷ s) m = rw m refl
 
 module _ (old body : List ℕ) (a b c j i : ℕ) (w : Within old body a b c j i) where
-  same_length : length body ≡ length old
+  pub same_length : length body ≡ length old
   same_length = fill_length (unstuff old) old body j _ w.fill
 
   -- what is still to be read
@@ -91,15 +84,8 @@ module _ (old body : List ℕ) (a b c j i : ℕ) (w : Within old body a b c j i)
         record { read = omega (arith, h'); back = omega arith; fill = rw (turn, m) at w.fill }
 
   -- where no mark ends with them, the first of the last three does not matter
-  forgotten : mark a b c ≡ false → Within old body 0 b c j i
+  pub forgotten : mark a b c ≡ false → Within old body 0 b c j i
   forgotten m = record { read = w.read; back = w.back; fill = rw (unmarked_after a b c (drop i old) m) at w.fill }
-
-  -- so whether a mark ends with them says enough of it
-  pub flagged : (m : Bool) → m ≡ mark a b c → Flagged old body m b c j i
-  flagged false e = (refl, forgotten (sym e))
-  flagged true e =
-      let first : a ≡ 0xFF = eqb-true a 0xFF (and_left (eqb a 0xFF) (eqb b 0xFF && eqb c 0xFD) (sym e)) in
-      (subst (λ (x : ℕ). true ≡ mark x b c) first e, subst (λ (x : ℕ). Within old body x b c j i) first w)
 
   module _ (h : length body ≤ i) where
     ended : Filling (unstuff old) old body j []

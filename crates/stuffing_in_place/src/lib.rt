@@ -30,20 +30,27 @@ pub fn unstuff_in_place(body: &mut [u8]) -> usize
     ensures value { result ≡ length (unstuff body.old) }
     ensures body_after { body.new ≡ overwritten body.old (unstuff body.old) }
 {
-    let start = first_read(&body[..]);
     let mut a: u8 = 0;
     let mut b: u8 = 0;
-    let mut after_mark = false;
+    let start = first_read(&body[..]);
     let mut j = start;
-    for i in start..body.len() {
+    let mut i = start;
+    while i < body.len() {
         let c = body[i];
-        if !after_mark {
-            body[j] = c;
-            j += 1;
+        body[j] = c;
+        j += 1;
+        i += 1;
+        if is_mark(a, b, c) {
+            if body.len() <= i {
+                return j;
+            }
+            a = c;
+            b = body[i];
+            i += 1;
+        } else {
+            a = b;
+            b = c;
         }
-        after_mark = is_mark(a, b, c);
-        a = b;
-        b = c;
     }
     j
 }

@@ -41,7 +41,7 @@ returns-then-out-n c =
     }
 
 pub write_unstuffed-requires : goal.write_unstuffed-requires
-write_unstuffed-requires c = let g = good (goal.at.write_unstuffed-requires c).In-Some in omega arith
+write_unstuffed-requires c = let g = good (goal.at.write_unstuffed-requires c).In-Some in (g.0, omega arith)
 
 pub returns-then-n-body : goal.returns-then-n-body
 unfolding removal_refusal

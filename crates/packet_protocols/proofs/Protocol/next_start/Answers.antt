@@ -1,7 +1,12 @@
-use Rattle.std.proofs.Common.{◌∙◌, arith}
+use mathlib.Core.Path.{refl, ◌∙◌}
+use Prim.Native.Nat.{◌-◌}
+use native.Mathlib.Omega.{arith}
 use Rattle.packet_rules.proofs.Starts.{start_here, start_later, start_past, may_at}
 use Rattle.packet_protocols.specs.Protocols.{may_begin_of}
 use Rattle.packet_protocols.proofs.Protocol.next_start.Goals as goal
+
+pub loop-at-init : goal.loop-at-init
+loop-at-init c = refl
 
 pub returns-then-may_begin : goal.returns-then-may_begin
 returns-then-may_begin c =
@@ -21,7 +26,4 @@ loop-at-preserved c =
     ∙ start_later may s c.loop-at.at c.loop-at-test.true (may_at may s c.loop-at.at _ _ c.may_begin.ensures c.if-may_begin.false)
 
 pub returns : goal.returns
-returns c =
-    let s = c.args.segment.now in
-    let may = may_begin_of c.args.self in
-    grind (arith, c.loop-at.invariant, start_past may s c.loop-at.at c.loop-at-test.false, start_past may s c.args.from)
+returns c = omega (arith, c.loop-at.invariant, start_past (may_begin_of c.args.self) c.args.segment.now c.loop-at.at c.loop-at-test.false)

@@ -6,7 +6,8 @@ crates/table_registers/specs/Registers.antt. Instructions and the errors 02 and
 03: crates/device_dispatch/specs/Reactions.antt. Errors 04 to 07: crates/table_rules/specs/Outcomes.antt. The alert:
 crates/device_status/specs/Status.antt. The version: crates/capi/specs/Version.antt. A definition may write a number or the name of one that is defined elsewhere under specs/.
 
-A constant of the code has the header's name without DXL_, and its number, and is said once.
+A constant of the code, or a variant with a number of one of its enums, has the header's name without DXL_, and its number, and is
+said once.
 """
 import re
 import sys
@@ -26,6 +27,8 @@ WORDS = {"DEVICE_ID": "ID", "NO_ACCESS": "ACCESS"}
 NOT_IN_CODE = {"MAX_STATUS", "NO_EVENT", "PACKET", "BAD_CHECKSUM"}
 # A constant that begins so is in the header.
 GROUPS = ("REG_", "SIZE_", "FRESH_", "INST_", "ERROR_", "VERSION_")
+# Enums whose variants with numbers are names of the header, and what these begin with there.
+ENUMS = {"Refusal": "", "Instruction": "INST_", "ErrorNumber": "ERROR_", "Fault": ""}
 
 
 def upper(name):
@@ -73,7 +76,7 @@ def errors():
     reactions, outcomes = REACTIONS.read_text(encoding="utf-8"), OUTCOMES.read_text(encoding="utf-8")
     undefined = re.search(r"^heard_undefined all table w = reacting \(refusing table w (\S+)\)", reactions, flags=re.M).group(1)
     checksum = re.search(r"^reaction BadChecksum all table w body = reacting \(refusing table w (\S+)\)", reactions, flags=re.M).group(1)
-    found = re.findall(r"^refusal_of (\w+) = some (\S+)$", outcomes, flags=re.M)
+    found = re.findall(r"^denial_number (\w+) = (\S+)$", outcomes, flags=re.M)
     values = {f"DXL_ERROR_{upper(name)}": number(code) for name, code in found if name != "NotTable"}
     alert = re.search(r"\(error % (\S+) \+ \1\)", STATUS.read_text(encoding="utf-8")).group(1)
     return {"DXL_ERROR_INSTRUCTION": number(undefined), "DXL_ERROR_CHECKSUM": number(checksum), "DXL_ERROR_ALERT": number(alert),
@@ -91,11 +94,15 @@ def version():
 
 
 def constants():
-    """Name -> number and file of each constant of the code that is no array."""
+    """Name -> number and file of each constant of the code that is no array, and of each variant with a number."""
     written = {}
     for path in sorted(Path("crates").glob("*/src/**/*.rt")):
-        for name, value in re.findall(r"^(?:pub )?const (\w+): \w+ = (.*);$", path.read_text(encoding="utf-8"), flags=re.M):
+        text = path.read_text(encoding="utf-8")
+        for name, value in re.findall(r"^(?:pub )?const (\w+): \w+ = (.*);$", text, flags=re.M):
             written.setdefault(name, []).append((value, path))
+        for enum, body in re.findall(r"^pub enum (\w+) \{\n(.*?)^\}", text, flags=re.M | re.S):
+            for name, value in re.findall(r"^    (\w+) = (\w+),$", body, flags=re.M) if enum in ENUMS else []:
+                written.setdefault(ENUMS[enum] + upper(name), []).append((value, path))
 
     def value_of(text):
         terms = [re.sub(r" as \w+$", "", term) for term in text.split(" + ")]

@@ -22,7 +22,10 @@ from statements import Statements, clauses, read
 PAGE = Path("docs/PROMISES.md")
 RULES = Path("docs/RULES.md")
 # the head of a function with its contract: its body's brace stands alone, and where there is no contract it ends the head's last line
-HEAD_OF = r'^(pub )?(?:extern "C" )?fn (\w+)(?:(?:(?!\b(?:ensures|requires|decreases)\b)[^{])*? \{$|.*?^\{)'
+HEAD_OF = r'^( *)(pub )?(?:const )?(?:extern "C" )?fn (\w+)(?:(?:(?!\b(?:ensures|requires|decreases)\b)[^{])*?( \{)$|.*?^\1\{)'
+IMPL = r"^impl(?:<.*?>)? (?:([\w:]+)(<.*?>)? for )?(\w+)\b[^\n]*\{\n(.*?)^\}"
+# a ghost member of an impl that says what its method answers
+GIVES = r"^    ghost \w+_gives = (\{.*?\});$"
 TAG = re.compile(r"\[((?:[A-Z]\d+(?:-[A-Z]\d+)?)(?:[ ,]+[A-Z]\d+(?:-[A-Z]\d+)?)*)\]\s*(?:\*/)?\s*(?:\"\"\")?$")
 
 
@@ -101,14 +104,26 @@ def definitions():
 
 
 def functions():
-    """(crate, name, public, head with contract, comment) of each function of the crates."""
+    """(crate, name, public, head with contract, comment, path) of each function and method of the crates. An impl of a conversion is
+    one function, whose contract is what its ghost member gives."""
     for path in sorted(Path("crates").glob("*/src/**/*.rt")):
         text = read(path)
         lines = text.split("\n")
+        impls = list(re.finditer(IMPL, text, flags=re.M | re.S))
         for head in re.finditer(HEAD_OF, text, flags=re.M | re.S):
             number = text[:head.start()].count("\n")
-            comment = above(lines, number, r"^//", r"^#\[")
-            yield path.parts[1], head.group(2), bool(head.group(1)), head.group(), comment, path
+            inside = next((impl for impl in impls if impl.start() < head.start() < impl.end()), None)
+            if not inside or not inside.group(1):
+                comment = above(lines, number, r"^ *//", r"^ *#\[")
+                owner = f"{inside.group(3)}::" if inside else ""
+                yield path.parts[1], owner + head.group(3), bool(head.group(2)), head.group(), comment, path
+        for impl in impls:
+            trait, given, name, body = impl.groups()
+            gives = re.findall(GIVES, body, flags=re.M | re.S)
+            if trait and gives:
+                comment = above(lines, text[:impl.start()].count("\n"), r"^//", r"^#\[")
+                head = "\n".join(f"ensures {each}" for each in gives)
+                yield path.parts[1], f"{trait}{given or ''} for {name}", True, head, comment, path
 
 
 def edits():
@@ -386,7 +401,7 @@ HEAD = """
 From each rule of [RULES.md](RULES.md) to its definitions; the functions that promise it; and the edits and tests that fail if it does not hold, in this order. `tools/promises.py` writes this page from the comments in the tree. An export is listed with the rules about the call itself, and also promises what the functions that it calls promise; a test of everything, as `device.random_calls`, is listed where no other test is.
 
 - `packet_front/Front.good_id` is a definition: `good_id` in `crates/packet_front/specs/Front.antt`; `.name` behind it is in the same file.
-- `dxl_encode` is the contract of an export, `packet_protocols::judge` that of a function in `crates/packet_protocols/src/lib.rt`. What the checker does not find of its proof by itself stands in `proofs/judge/`.
+- `dxl_encode` is the contract of an export, `packet_protocols::Protocol::judge` that of a method in `crates/packet_protocols/src/lib.rt`. What the checker does not find of its proof by itself stands in `proofs/Protocol/judge/`.
 - `packet_front/id_253` is an edit: `crates/packet_front/must-fail/id_253.edit`, a change that the checker has to refuse.
 - `verdict.every_id` is a test: `every_id` in the file `verdict` under `tests/`; `.name` behind it is in the same file.
 """

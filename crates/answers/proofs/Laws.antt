@@ -1,28 +1,26 @@
 -- What a caller learns from an answer, and from tests of which none fails.
+use Rattle.std.specs.Prelude.{Err, None, Ok, Option, Some}
 use mathlib.Core.Path.{◌≡◌, refl, sym, ap, ◌∙◌}
 use mathlib.Core.Bool.{Bool, true, false, cond}
 use mathlib.Core.List.{List, [], ◌∷◌}
-use mathlib.Core.Option.{Option, none, some}
 use Prim.Native.Nat.{ℕ}
-use native.Mathlib.Omega.{arith}
 use lib.Dec.{eqb}
 use Rattle.answers.specs.Refusals.{number_of}
 use Rattle.answers.specs.Answers.{answered}
 use Rattle.answers.specs.declared.Refusal.{Refusal}
 use Rattle.answers.specs.declared.Refusal.TheVariants.{BadId, TooLong, BadStuffing, NoRoom, NotATable, BadTableId, BadRegistered, ShortReply, BadReader, BadLog, BadLogId, BadLogSize, WrongIndex, NotGoals, BadGoal}
-use Rattle.answers.specs.declared.Answer.TheVariants.{Count, Refused}
 
-pub counted : (o : Option Refusal) (k n : ℕ) → answered o k ≡ Count n → (o ≡ none) × (k ≡ n)
-counted none k n e = (refl, cc)
-counted (some refusal) k n e = let z : ◌≡◌ {A = ℕ} 0 1 = cc in absurd (omega arith)
+pub counted : {A : Type 0} (o : Option Refusal) (k n : A) → answered o k ≡ Ok n → (o ≡ None) × (k ≡ n)
+counted None k n e = (refl, cc)
+counted (Some refusal) k n e = absurd cc
 
-pub refused : (o : Option Refusal) (k : ℕ) (refusal : Refusal) → answered o k ≡ Refused refusal → o ≡ some refusal
-refused none k refusal e = let z : ◌≡◌ {A = ℕ} 0 1 = cc in absurd (omega arith)
-refused (some other) k refusal e = cc
+pub refused : {A : Type 0} (o : Option Refusal) (k : A) (refusal : Refusal) → answered o k ≡ Err refusal → o ≡ Some refusal
+refused None k refusal e = absurd cc
+refused (Some other) k refusal e = cc
 
-pub passed : {R : Type 0} (b : Bool) (x : R) (rest : Option R) → cond b rest (some x) ≡ none → (b ≡ true) × (rest ≡ none)
+pub passed : {R : Type 0} (b : Bool) (x : R) (rest : Option R) → cond b rest (Some x) ≡ None → (b ≡ true) × (rest ≡ None)
 passed true x rest e = (refl, e)
-passed false x rest e = let z : ◌≡◌ {A = ℕ} 0 1 = cc in absurd (omega arith)
+passed false x rest e = absurd cc
 
 -- ---- no two refusals have the same number
 

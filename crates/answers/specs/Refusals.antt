@@ -1,6 +1,6 @@
 -- The refusals: their numbers, which of them applies, and what a refused call leaves.
+use Rattle.std.specs.Prelude.{None, Option, Some}
 use Rattle.std.specs.Prelude.{Bool, cond, List, [], ◌∷◌, ℕ}
-use Rattle.std.proofs.Math.Option.{Option, none, some}
 use Rattle.answers.specs.declared.Refusal.{Refusal}
 use Rattle.answers.specs.declared.Refusal.TheVariants.{BadId, TooLong, BadStuffing, NoRoom, NotATable, BadTableId, BadRegistered, ShortReply, BadReader, BadLog, BadLogId, BadLogSize, WrongIndex, NotGoals, BadGoal}
 
@@ -24,15 +24,15 @@ number_of BadGoal = 42
 
 -- tests in their order, each with what it answers where it fails: the first that fails decides [E8 N10 T6]
 abbrev pub first_failing : {R : Type 0} → List (Bool × R) → Option R
-first_failing [] = none
-first_failing (t ∷ tests) = cond t.0 (first_failing tests) (some t.1)
+first_failing [] = None
+first_failing (t ∷ tests) = cond t.0 (first_failing tests) (Some t.1)
 
 -- the first of two
 abbrev pub or_else : {R : Type 0} → Option R → Option R → Option R
-or_else none second = second
-or_else (some first) second = some first
+or_else None second = second
+or_else (Some first) second = Some first
 
 -- what a buffer holds: a refusal leaves it as it was [E8 N12]
 abbrev pub unless_refused : {R : Type 0} → Option R → List ℕ → List ℕ → List ℕ
-unless_refused none old new = new
-unless_refused (some refusal) old new = old
+unless_refused None old new = new
+unless_refused (Some refusal) old new = old

@@ -2,9 +2,10 @@
 -- calls.
 use mathlib.Core.Path.{◌≡◌, refl, sym, ap, ◌∙◌}
 use mathlib.Core.List.{List, ◌++◌, append_assoc}
-use Prim.Native.Nat.{ℕ, zero, suc, ◌+◌, ◌-◌, ◌≤◌, min}
+use Prim.Native.Nat.{ℕ, ◌+◌, ◌-◌, ◌≤◌, min}
 use native.Mathlib.Omega.{arith}
 use lib.ListN.{length, take, drop, replicate, length-take, replicate-append-replicate}
+use Rattle.std.proofs.lemmas.List.{drop-replicate}
 use lib.Seq.{take_at, drop_at, drop-drop}
 use borrow.Author.Tests.{le-leb}
 use Rattle.lists.specs.Write.{padded}
@@ -16,11 +17,6 @@ use Rattle.reader_core.proofs.Spared.{call_shorter}
 use Rattle.reader_records.specs.declared.Reader.{Reader}
 use Rattle.reader_records.specs.Records.{held_in, step_in, left_in, left_by}
 use Rattle.board.specs.Board.{reader_left}
-
-drop_zeros : (k n : ℕ) → drop {A = ℕ} k (replicate n 0) ≡ replicate (n - k) 0
-drop_zeros zero n = let z : n ≡ n - 0 = omega arith in ap (λ (m : ℕ). replicate m 0) z
-drop_zeros (suc k) zero = let z : 0 ≡ 0 - suc k = omega arith in ap (λ (m : ℕ). replicate m 0) z
-drop_zeros (suc k) (suc n) = let z : n - k ≡ suc n - suc k = omega arith in drop_zeros k n ∙ ap (λ (m : ℕ). replicate m 0) z
 
 joined_zeros : (a b n : ℕ) → a + b ≡ n → (later : List ℕ) → later ≡ replicate b 0 → replicate a 0 ++ later ≡ replicate n 0
 joined_zeros a b n z later e =
@@ -58,7 +54,7 @@ module _ (r : Reader) (c : Call) where
           omega (arith, held_few, call_shorter protocol2 laws (held_in r) c, length-take r.count r.bytes) in
           let e : later ≡ replicate (1030 - r.count - result.taken) 0 =
           sym (drop-drop result.taken r.count r.bytes) ∙ ap (λ (s : List ℕ). drop result.taken s) clean
-          ∙ drop_zeros result.taken (1030 - r.count) in
+          ∙ drop-replicate result.taken (1030 - r.count) 0 in
           let tail = joined_zeros a (1030 - r.count - result.taken) (1030 - length h) z later e in
           append_assoc h (replicate a 0) later ∙ ap (λ (s : List ℕ). h ++ s) tail
 

@@ -1,7 +1,7 @@
 -- A board: its reader, its control table and its registered write. What a call with bytes of the line makes of it: the reader's
 -- call, and what comes of it, if it is a packet or a bad checksum, is carried out at once.
+use Rattle.std.specs.Prelude.{None, Option, Some}
 use Rattle.std.specs.Prelude.{Bool, cond, ◌||◌, List, [], ◌∷◌, ℕ, leb, eqb, length, get_or}
-use Rattle.std.proofs.Math.Option.{Option, none, some}
 use Rattle.answers.specs.Refusals.{first_failing, or_else}
 use Rattle.answers.specs.declared.Refusal.{Refusal}
 use Rattle.answers.specs.declared.Refusal.TheVariants.{BadReader}
@@ -39,8 +39,8 @@ carried_out table w (bad_checksum id) = carry_out table w BadChecksum id []
 
 -- and where there is no event nothing is
 abbrev pub carried_if_any : List ℕ → RegisteredWrite → Option Event → Carried
-carried_if_any table w (some e) = carried_out table w e
-carried_if_any table w none = record { table = table; registered = w; reply = silence; error = 0 }
+carried_if_any table w (Some e) = carried_out table w e
+carried_if_any table w None = record { table = table; registered = w; reply = silence; error = 0 }
 
 -- ---- what firmware is told of an event
 
@@ -50,16 +50,16 @@ addressed table id = eqb id (own_id table) || eqb id 254
 
 -- the instruction of a packet that is for this device, by its ID before the packet is carried out; 0 beside anything else [B4]
 abbrev pub instruction_in : List ℕ → Option Event → ℕ
-instruction_in table (some (packet bytes)) = cond (addressed table (id_of bytes)) (get_or (body_of bytes) 0 0) 0
-instruction_in table (some (bad_checksum id)) = 0
-instruction_in table none = 0
+instruction_in table (Some (packet bytes)) = cond (addressed table (id_of bytes)) (get_or (body_of bytes) 0 0) 0
+instruction_in table (Some (bad_checksum id)) = 0
+instruction_in table None = 0
 
 -- the error number of that instruction, also where it is not answered; 3 for a bad checksum with the own ID; 0 beside anything else
 -- [B5]
 abbrev pub error_in : List ℕ → RegisteredWrite → Option Event → ℕ
-error_in table w (some (packet bytes)) = error_number table w Packet (id_of bytes) (unstuff (body_of bytes))
-error_in table w (some (bad_checksum id)) = cond (eqb id (own_id table)) 3 0
-error_in table w none = 0
+error_in table w (Some (packet bytes)) = error_number table w Packet (id_of bytes) (unstuff (body_of bytes))
+error_in table w (Some (bad_checksum id)) = cond (eqb id (own_id table)) 3 0
+error_in table w None = 0
 
 -- ---- a call
 
@@ -103,15 +103,15 @@ reader_left r c =
 -- The event of the reader's call is carried out on the table and the registered write as they stand. A refusal takes no byte and
 -- leaves everything as it was. [B1 B2]
 abbrev pub outcome_unless : Option Refusal → Board → Call → Outcome
-outcome_unless none b c =
+outcome_unless None b c =
     let result = call protocol2 (held_in b.reader) c in
     let done = carried_if_any b.table b.registered result.answer in
     record {
       report = report_of b.table b.registered result.taken result.answer;
       board = record { reader = reader_left b.reader c; table = done.table; registered = done.registered };
     }
-outcome_unless (some refusal) b c =
-    record { report = report_of b.table b.registered 0 none; board = b }
+outcome_unless (Some refusal) b c =
+    record { report = report_of b.table b.registered 0 None; board = b }
 
 unfoldable pub outcome : Board → Call → Outcome
 outcome b c = outcome_unless (board_refusal b) b c

@@ -1,6 +1,6 @@
 -- What a call on a board answers as C gets it, and what it leaves of the packet buffer.
+use Rattle.std.specs.Prelude.{None, Option, Some}
 use Rattle.std.specs.Prelude.{List, ℕ, length}
-use Rattle.std.proofs.Math.Option.{Option, none, some}
 use Rattle.answers.specs.Refusals.{number_of}
 use Rattle.answers.specs.declared.Refusal.{Refusal}
 use Rattle.lists.specs.Write.{placed}
@@ -20,19 +20,19 @@ use Rattle.board.specs.declared.BoardStep.{BoardStep}
 
 -- kind 1 is a packet, with its byte count and ID, 2 a bad checksum, with its ID, and 0 no event [B3]
 abbrev pub kind_of : Option Event → ℕ
-kind_of (some (packet w)) = 1
-kind_of (some (bad_checksum id)) = 2
-kind_of none = 0
+kind_of (Some (packet w)) = 1
+kind_of (Some (bad_checksum id)) = 2
+kind_of None = 0
 
 abbrev pub count_of : Option Event → ℕ
-count_of (some (packet w)) = length w
-count_of (some (bad_checksum id)) = 0
-count_of none = 0
+count_of (Some (packet w)) = length w
+count_of (Some (bad_checksum id)) = 0
+count_of None = 0
 
 abbrev pub id_in : Option Event → ℕ
-id_in (some (packet w)) = id_of w
-id_in (some (bad_checksum id)) = id
-id_in none = 0
+id_in (Some (packet w)) = id_of w
+id_in (Some (bad_checksum id)) = id
+id_in None = 0
 
 abbrev pub step_with : Report → RegisteredWrite → BoardStep
 step_with r kept =
@@ -53,21 +53,21 @@ refused_step number w =
     record { taken = 0; count = 0; kind = number; id = 0; instruction = 0; error = 0; reply = silence; registered = w }
 
 abbrev pub step_unless : Option Refusal → Outcome → BoardStep
-step_unless none o = step_with o.report o.board.registered
-step_unless (some refusal) o = refused_step (number_of refusal) o.board.registered
+step_unless None o = step_with o.report o.board.registered
+step_unless (Some refusal) o = refused_step (number_of refusal) o.board.registered
 
 unfoldable pub board_step : Board → Call → BoardStep
 board_step b c = step_unless (board_refusal b) (outcome b c)
 
 -- the packet buffer, which the reader's call left so: in a packet the body without stuffing stands over the body [B7]
 abbrev pub buffer_for : List ℕ → Option Event → List ℕ
-buffer_for read (some (packet w)) = placed read 7 (unstuff (body_of w))
-buffer_for read (some (bad_checksum id)) = read
-buffer_for read none = read
+buffer_for read (Some (packet w)) = placed read 7 (unstuff (body_of w))
+buffer_for read (Some (bad_checksum id)) = read
+buffer_for read None = read
 
 abbrev pub buffer_unless : Option Refusal → List ℕ → List ℕ → Option Event → List ℕ
-buffer_unless none old read e = buffer_for read e
-buffer_unless (some refusal) old read e = old
+buffer_unless None old read e = buffer_for read e
+buffer_unless (Some refusal) old read e = old
 
 unfoldable pub buffer_left : Board → Call → List ℕ → List ℕ
 buffer_left b c old =

@@ -1,7 +1,7 @@
 // From the line to the table: a call takes bytes up to the next event and carries it out at once.
 #![tactic(auto)]
 
-ghost use Rattle.std.specs.Prelude.{◌≡◌, cond, ◌+◌, ◌≤◌, eqb, length, take, get_or};
+ghost use Rattle.std.specs.Prelude.{Some, ◌≡◌, cond, ◌+◌, ◌≤◌, eqb, length, take, get_or};
 ghost use Rattle.lists.specs.Write.{placed};
 ghost use Rattle.stuffing.specs.Stuffing.{unstuff};
 ghost use Rattle.reading.specs.Calls.{feed as call_feed, gap as call_gap};
@@ -11,17 +11,18 @@ ghost use Rattle.table_registers.specs.Registers.{table_size};
 ghost use Rattle.device_dispatch.specs.Reactions.{own_id};
 ghost use Rattle.device_status.specs.Status.{silence as status_silence};
 ghost use Rattle.device.specs.Device.{carry_out};
-ghost use Rattle.board.specs.Board.{addressed, lent_refusal, board_of, outcome};
-ghost use Rattle.board.specs.Numbers.{board_step, buffer_left};
-ghost use Rattle.board.specs.Inside.{number_if_any, Fits, buffer_by, body_by, body_to, kind_by, id_by, size_by, heard_by, step_of, came_of};
+ghost use Rattle.answers.specs.Refusals.{number_of};
+ghost use Rattle.board.specs.Board.{addressed, lent_refusal, carried_if_any, board_of, outcome};
+ghost use Rattle.board.specs.Numbers.{refused_step, board_step, buffer_left};
+ghost use Rattle.board.specs.Inside.{event_by, Fits, buffer_by, body_to, received_by, came_of, step_after};
 
-use answers::{BAD_READER, BAD_REGISTERED, BAD_TABLE_ID};
-use device_codes::ERROR_CHECKSUM;
+use answers::Refusal;
+use device_codes::ErrorNumber;
 use device_dispatch::Heard;
 use device_instructions::{MAX_REGISTERED, RegisteredWrite};
 use device_status::Reply;
 use packet_front::{BROADCAST_ID, MAX_ID, MAX_PACKET};
-use reader_core::{MAX_HELD, Step, StepEvent};
+use reader_core::{Event, MAX_HELD, Step};
 use table_registers::{REG_ID, TABLE_BYTES};
 
 // What a call returns: how many bytes it took; the event as of `dxl_feed`, or the number of a refusal as its kind; the instruction, if
@@ -46,21 +47,49 @@ pub const KIND_PACKET: u8 = 1;
 
 pub const KIND_BAD_CHECKSUM: u8 = 2;
 
-// The number of the caller's fault, 0 for none.
-fn refusal(held: usize, table: &[u8], registered: RegisteredWrite) -> u8
+impl BoardStep {
+    // Nothing is carried out: these bytes were taken, and no event came.
+    fn idle(taken: usize, registered: RegisteredWrite) -> Self
+        ensures { result ≡ record { taken = taken; count = 0; kind = 0; id = 0; instruction = 0; error = 0; reply = status_silence; registered = registered } }
+    {
+        BoardStep {
+            taken,
+            count: 0,
+            kind: KIND_NONE,
+            id: 0,
+            instruction: 0,
+            error: 0,
+            reply: device_status::silence(),
+            registered,
+        }
+    }
+
+    fn refused(refusal: Refusal, registered: RegisteredWrite) -> Self
+        ensures { result ≡ refused_step (number_of refusal) registered }
+    {
+        BoardStep {
+            kind: u8::from(refusal),
+            ..BoardStep::idle(0, registered)
+        }
+    }
+}
+
+// The fault in what the caller lends, if any.
+#[tactic(auto, unfolding(crate::specs::Board::lent_refusal, device::specs::Answers::state_refusal))]
+fn refusal(held: usize, table: &[u8], registered: RegisteredWrite) -> Option<Refusal>
     requires { length table.now ≡ table_size }
-    ensures { result ≡ number_if_any (lent_refusal held table.now registered) }
+    ensures { result ≡ lent_refusal held table.now registered }
 {
     if MAX_HELD < held {
-        return BAD_READER;
+        return Some(Refusal::BadReader);
     }
     if MAX_ID < table[REG_ID] {
-        return BAD_TABLE_ID;
+        return Some(Refusal::BadTableId);
     }
     if MAX_REGISTERED < registered.count {
-        return BAD_REGISTERED;
+        return Some(Refusal::BadRegistered);
     }
-    0
+    None
 }
 
 // Whether an event with this ID is for this device: it has the own ID, or that of all devices.
@@ -68,13 +97,7 @@ fn is_for(table: &[u8], id: u8) -> bool
     requires { length table.now ≡ table_size }
     ensures { result ≡ addressed table.now id }
 {
-    if id == table[REG_ID] {
-        return true;
-    }
-    if id == BROADCAST_ID {
-        return true;
-    }
-    false
+    id == table[REG_ID] || id == BROADCAST_ID
 }
 
 // The error number of a bad checksum: it is this device's fault only under its own ID.
@@ -83,54 +106,9 @@ fn checksum_error(table: &[u8], id: u8) -> u8
     ensures { result ≡ cond (eqb id (own_id table.now)) 3 0 }
 {
     if id == table[REG_ID] {
-        return ERROR_CHECKSUM;
-    }
-    0
-}
-
-// What the reader's event is told by.
-fn kind_of(event: StepEvent) -> u8
-    ensures { result ≡ kind_by event }
-{
-    match event {
-        StepEvent::Packet { id: _, size: _ } => KIND_PACKET,
-        StepEvent::BadChecksum { id: _ } => KIND_BAD_CHECKSUM,
-        StepEvent::Silent => KIND_NONE,
-        StepEvent::Refused(_) => KIND_NONE,
-    }
-}
-
-fn id_of(event: StepEvent) -> u8
-    ensures { result ≡ id_by event }
-{
-    match event {
-        StepEvent::Packet { id, size: _ } => id,
-        StepEvent::BadChecksum { id } => id,
-        StepEvent::Silent => 0,
-        StepEvent::Refused(_) => 0,
-    }
-}
-
-fn size_of(event: StepEvent) -> usize
-    ensures { result ≡ size_by event }
-{
-    match event {
-        StepEvent::Packet { id: _, size } => size,
-        StepEvent::BadChecksum { id: _ } => 0,
-        StepEvent::Silent => 0,
-        StepEvent::Refused(_) => 0,
-    }
-}
-
-// What the device hears in it.
-fn heard_of(event: StepEvent) -> Heard
-    ensures { result ≡ heard_by event }
-{
-    match event {
-        StepEvent::Packet { id: _, size: _ } => Heard::Packet,
-        StepEvent::BadChecksum { id: _ } => Heard::BadChecksum,
-        StepEvent::Silent => Heard::BadChecksum,
-        StepEvent::Refused(_) => Heard::BadChecksum,
+        ErrorNumber::Checksum as u8
+    } else {
+        0
     }
 }
 
@@ -145,29 +123,39 @@ fn strip_packet(packet: &mut [u8], size: usize) -> usize
     7 + stuffing_in_place::unstuff_in_place(&mut packet[7..end])
 }
 
-// The same of an event; what is no packet has an empty body.
-fn strip(event: StepEvent, packet: &mut [u8]) -> usize
-    requires { Fits event packet.old }
-    ensures value { result ≡ 7 + length (body_by event packet.old) }
-    ensures packet_after { packet.new ≡ buffer_by event packet.old }
-{
-    match event {
-        StepEvent::Packet { id: _, size } => strip_packet(packet, size),
-        StepEvent::BadChecksum { id: _ } => 7,
-        StepEvent::Silent => 7,
-        StepEvent::Refused(_) => 7,
-    }
+// An event: what C is told of it, what the device hears in it, and where the body of a packet ends, which begins behind seven bytes.
+#[derive(Clone, Copy)]
+struct Received {
+    kind: u8,
+    id: u8,
+    count: usize,
+    heard: Heard,
+    end: usize,
 }
 
-// The first byte of the body that stands in the buffer up to `end`; 0 where it has none.
-fn instruction_in(packet: &[u8], end: usize) -> u8
-    requires { (7 ≤ end) × (end ≤ length packet.now) }
-    ensures { result ≡ get_or (body_to end packet.now) 0 0 }
+// The stuffing of a packet is removed; what is no packet has an empty body.
+#[inline(always)]
+fn receive(event: Event, packet: &mut [u8]) -> Received
+    requires { Fits (Some event) packet.old }
+    ensures value { result ≡ received_by event packet.old }
+    ensures packet_after { packet.new ≡ buffer_by (Some event) packet.old }
 {
-    if end == 7 {
-        return 0;
+    match event {
+        Event::Packet { id, size } => Received {
+            kind: KIND_PACKET,
+            id,
+            count: size,
+            heard: Heard::Packet,
+            end: strip_packet(packet, size),
+        },
+        Event::BadChecksum { id } => Received {
+            kind: KIND_BAD_CHECKSUM,
+            id,
+            count: 0,
+            heard: Heard::BadChecksum,
+            end: 7,
+        },
     }
-    packet[7]
 }
 
 // What came of an event: the instruction and its error number, the reply that waits, the registered write from now on.
@@ -179,79 +167,78 @@ struct Came {
     registered: RegisteredWrite,
 }
 
-// Nothing, since it is for another device.
-fn passed(registered: RegisteredWrite) -> Came
-    ensures { result ≡ record { instruction = 0; error = 0; reply = status_silence; registered = registered } }
-{
-    Came {
-        instruction: 0,
-        error: 0,
-        reply: device_status::silence(),
-        registered,
+impl Came {
+    // Nothing, since it is for another device.
+    fn passed(registered: RegisteredWrite) -> Self
+        ensures { result ≡ record { instruction = 0; error = 0; reply = status_silence; registered = registered } }
+    {
+        Came {
+            instruction: 0,
+            error: 0,
+            reply: device_status::silence(),
+            registered,
+        }
     }
 }
 
-// An event for this device is carried out. Its body stands in the buffer up to `end`.
+// An event for this device is carried out; its body stands in the buffer.
+#[inline(always)]
 fn carry_out(
     table: &mut [u8; TABLE_BYTES],
     registered: RegisteredWrite,
-    heard: Heard,
-    id: u8,
+    event: Received,
     packet: &[u8],
-    end: usize,
 ) -> Came
-    requires { (7 ≤ end) × (end ≤ length packet.now) }
-    ensures value { result ≡ came_of table.old registered heard id (body_to end packet.now) }
-    ensures table_after { table.new ≡ (carry_out table.old registered heard id (body_to end packet.now)).table }
+    requires { (7 ≤ event.end) × (event.end ≤ length packet.now) }
+    ensures value { result ≡ came_of table.old registered event.heard event.id (body_to event.end packet.now) }
+    ensures table_after { table.new ≡ (carry_out table.old registered event.heard event.id (body_to event.end packet.now)).table }
 {
-    let wrong = checksum_error(&table[..], id);
-    let instruction = instruction_in(packet, end);
-    let carried = device::carry_out_tested(table, registered, heard, id, &packet[7..end]);
-    let reply = carried.reply;
-    let kept = carried.registered;
-    let error = match heard {
-        Heard::Packet => carried.error,
-        Heard::BadChecksum => wrong,
-    };
+    let wrong = checksum_error(&table[..], event.id);
+    let body = &packet[7..event.end];
+    let mut kept = registered;
+    let carried = device::carry_out_tested(table, &mut kept, event.heard, event.id, body);
     Came {
-        instruction,
-        error,
-        reply,
+        instruction: body.first().copied().unwrap_or(0),
+        error: match event.heard {
+            Heard::Packet => carried.error,
+            Heard::BadChecksum => wrong,
+        },
+        reply: carried.reply,
         registered: kept,
     }
 }
 
-// Nothing is carried out: no event, or a refusal by its number.
-fn idle_step(taken: usize, kind: u8, registered: RegisteredWrite) -> BoardStep
-    ensures { result ≡ record { taken = taken; count = 0; kind = kind; id = 0; instruction = 0; error = 0; reply = status_silence; registered = registered } }
+// What follows a call of the reader: its event, if any, is carried out if it is for this device.
+#[inline(always)]
+fn follow(
+    step: Step,
+    packet: &mut [u8; MAX_PACKET],
+    table: &mut [u8; TABLE_BYTES],
+    registered: RegisteredWrite,
+) -> BoardStep
+    requires { Fits step.event packet.old }
+    ensures value { result ≡ step_after table.old registered step.taken (event_by step.event packet.old) }
+    ensures table_after { table.new ≡ (carried_if_any table.old registered (event_by step.event packet.old)).table }
+    ensures packet_after { packet.new ≡ buffer_by step.event packet.old }
 {
+    let Some(event) = step.event else {
+        return BoardStep::idle(step.taken, registered);
+    };
+    let event = receive(event, packet);
+    let came = if is_for(&table[..], event.id) {
+        carry_out(table, registered, event, &packet[..])
+    } else {
+        Came::passed(registered)
+    };
     BoardStep {
-        taken,
-        count: 0,
-        kind,
-        id: 0,
-        instruction: 0,
-        error: 0,
-        reply: device_status::silence(),
-        registered,
-    }
-}
-
-// The event, and what came of it.
-fn step_of(taken: usize, event: StepEvent, came: Came) -> BoardStep
-    ensures { result ≡ step_of taken event came }
-{
-    let reply = came.reply;
-    let kept = came.registered;
-    BoardStep {
-        taken,
-        count: size_of(event),
-        kind: kind_of(event),
-        id: id_of(event),
+        taken: step.taken,
+        count: event.count,
+        kind: event.kind,
+        id: event.id,
         instruction: came.instruction,
         error: came.error,
-        reply,
-        registered: kept,
+        reply: came.reply,
+        registered: came.registered,
     }
 }
 
@@ -273,26 +260,14 @@ pub fn feed(
         × (packet.new
         ≡ buffer_left (board_of (lent held.old count.old) table.old registered) (call_feed chunk.now) packet.old) }
 {
-    let n = *count;
-    let number = refusal(n, &table[..], registered);
-    if number != 0 {
-        return idle_step(0, number, registered);
+    if let Some(fault) = refusal(*count, &table[..], registered) {
+        return BoardStep::refused(fault, registered);
     }
-    let step = reader_core::feed_lean(held, n, chunk, packet);
+    let Ok(step) = reader_core::feed_lean(held, *count, chunk, packet) else {
+        unreachable!()
+    };
     *count = step.held;
-    let event = step.event;
-    if let StepEvent::Silent = event {
-        return idle_step(step.taken, KIND_NONE, registered);
-    }
-    let end = strip(event, packet);
-    let id = id_of(event);
-    if !is_for(&table[..], id) {
-        let nothing = passed(registered);
-        return step_of(step.taken, event, nothing);
-    }
-    let heard = heard_of(event);
-    let came = carry_out(table, registered, heard, id, &packet[..], end);
-    step_of(step.taken, event, came)
+    follow(step, packet, table, registered)
 }
 
 // A gap call, likewise: the next event, with the held bytes as the end of the segment. Call it until nothing is left. [B1-B7]
@@ -311,24 +286,12 @@ pub fn gap(
         × (packet.new
         ≡ buffer_left (board_of (lent held.old count.old) table.old registered) call_gap packet.old) }
 {
-    let n = *count;
-    let number = refusal(n, &table[..], registered);
-    if number != 0 {
-        return idle_step(0, number, registered);
+    if let Some(fault) = refusal(*count, &table[..], registered) {
+        return BoardStep::refused(fault, registered);
     }
-    let step = reader_core::gap_lean(held, n, packet);
+    let Ok(step) = reader_core::gap_lean(held, *count, packet) else {
+        unreachable!()
+    };
     *count = step.held;
-    let event = step.event;
-    if let StepEvent::Silent = event {
-        return idle_step(step.taken, KIND_NONE, registered);
-    }
-    let end = strip(event, packet);
-    let id = id_of(event);
-    if !is_for(&table[..], id) {
-        let nothing = passed(registered);
-        return step_of(step.taken, event, nothing);
-    }
-    let heard = heard_of(event);
-    let came = carry_out(table, registered, heard, id, &packet[..], end);
-    step_of(step.taken, event, came)
+    follow(step, packet, table, registered)
 }

@@ -1,10 +1,10 @@
 -- What the theorems on boards ask for is computed, and what they give is handed on.
+use Rattle.std.specs.Prelude.{None}
 use mathlib.Core.Path.{◌≡◌, refl, sym, ap, ap₂, subst, ◌∙◌}
 use mathlib.Core.Bool.{false}
 use mathlib.Core.List.Memᴰ
 use mathlib.Core.List.{List, [], ◌∷◌, ◌++◌, map, Memᴰ}
 use mathlib.Core.Logic.{◌⊎◌, ⊎_elim, inl, inr}
-use mathlib.Core.Option.{none}
 use Prim.Native.Nat.{ℕ, ◌-◌}
 use native.Mathlib.Omega.{arith}
 use lib.IntN.{pos, negsuc}
@@ -493,7 +493,7 @@ nothing_given : given boards fresh (feed (take 7 ping_to_1) ∷ gap ∷ []) ≡ 
 unfolding given after outcome lent_refusal state_refusal reader_left first fed call registers freshened put bytes_of reduce_if shift shifts crc_byte crc_from well_after length_of body_of checksum_right front_agrees length_agrees shapeVerdict
 nothing_given = refl
 
-holding_board : (filler : ℕ) → board_refusal (holding filler) ≡ none
+holding_board : (filler : ℕ) → board_refusal (holding filler) ≡ None
 unfolding lent_refusal state_refusal registers freshened put bytes_of
 holding_board filler = refl
 
@@ -501,7 +501,7 @@ held_given : given boards (holding 0xAA) (feed (drop 7 ping_to_1) ∷ gap ∷ fe
 unfolding given after outcome lent_refusal state_refusal reader_left first fed call hearing unstuff_after registers permits_by number_at value_at bytes_of put freshened every_byte every_touched goal_inside limits_kept write_rule write heard_instruction executed reduce_if shift shifts crc_byte crc_from well_after length_of body_of checksum_right front_agrees length_agrees shapeVerdict
 held_given = refl
 
-full_board : board_refusal full ≡ none
+full_board : board_refusal full ≡ None
 unfolding lent_refusal state_refusal registers freshened put bytes_of
 full_board = refl
 
@@ -570,7 +570,7 @@ full_done : doing fresh_table dropped (measures (pos 166) 4 ∷ hears (packet pi
 unfolding doing unstuff_after registers number_at value_at bytes_of put freshened heard_instruction executed length_of body_of
 full_done = refl
 
-measuring : InStepMeasured → (b : Board) → board_refusal b ≡ none → (steps : List LoopStep) (jobs : List Job) → jobs_of b steps ≡ jobs
+measuring : InStepMeasured → (b : Board) → board_refusal b ≡ None → (steps : List LoopStep) (jobs : List Job) → jobs_of b steps ≡ jobs
     → (bytes : List ℕ) → taken_in b steps ≡ bytes → (shown : Shown) → doing b.table b.registered jobs ≡ shown
     → MeasuringOn b steps (calls_in steps) shown.table shown.replies (events_in jobs) bytes
 measuring t b accepted steps jobs are bytes took-are shown done =

@@ -1,8 +1,8 @@
 -- What is promised of boards, applied: a damaged Ping, directly followed by a Write of the goal position and a good Ping, and the
 -- beginning of one more packet, cut into five chunks.
+use Rattle.std.specs.Prelude.{None}
 use Rattle.std.specs.Prelude.{◌≡◌, ℕ, ◌-◌, ◌≤◌, ◌<◌, pos, negsuc, take, drop, replicate}
 use mathlib.Core.List.{List, [], ◌∷◌, ◌++◌, Memᴰ}
-use Rattle.std.proofs.Math.Option.{none}
 use Rattle.reading.specs.Reading.{Event, packet, bad_checksum, EventAt, reading}
 use Rattle.reading.specs.Calls.{Call, feed, gap}
 use Rattle.reading.specs.Lists.{model, after, took, given}
@@ -178,10 +178,10 @@ pub record Lives : Type 0 where
   -- feeding calls behind a gap, on a board that holds bytes
   pub each_once_held : shown_after (holding 0xAA) (feed (drop 7 ping_to_1) ∷ gap ∷ feed write_goal ∷ [])
       ≡ hearing fresh_table longest (packet ping_to_1 ∷ packet write_goal ∷ [])
-  pub never_refused_held : board_refusal (after boards (holding 0xAA) (gap ∷ feed write_id ∷ gap ∷ feed ping_to_9 ∷ [])) ≡ none
+  pub never_refused_held : board_refusal (after boards (holding 0xAA) (gap ∷ feed write_id ∷ gap ∷ feed ping_to_9 ∷ [])) ≡ None
   pub each_once_full : shown_after full (gap ∷ []) ≡ hearing fresh_table dropped (packet ping_to_1 ∷ [])
-  pub never_refused_full : board_refusal (after boards full (gap ∷ feed write_id ∷ gap ∷ feed ping_to_9 ∷ [])) ≡ none
-  pub never_refused : board_refusal (after boards fresh (since (chunks bad_ping) 1)) ≡ none
+  pub never_refused_full : board_refusal (after boards full (gap ∷ feed write_id ∷ gap ∷ feed ping_to_9 ∷ [])) ≡ None
+  pub never_refused : board_refusal (after boards fresh (since (chunks bad_ping) 1)) ≡ None
   -- where 0 followed the held bytes it does afterwards, and the reader is left as by its own calls
   pub stays_clean : drop after_earlier.reader.count after_earlier.reader.bytes ≡ replicate (1030 - after_earlier.reader.count) 0
   pub stays_clean_held : drop (after boards (holding 0) (feed (drop 7 ping_to_1) ∷ feed rest ∷ [])).reader.count
@@ -208,7 +208,7 @@ pub record Measuring : Type 0 where
   -- the bytes taken and the reader are those of the calls alone
   pub taken : write_goal ++ (ping_to_1 ++ []) ≡ took boards fresh (feed (take 9 write_goal) ∷ feed (drop 9 write_goal) ∷ feed ping_to_1 ∷ gap ∷ [])
   pub reader : (board_after fresh steps).reader ≡ (after boards fresh (feed (take 9 write_goal) ∷ feed (drop 9 write_goal) ∷ feed ping_to_1 ∷ gap ∷ [])).reader
-  pub never_refused : board_refusal (board_after fresh steps) ≡ none
+  pub never_refused : board_refusal (board_after fresh steps) ≡ None
 
 abbrev pub full_steps : List LoopStep
 full_steps = loop_step_measured (pos 166) 4 ∷ line gap ∷ []
@@ -222,7 +222,7 @@ pub record MeasuringOn (b : Board) (steps : List LoopStep) (calls : List Call) (
   -- the bytes taken and the reader are those of the calls alone
   pub taken : bytes ≡ took boards b calls
   pub reader : (board_after b steps).reader ≡ (after boards b calls).reader
-  pub never_refused : board_refusal (board_after b steps) ≡ none
+  pub never_refused : board_refusal (board_after b steps) ≡ None
 
 -- and on a board that holds the Ping
 abbrev pub InStepMeasuredApplied : Type 0

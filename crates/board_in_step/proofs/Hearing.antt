@@ -1,8 +1,8 @@
 -- What calls on a board come to is what their events come to, one after the other; events for another device come to nothing.
+use Rattle.std.specs.Prelude.{None, Option, Some}
 use mathlib.Core.Path.{◌≡◌, refl, sym, ap, ap₂, subst, ◌∙◌}
 use mathlib.Core.Bool.{Bool, true, false, cond}
 use mathlib.Core.List.{List, [], ◌∷◌, ◌++◌, map, append-nil, Memᴰ}
-use mathlib.Core.Option.{Option, none, some}
 use Prim.Native.Nat.{ℕ}
 use lib.Dec.{eqb}
 use borrow.Author.Tests.{ne_eqb}
@@ -35,10 +35,10 @@ heard_first : (table : List ℕ) (w : RegisteredWrite) (a : Option Event) (es : 
     → owing (spoken (carried_if_any table w a).reply) (hearing (carried_if_any table w a).table (carried_if_any table w a).registered es)
     ≡ hearing table w (listed a ++ es)
 unfolding hearing
-heard_first table w none es = refl
-heard_first table w (some e) es = refl
+heard_first table w None es = refl
+heard_first table w (Some e) es = refl
 
-pub each_once : (cs : List Call) (b : Board) → board_refusal b ≡ none → shown_after b cs ≡ hearing b.table b.registered (given boards b cs)
+pub each_once : (cs : List Call) (b : Board) → board_refusal b ≡ None → shown_after b cs ≡ hearing b.table b.registered (given boards b cs)
 unfolding after given replies_of hearing
 each_once [] b e = refl
 each_once (c ∷ cs) b e =

@@ -1,7 +1,7 @@
 -- Measurements between the calls.
+use Rattle.std.specs.Prelude.{None, Option, Some}
 use mathlib.Core.Path.{◌≡◌, refl, sym, ap, subst, ◌∙◌}
 use mathlib.Core.List.{List, [], ◌∷◌, ◌++◌, map, Memᴰ}
-use mathlib.Core.Option.{Option, none, some}
 use Prim.Native.Nat.{ℕ, ◌≤◌}
 use native.Mathlib.Omega.{arith}
 use lib.IntN.{ℤ}
@@ -29,7 +29,7 @@ none_lent : (position : ℤ) (error : ℕ) (v : RegisteredWrite) → Memᴰ (len
 none_lent position error v (Memᴰ.head i) = let z : ◌≡◌ {A = ℕ} 0 1 = cc in absurd (omega arith)
 none_lent position error v (Memᴰ.tail t) = elim t [ ]
 
-measuring_accepted : (b : Board) → board_refusal b ≡ none → (position : ℤ) (error : ℕ) → board_refusal (measuring b position error) ≡ none
+measuring_accepted : (b : Board) → board_refusal b ≡ None → (position : ℤ) (error : ℕ) → board_refusal (measuring b position error) ≡ None
 measuring_accepted b e position error =
     let a = accepted b e in
     accepts (measuring b position error) (record {
@@ -43,10 +43,10 @@ done_first : (table : List ℕ) (w : RegisteredWrite) (a : Option Event) (ds : L
     → owing (spoken (carried_if_any table w a).reply) (doing (carried_if_any table w a).table (carried_if_any table w a).registered ds)
     ≡ doing table w (map hears (listed a) ++ ds)
 unfolding doing
-done_first table w none ds = refl
-done_first table w (some e) ds = refl
+done_first table w None ds = refl
+done_first table w (Some e) ds = refl
 
-each_once : (steps : List LoopStep) (b : Board) → board_refusal b ≡ none → shown_in b steps ≡ doing b.table b.registered (jobs_of b steps)
+each_once : (steps : List LoopStep) (b : Board) → board_refusal b ≡ None → shown_in b steps ≡ doing b.table b.registered (jobs_of b steps)
 unfolding board_after replies_in jobs_of doing
 each_once [] b e = refl
 each_once (line c ∷ steps) b e =
@@ -59,15 +59,15 @@ each_once (measured position error ∷ steps) b e =
     each_once steps (measuring b position error) (measuring_accepted b e position error)
 
 events_first : (a : Option Event) (ds : List Job) → events_in (map hears (listed a) ++ ds) ≡ listed a ++ events_in ds
-events_first none ds = refl
-events_first (some e) ds = refl
+events_first None ds = refl
+events_first (Some e) ds = refl
 
 -- what a board hears is the model's, whatever stands in its table
-heard_by_lem : (b : Board) → board_refusal b ≡ none → (cs : List Call) → given boards b cs ≡ given (model protocol2) (held_in b.reader) cs
+heard_by_lem : (b : Board) → board_refusal b ≡ None → (cs : List Call) → given boards b cs ≡ given (model protocol2) (held_in b.reader) cs
 heard_by_lem b e cs =
-    follows_given protocol2 boards (λ b. board_refusal b ≡ none) (λ b. held_in b.reader) follows b (held_in b.reader) cs e refl
+    follows_given protocol2 boards (λ b. board_refusal b ≡ None) (λ b. held_in b.reader) follows b (held_in b.reader) cs e refl
 
-same_heard : (steps : List LoopStep) (b : Board) → board_refusal b ≡ none → events_in (jobs_of b steps) ≡ given boards b (calls_in steps)
+same_heard : (steps : List LoopStep) (b : Board) → board_refusal b ≡ None → events_in (jobs_of b steps) ≡ given boards b (calls_in steps)
 unfolding jobs_of given
 same_heard [] b e = refl
 same_heard (line c ∷ steps) b e =
@@ -78,11 +78,11 @@ same_heard (measured position error ∷ steps) b e =
     let k = measuring_accepted b e position error in
     same_heard steps m k ∙ heard_by_lem m k (calls_in steps) ∙ sym (heard_by_lem b e (calls_in steps))
 
-taken_by : (b : Board) → board_refusal b ≡ none → (cs : List Call) → took boards b cs ≡ took (model protocol2) (held_in b.reader) cs
+taken_by : (b : Board) → board_refusal b ≡ None → (cs : List Call) → took boards b cs ≡ took (model protocol2) (held_in b.reader) cs
 taken_by b e cs =
-    follows_took protocol2 boards (λ b. board_refusal b ≡ none) (λ b. held_in b.reader) follows b (held_in b.reader) cs e refl
+    follows_took protocol2 boards (λ b. board_refusal b ≡ None) (λ b. held_in b.reader) follows b (held_in b.reader) cs e refl
 
-same_taken : (steps : List LoopStep) (b : Board) → board_refusal b ≡ none → taken_in b steps ≡ took boards b (calls_in steps)
+same_taken : (steps : List LoopStep) (b : Board) → board_refusal b ≡ None → taken_in b steps ≡ took boards b (calls_in steps)
 unfolding taken_in took
 same_taken [] b e = refl
 same_taken (line c ∷ steps) b e =
@@ -92,7 +92,7 @@ same_taken (measured position error ∷ steps) b e =
     let k = measuring_accepted b e position error in
     same_taken steps m k ∙ taken_by m k (calls_in steps) ∙ sym (taken_by b e (calls_in steps))
 
-readers_same : (cs : List Call) (a b : Board) → board_refusal a ≡ none → board_refusal b ≡ none → a.reader ≡ b.reader
+readers_same : (cs : List Call) (a b : Board) → board_refusal a ≡ None → board_refusal b ≡ None → a.reader ≡ b.reader
     → (after boards a cs).reader ≡ (after boards b cs).reader
 unfolding after
 readers_same [] a b e f i = i
@@ -100,7 +100,7 @@ readers_same (c ∷ cs) a b e f i =
     readers_same cs (outcome a c).board (outcome b c).board (next_accepted a c e) (next_accepted b c f)
     (ap (λ (o : Outcome). o.board.reader) (outcome_is a c e) ∙ ap (λ (r : Reader). reader_left r c) i ∙ sym (ap (λ (o : Outcome). o.board.reader) (outcome_is b c f)))
 
-same_reader : (steps : List LoopStep) (b : Board) → board_refusal b ≡ none → (board_after b steps).reader ≡ (after boards b (calls_in steps)).reader
+same_reader : (steps : List LoopStep) (b : Board) → board_refusal b ≡ None → (board_after b steps).reader ≡ (after boards b (calls_in steps)).reader
 unfolding board_after after
 same_reader [] b e = refl
 same_reader (line c ∷ steps) b e = same_reader steps (outcome b c).board (next_accepted b c e)
@@ -109,7 +109,7 @@ same_reader (measured position error ∷ steps) b e =
     let k = measuring_accepted b e position error in
     same_reader steps m k ∙ readers_same (calls_in steps) m b k e refl
 
-never_refused : (steps : List LoopStep) (b : Board) → board_refusal b ≡ none → board_refusal (board_after b steps) ≡ none
+never_refused : (steps : List LoopStep) (b : Board) → board_refusal b ≡ None → board_refusal (board_after b steps) ≡ None
 unfolding board_after
 never_refused [] b e = e
 never_refused (line c ∷ steps) b e = never_refused steps (outcome b c).board (next_accepted b c e)

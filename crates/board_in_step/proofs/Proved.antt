@@ -1,8 +1,8 @@
 -- No board is behind: demand 3 of the reader in the board, and the events carried out one after the other.
+use Rattle.std.specs.Prelude.{None}
 use mathlib.Core.Path.{◌≡◌, refl, sym, ap, ap₂, subst, ◌∙◌}
 use mathlib.Core.List.{List, [], ◌∷◌, ◌++◌, map}
 use mathlib.Core.Logic.{inl}
-use mathlib.Core.Option.{none}
 use Prim.Native.Nat.{ℕ, ◌+◌}
 use lib.ListN.{length}
 use Rattle.reading.specs.Reading.{Event, packet, EventAt, reading}
@@ -39,7 +39,7 @@ parts events p packets out =
     ∙ ap (λ (l : List Event). map what out.sooner ++ l)
     (map_what (packets_at p packets) out.later ∙ ap (λ (l : List Event). l ++ map what out.later) (what_packets p packets))
 
-module _ (b : Board) (legal : board_refusal b ≡ none) (cs : List Call) (events : List EventAt) (noise : List ℕ) (packets : List (List ℕ))
+module _ (b : Board) (legal : board_refusal b ≡ None) (cs : List Call) (events : List EventAt) (noise : List ℕ) (packets : List (List ℕ))
     (out : AllOut events (length noise) packets) (are : given boards b cs ≡ map what events) where
   abbrev sooner : List Event
   sooner = map what out.sooner
@@ -68,15 +68,15 @@ module _ (b : Board) (legal : board_refusal b ≡ none) (cs : List Call) (events
             };
       }
 
-promised : (b : Board) → board_refusal b ≡ none → held_in b.reader ≡ [] → (chunks : List (List ℕ)) (g : ℕ) (noise : List ℕ) (packets : List (List ℕ))
+promised : (b : Board) → board_refusal b ≡ None → held_in b.reader ≡ [] → (chunks : List (List ℕ)) (g : ℕ) (noise : List ℕ) (packets : List (List ℕ))
     (rest : List ℕ) → took (model protocol2) [] (since chunks g) ≡ noise ++ (joined packets ++ rest) → AllWellFormed protocol2 packets
     → NoneAcross protocol2 noise (joined packets ++ rest) → NotBehind b chunks g noise packets rest
 unfolding after
 promised b legal empty chunks g noise packets rest is good across =
     let cs = since chunks g in
     let m = demand_3 protocol2 laws [] refl [] (inl refl) chunks g noise packets rest is good across in
-    let t = follows_took protocol2 boards (λ b. board_refusal b ≡ none) (λ b. held_in b.reader) follows b [] cs legal empty in
-    let v = follows_given protocol2 boards (λ b. board_refusal b ≡ none) (λ b. held_in b.reader) follows b [] cs legal empty in
+    let t = follows_took protocol2 boards (λ b. board_refusal b ≡ None) (λ b. held_in b.reader) follows b [] cs legal empty in
+    let v = follows_given protocol2 boards (λ b. board_refusal b ≡ None) (λ b. held_in b.reader) follows b [] cs legal empty in
     record {
       all_taken = t ∙ is;
       by_gap = λ f.
@@ -95,21 +95,21 @@ in_step =
     record {
       in_step = λ b is-fresh earlier start chunks g noise packets rest is good across.
           let s = follows.fresh b is-fresh in
-          let n = follows_after protocol2 boards (λ b. board_refusal b ≡ none) (λ b. held_in b.reader) follows b [] earlier s.0 s.1 in
+          let n = follows_after protocol2 boards (λ b. board_refusal b ≡ None) (λ b. held_in b.reader) follows b [] earlier s.0 s.1 in
           promised (after boards b earlier) n.0 (n.1 ∙ fresh protocol2 laws earlier start) chunks g noise packets rest is good across;
       each_once = λ b legal cs. each_once cs b legal;
-      demand_3 = (call_promises protocol2 laws boards (λ b. board_refusal b ≡ none) (λ b. held_in b.reader) follows).demand_3;
+      demand_3 = (call_promises protocol2 laws boards (λ b. board_refusal b ≡ None) (λ b. held_in b.reader) follows).demand_3;
       alike = λ b clean cs events noise packets good up n m is-fresh earlier start chunks g is f same_table same_registered_lem.
           let s = follows.fresh clean is-fresh in
-          let k = follows_after protocol2 boards (λ b. board_refusal b ≡ none) (λ b. held_in b.reader) follows clean [] earlier s.0 s.1 in
-          let line = (call_promises protocol2 laws boards (λ b. board_refusal b ≡ none) (λ b. held_in b.reader) follows).clean_line
+          let k = follows_after protocol2 boards (λ b. board_refusal b ≡ None) (λ b. held_in b.reader) follows clean [] earlier s.0 s.1 in
+          let line = (call_promises protocol2 laws boards (λ b. board_refusal b ≡ None) (λ b. held_in b.reader) follows).clean_line
           clean is-fresh earlier start chunks g packets good is f in
           up.only_packets n m
           ∙ ap₂ (λ (t : List ℕ) (w : RegisteredWrite). hearing t w (map packet packets)) same_table same_registered_lem
           ∙ ap (λ (l : List Event). hearing (after boards clean earlier).table (after boards clean earlier).registered l) (sym line.1)
           ∙ sym (each_once (since chunks g) (after boards clean earlier) k.0);
       never_refused = λ b legal cs.
-          (follows_after protocol2 boards (λ b. board_refusal b ≡ none) (λ b. held_in b.reader) follows b (held_in b.reader) cs legal refl).0;
+          (follows_after protocol2 boards (λ b. board_refusal b ≡ None) (λ b. held_in b.reader) follows b (held_in b.reader) cs legal refl).0;
       stays_clean = λ b clean cs. stays_clean cs b clean;
       as_a_reader = as_a_reader;
     }

@@ -1,8 +1,8 @@
 -- No board is behind. What comes to a board over a noisy line, behind the noise, is carried out: each packet, once, in order, and
 -- nothing else among them. `InStep` at the end says of which calls and of which bytes this is promised, `CaughtUp` what it means.
+use Rattle.std.specs.Prelude.{None}
 use Rattle.std.specs.Prelude.{◌≡◌, cond, ℕ, ◌-◌, ◌≤◌, eqb, length, drop, replicate}
 use mathlib.Core.List.{List, [], ◌∷◌, ◌++◌, map, Memᴰ}
-use Rattle.std.proofs.Math.Option.{none}
 use Rattle.reading.specs.Reading.{Event, packet, bad_checksum, EventAt, reading}
 use Rattle.reading.specs.Calls.{Call, feed}
 use Rattle.reading.specs.Lists.{AnyReader, model, feeds, after, took, given}
@@ -41,7 +41,7 @@ abbrev pub boards : AnyReader
 boards =
     record {
       State = Board;
-      Fresh = λ b. (b.reader.count ≡ 0) × (board_refusal b ≡ none);
+      Fresh = λ b. (b.reader.count ≡ 0) × (board_refusal b ≡ None);
       taken = λ b c. (outcome b c).report.taken;
       answer = λ b c. (outcome b c).report.event;
       next = λ b c. (outcome b c).board;
@@ -119,7 +119,7 @@ pub record InStep : Type 0 where
       → took (model protocol2) [] (since chunks g) ≡ noise ++ (joined packets ++ rest) → AllWellFormed protocol2 packets
       → NoneAcross protocol2 noise (joined packets ++ rest) → NotBehind (after boards b earlier) chunks g noise packets rest
   -- every list of calls whatever, at any time: each event that has come out is carried out, once and in order, and nothing else is
-  pub each_once : (b : Board) → board_refusal b ≡ none → (cs : List Call) → shown_after b cs ≡ hearing b.table b.registered (given boards b cs)
+  pub each_once : (b : Board) → board_refusal b ≡ None → (cs : List Call) → shown_after b cs ≡ hearing b.table b.registered (given boards b cs)
   -- demand 3 of a board, word for word as of a reader: nothing comes out among the packets, or of a packet still arriving
   pub demand_3 : Demand3 protocol2 boards
   -- Two boards that were alike are alike again: one has caught up behind a noisy line, with nothing else for it in the noise and after
@@ -131,7 +131,7 @@ pub record InStep : Type 0 where
       → boards.Fresh clean → (earlier : List Call) → AtStart (model protocol2) [] earlier → (chunks : List (List ℕ)) (g : ℕ) → took (model protocol2) [] (since chunks g) ≡ joined packets
       → Finished (model protocol2) [] chunks g → b.table ≡ (after boards clean earlier).table → b.registered ≡ (after boards clean earlier).registered → shown_after b cs ≡ shown_after (after boards clean earlier) (since chunks g)
   -- no call is refused, whatever came before
-  pub never_refused : (b : Board) → board_refusal b ≡ none → (cs : List Call) → board_refusal (after boards b cs) ≡ none
+  pub never_refused : (b : Board) → board_refusal b ≡ None → (cs : List Call) → board_refusal (after boards b cs) ≡ None
   -- 0 follows the held bytes after any calls if it did before; each call then leaves the reader as the reader's own calls do [B8]
   pub stays_clean : (b : Board) → Clean b → (cs : List Call) → Clean (after boards b cs)
-  pub as_a_reader : (b : Board) → Clean b → board_refusal b ≡ none → (c : Call) → (outcome b c).board.reader ≡ left_by b.reader c
+  pub as_a_reader : (b : Board) → Clean b → board_refusal b ≡ None → (c : Call) → (outcome b c).board.reader ≡ left_by b.reader c

@@ -1,7 +1,7 @@
 -- The same where the firmware stores measurements between the calls, as a main loop does: they come between the events, and what is
 -- heard is the same.
+use Rattle.std.specs.Prelude.{None}
 use Rattle.std.specs.Prelude.{◌≡◌, List, [], ◌∷◌, ◌++◌, map, ℕ, ℤ, take}
-use Rattle.std.proofs.Math.Option.{none}
 use Rattle.reading.specs.Reading.{Event}
 use Rattle.reading.specs.Calls.{Call}
 use Rattle.reading.specs.Lists.{listed, chunk_of, after, took, given}
@@ -71,8 +71,8 @@ shown_in b steps =
 -- On a board that is not refused: it shows what comes of the jobs. The events among them, the bytes taken and the reader are those of
 -- the calls without a measurement, of which `InStep` speaks. No step leads to a refusal. [B12]
 pub record InStepMeasured : Type 0 where
-  pub each_once : (b : Board) → board_refusal b ≡ none → (steps : List LoopStep) → shown_in b steps ≡ doing b.table b.registered (jobs_of b steps)
-  pub same_heard : (b : Board) → board_refusal b ≡ none → (steps : List LoopStep) → events_in (jobs_of b steps) ≡ given boards b (calls_in steps)
-  pub same_taken : (b : Board) → board_refusal b ≡ none → (steps : List LoopStep) → taken_in b steps ≡ took boards b (calls_in steps)
-  pub same_reader : (b : Board) → board_refusal b ≡ none → (steps : List LoopStep) → (board_after b steps).reader ≡ (after boards b (calls_in steps)).reader
-  pub never_refused : (b : Board) → board_refusal b ≡ none → (steps : List LoopStep) → board_refusal (board_after b steps) ≡ none
+  pub each_once : (b : Board) → board_refusal b ≡ None → (steps : List LoopStep) → shown_in b steps ≡ doing b.table b.registered (jobs_of b steps)
+  pub same_heard : (b : Board) → board_refusal b ≡ None → (steps : List LoopStep) → events_in (jobs_of b steps) ≡ given boards b (calls_in steps)
+  pub same_taken : (b : Board) → board_refusal b ≡ None → (steps : List LoopStep) → taken_in b steps ≡ took boards b (calls_in steps)
+  pub same_reader : (b : Board) → board_refusal b ≡ None → (steps : List LoopStep) → (board_after b steps).reader ≡ (after boards b (calls_in steps)).reader
+  pub never_refused : (b : Board) → board_refusal b ≡ None → (steps : List LoopStep) → board_refusal (board_after b steps) ≡ None

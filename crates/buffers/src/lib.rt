@@ -1,62 +1,17 @@
-// Moving bytes within and between buffers, as far as there is room; numbers of four bytes; the smaller and the larger of two.
+// Moving bytes within and between buffers, as far as there is room.
 #![tactic(auto)]
 
-ghost use Rattle.std.specs.Prelude.{◌≡◌, [], ◌∷◌, ◌++◌, ◌⊎◌, ◌-◌, ◌≤◌, min, length, take, drop, replicate};
-ghost use Rattle.lists.specs.Numbers.{number_at, bytes_of};
+ghost use Rattle.std.specs.Prelude.{◌≡◌, ◌++◌, ◌-◌, length, take, drop, replicate};
 ghost use Rattle.lists.specs.Write.{overwritten, placed, padded};
 
-pub fn least(a: usize, b: usize) -> usize
-    ensures { result ≡ min a b }
-{
-    if a < b { a } else { b }
-}
-
-pub fn greatest(a: usize, b: usize) -> usize
-    ensures { (a ≤ result) × (b ≤ result) × ((result ≡ a) ⊎ (result ≡ b)) }
-{
-    if a < b { b } else { a }
-}
-
-// The number that four bytes make, lowest first. [I1 T1]
-pub fn number_of(a: u8, b: u8, c: u8, d: u8) -> u32
-    ensures { result ≡ number_at (a ∷ b ∷ c ∷ d ∷ []) 0 4 }
-{
-    (a as u32) + (b as u32) * 256 + (c as u32) * 65536 + (d as u32) * 16777216
-}
-
-// The four bytes of a number, lowest first. [I1 T1]
-pub fn bytes_of(value: usize) -> [u8; 4]
-    ensures { result ≡ bytes_of 4 value }
-{
-    [
-        (value % 256) as u8,
-        (value / 256 % 256) as u8,
-        (value / 65536 % 256) as u8,
-        (value / 16777216 % 256) as u8,
-    ]
-}
-
-// How many of n bytes have room from `at` on in a buffer of `size` bytes.
-fn fitting(size: usize, at: usize, n: usize) -> usize
-    ensures { result ≡ min (size - at) n }
-{
-    if size < at {
-        return 0;
-    }
-    least(size - at, n)
-}
-
-// Copies src to buffer from `at` on, as many bytes as there is room for. They are counted before the loop, so that each costs one
-// comparison.
+// Copies src to buffer from `at` on, as many bytes as there is room for.
 pub fn place(buffer: &mut [u8], at: usize, src: &[u8])
     ensures { buffer.new
         ≡ placed buffer.old at (take (length buffer.old - at) src.now) }
 {
-    let n = fitting(buffer.len(), at, src.len());
-    let mut i = 0;
-    while i < n {
-        buffer[at + i] = src[i];
-        i += 1;
+    if at < buffer.len() {
+        let n = src.len().min(buffer.len() - at);
+        buffer[at..at + n].copy_from_slice(&src[..n]);
     }
 }
 
@@ -64,18 +19,9 @@ pub fn place(buffer: &mut [u8], at: usize, src: &[u8])
 pub fn shift(buffer: &mut [u8], from: usize, end: usize)
     ensures { buffer.new ≡ overwritten buffer.old (take (end - from) (drop from buffer.old)) }
 {
-    if from == 0 {
-        return;
-    }
-    if end < from {
-        return;
-    }
-    let n = fitting(buffer.len(), from, end - from);
-    let mut i = 0;
-    while i < n {
-        let b = buffer[from + i];
-        buffer[i] = b;
-        i += 1;
+    let end = end.min(buffer.len());
+    if 0 < from && from < end {
+        buffer.copy_within(from..end, 0);
     }
 }
 
@@ -83,10 +29,8 @@ pub fn shift(buffer: &mut [u8], from: usize, end: usize)
 pub fn clear(buffer: &mut [u8], from: usize)
     ensures { buffer.new ≡ take from buffer.old ++ replicate (length buffer.old - from) 0 }
 {
-    let mut i = from;
-    while i < buffer.len() {
-        buffer[i] = 0;
-        i += 1;
+    if from < buffer.len() {
+        buffer[from..].fill(0);
     }
 }
 

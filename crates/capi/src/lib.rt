@@ -53,7 +53,7 @@ use numbers::{
     CarriedNumbers, DeviceNumbers, EventNumbers, FoundNumbers, SalvagedNumbers, StepNumbers,
 };
 use packet_front::MAX_PACKET;
-use reader_core::MAX_HELD;
+use reader_core::{MAX_HELD, ProtocolTwo};
 use reader_records::Reader;
 
 pub const VERSION_MAJOR: u32 = 0;
@@ -124,7 +124,7 @@ pub extern "C" fn dxl_fresh(table: &mut [u8]) -> i64
     ensures w_after { (w : Ghost-as-RegisteredWrite) → state_of table.new w ≡ after_call (state_of table.old w) call_fresh }
     ensures stays_accepted { StaysAccepted × GoalWithinLimits }
 {
-    answers::exported(table_access::fresh(table))
+    answers::exported_done(table_access::fresh(table))
 }
 
 // Present position and hardware error: 0, or minus 21. [N13 T5]
@@ -135,7 +135,7 @@ pub extern "C" fn dxl_measure(table: &mut [u8], position: i32, hardware_error: u
     ensures w_after { (w : Ghost-as-RegisteredWrite) → state_of table.new w ≡ after_call (state_of table.old w) (call_measurement position hardware_error) }
     ensures stays_accepted { StaysAccepted × GoalWithinLimits }
 {
-    answers::exported(table_access::measure(table, position, hardware_error))
+    answers::exported_done(table_access::measure(table, position, hardware_error))
 }
 
 // A feeding call on a reader's record in parts, the held bytes and their count. It promises demand 3, and that a packet in which
@@ -155,9 +155,11 @@ pub extern "C" fn dxl_feed(
     ensures burst_detected { BurstDetected }
 {
     let n = *count;
-    let step = reader_core::feed_in(held, n, chunk, packet);
-    *count = step.held;
-    numbers::step(step)
+    let step = reader_core::feed::<ProtocolTwo, _, _>(held, n, chunk, packet);
+    if let Ok(step) = step {
+        *count = step.held;
+    }
+    StepNumbers::from(step)
 }
 
 // A gap call, likewise. [F12-F14 V1]
@@ -173,9 +175,11 @@ pub extern "C" fn dxl_gap(
     ensures every_protocol { EveryProtocol × StepsFit }
 {
     let n = *count;
-    let step = reader_core::gap_in(held, n, packet);
-    *count = step.held;
-    numbers::step(step)
+    let step = reader_core::gap::<ProtocolTwo, _, _>(held, n, packet);
+    if let Ok(step) = step {
+        *count = step.held;
+    }
+    StepNumbers::from(step)
 }
 
 // A feeding call on a reader's record, in place: its held bytes are passed on without a copy. [F1 F5 N9 Q10 Q11]
@@ -191,9 +195,11 @@ pub extern "C" fn dxl_reader_feed<'r, 'c, 'p>(
         × EveryProtocol × StepsFit }
 {
     let n = reader.count;
-    let step = reader_core::feed_in(&mut reader.bytes, n, chunk, packet);
-    reader.count = step.held;
-    numbers::step(step)
+    let step = reader_core::feed::<ProtocolTwo, _, _>(&mut reader.bytes, n, chunk, packet);
+    if let Ok(step) = step {
+        reader.count = step.held;
+    }
+    StepNumbers::from(step)
 }
 
 // A gap call on a reader's record, likewise. [F12 N9 Q10]
@@ -208,9 +214,11 @@ pub extern "C" fn dxl_reader_gap<'r, 'p>(
         × EveryProtocol × StepsFit }
 {
     let n = reader.count;
-    let step = reader_core::gap_in(&mut reader.bytes, n, packet);
-    reader.count = step.held;
-    numbers::step(step)
+    let step = reader_core::gap::<ProtocolTwo, _, _>(&mut reader.bytes, n, packet);
+    if let Ok(step) = step {
+        reader.count = step.held;
+    }
+    StepNumbers::from(step)
 }
 
 // The plain reader: the next event of a whole segment at an offset or behind it. That calls one after the other give the reading of
@@ -221,7 +229,7 @@ pub extern "C" fn dxl_next_event(segment: &[u8], from: usize) -> EventNumbers
     ensures plain_promises { PlainPromises records × EventFits }
     ensures burst_detected { BurstDetected }
 {
-    numbers::next(reader_plain::next_event(segment, from))
+    EventNumbers::from(reader_plain::next_event(segment, from))
 }
 
 // The writer of a log: its byte count, or minus a refusal number. That what is written is sound is promised too.
@@ -242,7 +250,7 @@ pub extern "C" fn dxl_log_check(file: &[u8]) -> i64
     ensures value { result ≡ exported (answered (check_refusal file.now) 0) }
     ensures sound_exactly { SoundExactly }
 {
-    answers::exported(line_log::check(file))
+    answers::exported_done(line_log::check(file))
 }
 
 // The last packet for an ID: its segment and its offset there. On a sound log that is what a reading of every segment gives, and on
@@ -253,7 +261,7 @@ pub extern "C" fn dxl_log_last(file: &[u8], id: u8) -> FoundNumbers
     ensures value { result ≡ found_numbers (question file.now id) }
     ensures log_promises { LogPromises × FoundFits }
 {
-    numbers::found(line_log::last(file, id))
+    FoundNumbers::from(line_log::last(file, id))
 }
 
 // Salvage of a cut log: what is sound in it is written, and what was altered is reported. That what is written is a sound log of the
@@ -270,7 +278,7 @@ pub extern "C" fn dxl_log_salvage(
     ensures report_after { report.new ≡ salvage_report file.now out.old report.old }
     ensures salvage { Salvage × SalvageCases × SalvagedFits }
 {
-    numbers::salvaged(log_salvage::salvage(file, out, report))
+    SalvagedNumbers::from(log_salvage::salvage(file, out, report))
 }
 
 fn heard_by(kind: u8) -> Heard
@@ -316,7 +324,9 @@ pub extern "C" fn dxl_device(
 {
     let heard = heard_by(kind);
     let heard_id = id_of_kind(kind, id);
-    numbers::response(device::hear(table, registered, heard, heard_id, body, reply))
+    let mut kept = registered;
+    let answer = device::hear(table, &mut kept, heard, heard_id, body, reply);
+    numbers::response(answer, kept)
 }
 
 // The device call on a packet as received; its body is written to `body` without its stuffing. What is no well-formed packet is
@@ -339,7 +349,9 @@ pub extern "C" fn dxl_exchange(
     ensures registered_after { state_of table.new result.registered
         ≡ after_call (state_of table.old registered) (call_exchange packet.now body.old reply.old) }
 {
-    numbers::response(device_packet::answer(table, registered, packet, body, reply))
+    let mut kept = registered;
+    let answer = device_packet::answer(table, &mut kept, packet, body, reply);
+    numbers::response(answer, kept)
 }
 
 // The first of two calls: what was heard is carried out, and its reply waits for its slot. Kinds as of `dxl_device`, whose theorems
@@ -362,7 +374,9 @@ pub extern "C" fn dxl_carry_out(
 {
     let heard = heard_by(kind);
     let heard_id = id_of_kind(kind, id);
-    numbers::carried(device::carry_out(table, registered, heard, heard_id, body))
+    let mut kept = registered;
+    let answer = device::carry_out(table, &mut kept, heard, heard_id, body);
+    numbers::carried(answer.map(|carried| carried.reply), kept)
 }
 
 // The first call on a packet as received; its body is written to `body` without its stuffing. The theorems of `dxl_carry_out` hold
@@ -383,7 +397,9 @@ pub extern "C" fn dxl_carry_out_packet(
     ensures registered_after { state_of table.new result.registered
         ≡ after_call (state_of table.old registered) (call_carry_packet packet.now body.old) }
 {
-    numbers::carried_packet(device_packet::carry_out(table, registered, packet, body))
+    let mut kept = registered;
+    let answer = device_packet::carry_out(table, &mut kept, packet, body);
+    numbers::carried(answer, kept)
 }
 
 // The second: the status of a reply that has waited. Any reply is accepted but for its refusals. [D52-D54 N8]

@@ -1,15 +1,13 @@
 -- Answers as numbers, for the tests.
-use Rattle.std.specs.Prelude.{ℕ}
-use Rattle.stuffing.specs.declared.Checked.{Checked}
-use Rattle.stuffing.specs.declared.Checked.TheVariants.{Good, Bad}
+use Rattle.std.specs.Prelude.{ℕ, Option, None, Some}
 use Rattle.packet_rules.specs.declared.Verdict.{Verdict}
 use Rattle.packet_rules.specs.declared.Verdict.TheVariants.{Packet, BadChecksum, Waiting, Nothing}
 use Rattle.capi_test.specs.declared.VerdictNumbers.{VerdictNumbers}
 
 -- [K5]
-abbrev pub test_number : Checked → ℕ
-test_number (Good n) = 1
-test_number Bad = 0
+abbrev pub test_number : Option ℕ → ℕ
+test_number (Some n) = 1
+test_number None = 0
 
 -- [K5]
 abbrev pub verdict_numbers : Verdict → VerdictNumbers

@@ -25,7 +25,6 @@ use packet_protocols::Protocol;
 use packet_rules::Verdict;
 use reader_core::MAX_HELD;
 use reader_records::Reader;
-use stuffing::Checked;
 
 // A verdict as numbers. kind 0: nothing; 1: a packet of `count` bytes; 2: a bad checksum of `id`; 3: waiting for `count` bytes.
 #[repr(C)]
@@ -60,8 +59,8 @@ pub extern "C" fn dxl_test_well_stuffed(body: &[u8]) -> u8
     ensures { result ≡ test_number (checked body.now) }
 {
     match stuffing::check(body) {
-        Checked::Good(_) => 1,
-        Checked::Bad => 0,
+        Some(_) => 1,
+        None => 0,
     }
 }
 
@@ -77,7 +76,7 @@ pub extern "C" fn dxl_test_stuff(first: u8, rest: &[u8], out: &mut [u8]) -> usiz
 fn verdict_of(protocol: Protocol, segment: &[u8], offset: usize) -> VerdictNumbers
     ensures { result ≡ verdict_numbers (answer_by (rules_of protocol) (drop offset segment.now)) }
 {
-    match packet_protocols::judge(protocol, segment, offset) {
+    match protocol.judge(segment, offset) {
         Verdict::Nothing => VerdictNumbers {
             kind: 0,
             id: 0,
@@ -154,7 +153,7 @@ pub extern "C" fn dxl_test_feed_value(
     let packet = fed.packet;
     let reader = fed.reader;
     FedNumbers {
-        step: numbers::step(step),
+        step: StepNumbers::from(step),
         packet,
         reader,
     }

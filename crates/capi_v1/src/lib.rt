@@ -15,7 +15,7 @@ ghost use Rattle.fits.specs.Fits.{StepsFit, CountsFit};
 
 use numbers::StepNumbers;
 use packet_v1::V1_MAX_PACKET;
-use reader_core::V1_MAX_HELD;
+use reader_core::{ProtocolMercury, ProtocolOne, V1_MAX_HELD};
 
 // The encoder of Protocol 1.0: the packet's byte count, or minus a refusal number. [O9-O11]
 #[unsafe(no_mangle)]
@@ -77,9 +77,11 @@ pub extern "C" fn dxl_p1_feed(
     ensures every_protocol { EveryProtocol × StepsFit }
 {
     let n = *count;
-    let step = reader_core::feed_p1(held, n, chunk, packet);
-    *count = step.held;
-    numbers::step(step)
+    let step = reader_core::feed::<ProtocolOne, _, _>(held, n, chunk, packet);
+    if let Ok(step) = step {
+        *count = step.held;
+    }
+    StepNumbers::from(step)
 }
 
 // The gap call of Protocol 1.0, likewise. [O13]
@@ -95,9 +97,11 @@ pub extern "C" fn dxl_p1_gap(
     ensures every_protocol { EveryProtocol × StepsFit }
 {
     let n = *count;
-    let step = reader_core::gap_p1(held, n, packet);
-    *count = step.held;
-    numbers::step(step)
+    let step = reader_core::gap::<ProtocolOne, _, _>(held, n, packet);
+    if let Ok(step) = step {
+        *count = step.held;
+    }
+    StepNumbers::from(step)
 }
 
 // The feeding call of Mercury, likewise. [N9 O13 O15]
@@ -114,9 +118,11 @@ pub extern "C" fn dxl_mercury_feed(
     ensures every_protocol { EveryProtocol × StepsFit }
 {
     let n = *count;
-    let step = reader_core::feed_mercury(held, n, chunk, packet);
-    *count = step.held;
-    numbers::step(step)
+    let step = reader_core::feed::<ProtocolMercury, _, _>(held, n, chunk, packet);
+    if let Ok(step) = step {
+        *count = step.held;
+    }
+    StepNumbers::from(step)
 }
 
 // The gap call of Mercury, likewise. [O13]
@@ -132,7 +138,9 @@ pub extern "C" fn dxl_mercury_gap(
     ensures every_protocol { EveryProtocol × StepsFit }
 {
     let n = *count;
-    let step = reader_core::gap_mercury(held, n, packet);
-    *count = step.held;
-    numbers::step(step)
+    let step = reader_core::gap::<ProtocolMercury, _, _>(held, n, packet);
+    if let Ok(step) = step {
+        *count = step.held;
+    }
+    StepNumbers::from(step)
 }

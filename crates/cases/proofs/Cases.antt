@@ -1,10 +1,12 @@
 -- All cases of the table hold. The checker runs one test over all of them, and a law leads from that test to the claim of each.
+use Rattle.std.specs.Prelude.{Ok}
+use Rattle.std.specs.Prelude.{Err, Result}
+use Rattle.std.specs.Prelude.{None, Option, Some}
 use mathlib.Core.Path.{◌≡◌, refl, sym, ap, ap₂, ◌∙◌, subst}
 use mathlib.Core.Bool.{Bool, true, false, not, ◌&&◌}
 use mathlib.Core.List.Memᴰ
 use mathlib.Core.List.{List, [], ◌∷◌, ◌++◌, Memᴰ}
 use mathlib.Core.Logic.{⊎_elim}
-use mathlib.Core.Option.{Option, none, some}
 use Prim.Native.Nat.{ℕ, ◌-◌}
 use native.Mathlib.Omega.{arith}
 use lib.Dec.{eqb}
@@ -50,17 +52,16 @@ use Rattle.device_instructions.specs.Registered.{same_limits}
 use Rattle.device_parameters.specs.Entries.{occurs, search_from}
 use Rattle.device_dispatch.specs.Reactions.{heard_instruction}
 use Rattle.device.specs.Device.{executed}
-use Rattle.device.specs.Answers.{state_refusal, room_refusal, call_refusal, call_answer, call_table, call_registered, call_out}
+use Rattle.device.specs.Answers.{replied, state_refusal, room_refusal, call_refusal, call_answer, call_table, call_registered, call_out}
 use Rattle.device_dispatch.specs.declared.Heard.TheVariants.{Packet, BadChecksum}
 use Rattle.device_packet.specs.Exchange.{id_heard, heard_of}
-use Rattle.device.specs.declared.Replied.{Replied}
-use Rattle.device.specs.declared.Replied.TheVariants.{Sent, Refused}
 use Rattle.device.specs.Demand1.{error_number}
 use Rattle.plan.specs.Goals.{goals_within, goals_refusal}
 use Rattle.plan.specs.Planner.{entries_from, list_bytes, packets_from, plan_of}
 use Rattle.device_instructions.specs.declared.RegisteredWrite.{RegisteredWrite}
 use Rattle.cases.specs.Exchanges.{Lent, answer_to, left_after, goal_registered}
 use Rattle.cases.specs.Cases.{Case, packet, stuffing, exchange, refusal, bad_checksum, log, plan, apart, across, packet_v1, only_p1, Claim, table, CasesHold}
+use Rattle.device.specs.declared.Sent.{Sent}
 
 -- ---- equality as a test
 
@@ -89,12 +90,12 @@ none_is is_waiting e = let z : ◌≡◌ {A = ℕ} 0 1 = cc in absurd (omega ari
 none_is is_nothing e = refl
 
 abbrev accepted : Option Refusal → Bool
-accepted none = true
-accepted (some r) = false
+accepted None = true
+accepted (Some r) = false
 
-is_accepted : (o : Option Refusal) → accepted o ≡ true → o ≡ none
-is_accepted none e = refl
-is_accepted (some r) e = let z : ◌≡◌ {A = ℕ} 0 1 = cc in absurd (omega arith)
+is_accepted : (o : Option Refusal) → accepted o ≡ true → o ≡ None
+is_accepted None e = refl
+is_accepted (Some r) e = let z : ◌≡◌ {A = ℕ} 0 1 = cc in absurd (omega arith)
 
 abbrev same_registered : RegisteredWrite → RegisteredWrite → Bool
 same_registered v w =
@@ -119,18 +120,19 @@ same_registered_lem v w e =
     ∙ ap₂ (λ (x y : ℤ). record { address = w.address; count = w.count; bytes = w.bytes; min = x; max = y })
     (same_equal v.min w.min (and_left low high l)) (same_equal v.max w.max (and_right low high l))
 
-abbrev same_answer : Replied → Replied → Bool
-same_answer (Sent n slot) (Sent m place) = eqb n m && eqb slot place
-same_answer (Sent n slot) (Refused r) = false
-same_answer (Refused r) (Sent n slot) = false
-same_answer (Refused r) (Refused s) = eqb (number_of r) (number_of s)
+abbrev same_answer : Result Sent Refusal → Result Sent Refusal → Bool
+same_answer (Ok a) (Ok b) = eqb a.count b.count && eqb a.slot b.slot
+same_answer (Ok a) (Err r) = false
+same_answer (Err r) (Ok b) = false
+same_answer (Err r) (Err s) = eqb (number_of r) (number_of s)
 
-same_answer_lem : (a b : Replied) → same_answer a b ≡ true → a ≡ b
-same_answer_lem (Sent n slot) (Sent m place) e =
-    ap₂ Sent (eqb-true n m (and_left (eqb n m) (eqb slot place) e)) (eqb-true slot place (and_right (eqb n m) (eqb slot place) e))
-same_answer_lem (Sent n slot) (Refused r) e = let z : ◌≡◌ {A = ℕ} 0 1 = cc in absurd (omega arith)
-same_answer_lem (Refused r) (Sent n slot) e = let z : ◌≡◌ {A = ℕ} 0 1 = cc in absurd (omega arith)
-same_answer_lem (Refused r) (Refused s) e = ap Refused (same_number r s (eqb-true (number_of r) (number_of s) e))
+same_answer_lem : (a b : Result Sent Refusal) → same_answer a b ≡ true → a ≡ b
+same_answer_lem (Ok a) (Ok b) e =
+    ap₂ replied (eqb-true a.count b.count (and_left (eqb a.count b.count) (eqb a.slot b.slot) e))
+    (eqb-true a.slot b.slot (and_right (eqb a.count b.count) (eqb a.slot b.slot) e))
+same_answer_lem (Ok a) (Err r) e = let z : ◌≡◌ {A = ℕ} 0 1 = cc in absurd (omega arith)
+same_answer_lem (Err r) (Ok b) e = let z : ◌≡◌ {A = ℕ} 0 1 = cc in absurd (omega arith)
+same_answer_lem (Err r) (Err s) e = ap Err (same_number r s (eqb-true (number_of r) (number_of s) e))
 
 abbrev same_lent : Lent → Lent → Bool
 same_lent k l =
@@ -159,7 +161,7 @@ right (stuffing body stuffed) = same (stuff body) stuffed && (well_stuffed stuff
 right (exchange bytes before answer after) = same_answer (answer_to bytes before) answer && same_lent (left_after bytes before) after
 right (refusal bytes before number) = eqb (error_number before.table before.registered Packet (heard_of bytes).id (heard_of bytes).body) number
 right (bad_checksum id table status) =
-    same_answer (call_answer table goal_registered BadChecksum id [] (replicate 32 0xAA)) (Sent (length status) 0)
+    same_answer (call_answer table goal_registered BadChecksum id [] (replicate 32 0xAA)) (replied (length status) 0)
     && (same (call_table table goal_registered BadChecksum id [] (replicate 32 0xAA)) table
     && (same_registered (call_registered table goal_registered BadChecksum id [] (replicate 32 0xAA)) goal_registered
     && same (call_out table goal_registered BadChecksum id [] (replicate 32 0xAA)) (status ++ replicate (32 - length status) 0xAA)))
@@ -194,13 +196,13 @@ claimed (exchange bytes before answer after) e =
 claimed (refusal bytes before number) e = eqb-true (error_number before.table before.registered Packet (heard_of bytes).id (heard_of bytes).body) number e
 claimed (bad_checksum id table status) e =
     let out : List ℕ = replicate 32 0xAA in
-    let a = same_answer (call_answer table goal_registered BadChecksum id [] out) (Sent (length status) 0) in
+    let a = same_answer (call_answer table goal_registered BadChecksum id [] out) (replied (length status) 0) in
     let t = same (call_table table goal_registered BadChecksum id [] out) table in
     let w = same_registered (call_registered table goal_registered BadChecksum id [] out) goal_registered in
     let o = same (call_out table goal_registered BadChecksum id [] out) (status ++ replicate (32 - length status) 0xAA) in
     let r = and_right a (t && (w && o)) e in
     let q = and_right t (w && o) r in (
-      same_answer_lem (call_answer table goal_registered BadChecksum id [] out) (Sent (length status) 0) (and_left a (t && (w && o)) e),
+      same_answer_lem (call_answer table goal_registered BadChecksum id [] out) (replied (length status) 0) (and_left a (t && (w && o)) e),
       same_lists (call_table table goal_registered BadChecksum id [] out) table (and_left t (w && o) r),
       same_registered_lem (call_registered table goal_registered BadChecksum id [] out) goal_registered (and_left w o q),
       same_lists (call_out table goal_registered BadChecksum id [] out) (status ++ replicate (32 - length status) 0xAA) (and_right w o q),

@@ -1,11 +1,13 @@
 -- The call on a packet as received, as the exchanges show it: what is lent to it, what it answers, and what it leaves.
+use Rattle.std.specs.Prelude.{Result}
 use Rattle.std.specs.Prelude.{List, [], ◌∷◌, ◌++◌, ℕ, ◌-◌, pos, length, replicate}
 use Rattle.table_registers.specs.Registers.{device_id, baud_code, torque_enable, status_return_level, hardware_error, max_position, min_position, goal_position, registered_instruction}
 use Rattle.table_items.specs.Items.{put}
 use Rattle.table_access.specs.Fresh.{fresh_table, measured}
-use Rattle.device.specs.declared.Replied.{Replied}
 use Rattle.device_packet.specs.Exchange.{exchange_answer, exchange_table, exchange_registered, exchange_body, exchange_out}
 use Rattle.device_instructions.specs.declared.RegisteredWrite.{RegisteredWrite}
+use Rattle.device.specs.declared.Sent.{Sent}
+use Rattle.answers.specs.declared.Refusal.{Refusal}
 
 -- control table, registered write, body buffer and reply buffer
 pub record Lent : Type 0 where
@@ -14,7 +16,7 @@ pub record Lent : Type 0 where
   pub body : List ℕ
   pub reply : List ℕ
 
-abbrev pub answer_to : List ℕ → Lent → Replied
+abbrev pub answer_to : List ℕ → Lent → Result Sent Refusal
 answer_to packet l = exchange_answer l.table l.registered packet l.body l.reply
 
 abbrev pub left_after : List ℕ → Lent → Lent

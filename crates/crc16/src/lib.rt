@@ -19,12 +19,10 @@ pub fn update(start: u16, bytes: &[u8]) -> u16
     let table = TABLE;
     let mut last = start;
     let mut before: u16 = 0;
-    let mut i = 0;
-    while i < bytes.len() {
-        let met = last ^ ((before ^ (bytes[i] as u16)) << 8);
+    for &byte in bytes {
+        let met = last ^ ((before ^ (byte as u16)) << 8);
         before = last;
         last = table[(met >> 8) as usize];
-        i += 1;
     }
     last ^ (before << 8)
 }

@@ -20,12 +20,10 @@ fn times(a: u16, b: u16) -> u16
     let mut sum = 0;
     let mut x = a;
     let mut y = b;
-    let mut bits: u8 = 16;
-    while 0 < bits {
-        sum = sum ^ (y % 2 * x);
+    for _ in 0..u16::BITS {
+        sum ^= y % 2 * x;
         x = shifted(x);
-        y = y / 2;
-        bits -= 1;
+        y /= 2;
     }
     sum
 }
@@ -43,7 +41,7 @@ fn after_zeros(crc: u16, count: usize) -> u16
             sum = times(power, sum);
         }
         power = times(power, power);
-        left = left / 2;
+        left /= 2;
     }
     sum
 }

@@ -71,32 +71,24 @@ fn eight_more(u: u64, high: u64, low: u64) -> u64
     folded(((u << 8) ^ (u << 4)) ^ times_16(w))
 }
 
-// Bytes as one number, by halves.
-fn two(a: u8, b: u8) -> u64
-    ensures { (result < 2 ^ 16) × Makes (a ∷ b ∷ []) result }
-{
-    ((a as u64) << 8) ^ (b as u64)
-}
-
+// Four bytes as one number.
 fn four(a: u8, b: u8, c: u8, d: u8) -> u64
     ensures { (result < 2 ^ 32) × Makes (a ∷ b ∷ c ∷ d ∷ []) result }
 {
-    (two(a, b) << 16) ^ two(c, d)
+    u64::from(u32::from_be_bytes([a, b, c, d]))
 }
 
-// The register after the bytes from `from` on, where a number and a parity stand for the one before them.
-fn tail(number: u64, parity: u64, bytes: &[u8], from: usize) -> u16
+// The register after the bytes, where a number and a parity stand for the one before them.
+fn tail(number: u64, parity: u64, bytes: &[u8]) -> u16
     requires { number < 2 ^ 36 }
-    ensures { result ≡ crc_from (register_of number parity) (drop from bytes.now) }
+    ensures { result ≡ crc_from (register_of number parity) bytes.now }
 {
     let mut u = number;
     let mut p = parity;
-    let mut i = from;
-    while i < bytes.len() {
-        let b = bytes[i] as u64;
+    for &byte in bytes {
+        let b = byte as u64;
         u = byte_more(u, b);
-        p = p ^ b;
-        i += 1;
+        p ^= b;
     }
     register_of(u, p)
 }
@@ -109,13 +101,13 @@ pub fn update(start: u16, bytes: &[u8]) -> u16
 {
     let mut u = start as u64;
     let mut p = start as u64;
-    let mut i = 0;
-    while 8 <= bytes.len() - i {
-        let high = four(bytes[i], bytes[i + 1], bytes[i + 2], bytes[i + 3]);
-        let low = four(bytes[i + 4], bytes[i + 5], bytes[i + 6], bytes[i + 7]);
+    let mut rest = bytes;
+    while let Some((eight, more)) = rest.split_first_chunk::<8>() {
+        let high = four(eight[0], eight[1], eight[2], eight[3]);
+        let low = four(eight[4], eight[5], eight[6], eight[7]);
         u = eight_more(u, high, low);
         p = (p ^ high) ^ low;
-        i += 8;
+        rest = more;
     }
-    tail(u, p, bytes, i)
+    tail(u, p, rest)
 }

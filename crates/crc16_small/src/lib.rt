@@ -17,12 +17,10 @@ pub fn update(start: u16, bytes: &[u8]) -> u16
 {
     let table = TABLE;
     let mut crc = start;
-    let mut i = 0;
-    while i < bytes.len() {
-        let byte = bytes[i] as u16;
+    for &byte in bytes {
+        let byte = byte as u16;
         let between = (crc << 4) ^ table[((crc >> 12) ^ (byte / 16)) as usize];
         crc = (between << 4) ^ table[((between >> 12) ^ (byte % 16)) as usize];
-        i += 1;
     }
     crc
 }

@@ -1,8 +1,8 @@
 -- Action and the limits.
+use Rattle.std.specs.Prelude.{None}
 use mathlib.Core.Path.{◌≡◌, refl, sym, ap, ◌∙◌}
 use mathlib.Core.Bool.{Bool, true, false, cond, not, ◌||◌, false≢true}
 use mathlib.Core.List.{List}
-use mathlib.Core.Option.{none}
 use Prim.Native.Nat.{ℕ}
 use lib.Dec.{eqb}
 use lib.ListN.{length}
@@ -16,11 +16,10 @@ use Rattle.device_dispatch.specs.Reactions.{own_id, reacting, unchanged, silent,
 use Rattle.device_laws.specs.Refused.{is_action, acts_on}
 use Rattle.device_laws.proofs.Theorems.{acting}
 use Rattle.device.specs.Device.{executed}
-use Rattle.device.specs.Answers.{call_refusal, call_answer}
+use Rattle.device.specs.Answers.{replied, call_refusal, call_answer}
 use Rattle.device.specs.ActionLimits.{acts_here, DroppedByLimits, ActionNeedsSameLimits}
 use Rattle.device.proofs.Calls.{accepted}
 use Rattle.device.proofs.Demand1.{sent_by}
-use Rattle.device.specs.declared.Replied.TheVariants.{Sent}
 use Rattle.device_instructions.specs.declared.RegisteredWrite.{RegisteredWrite}
 use Rattle.device_dispatch.specs.declared.Heard.{Heard}
 
@@ -52,8 +51,8 @@ module _ (table : List ℕ) (w : RegisteredWrite) (heard : Heard) (id : ℕ) (bo
       by_id false true e = acting table w heard true body is_action_lem
       by_id false false e = absurd (false≢true e)
 
-  module _ (out : List ℕ) (n slot : ℕ) (e : call_answer table w heard id body out ≡ Sent n slot) where
-    passes : call_refusal table w out ≡ none
+  module _ (out : List ℕ) (n slot : ℕ) (e : call_answer table w heard id body out ≡ replied n slot) where
+    passes : call_refusal table w out ≡ None
     passes = (sent_by (call_refusal table w out) _ n slot e).0
 
     sized : length table ≡ table_size

@@ -1,8 +1,8 @@
 -- A reply has at most 8 data bytes, an error byte of at most 135, a slot of at most 252, and the own ID or 0.
+use Rattle.std.specs.Prelude.{None, Option, Some}
 use mathlib.Core.Path.{◌≡◌, refl, ap}
 use mathlib.Core.Bool.{Bool, true, false, cond, true≢false}
 use mathlib.Core.List.{List, []}
-use mathlib.Core.Option.{Option, none, some}
 use Prim.Native.Nat.{ℕ, ◌+◌, ◌%◌, ◌≤◌}
 use native.Mathlib.Omega.{arith}
 use lib.Dec.{eqb, leb}
@@ -49,8 +49,8 @@ module _ (table : List ℕ) (w : RegisteredWrite) (sized : length table ≡ tabl
   read_small address n = record { few = by_rule (read_rule address n) refl; at_most_7 = read_number address n }
     where
       by_rule : (rule : Option ℕ) → read_rule address n ≡ rule → length (unless_refused rule [] (take n (drop address table))) ≤ 8
-      by_rule (some error) e = omega arith
-      by_rule none e =
+      by_rule (Some error) e = omega arith
+      by_rule None e =
           let s = read_short table address n (rw (eq-eqb (length table) table_size sized) e) in
           simp length-take (omega arith)
 

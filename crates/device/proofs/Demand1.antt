@@ -1,8 +1,9 @@
 -- What a refusal leaves.
-use mathlib.Core.Path.{◌≡◌, refl}
+use Rattle.std.specs.Prelude.{Err}
+use Rattle.std.specs.Prelude.{None, Option, Some}
+use mathlib.Core.Path.{◌≡◌, refl, ap}
 use mathlib.Core.Bool.{Bool, true, false, cond}
 use mathlib.Core.List.{List}
-use mathlib.Core.Option.{Option, none, some}
 use Prim.Native.Nat.{ℕ, ◌<◌}
 use native.Mathlib.Omega.{arith}
 use lib.Dec.{leb}
@@ -17,25 +18,27 @@ use Rattle.device_dispatch.specs.Reactions.{ReplyRule, silent, speaks, Reaction,
 use Rattle.device_laws.specs.Refused.{table_if_refused, registered_if_refused}
 use Rattle.device_laws.proofs.Theorems.{refused as reaction-refused}
 use Rattle.device.specs.Device.{hardware_error_in, reply_by, executed, carry_out}
-use Rattle.device.specs.Answers.{answered_by, call_refusal, call_answer}
+use Rattle.device.specs.Answers.{replied, answered_by, call_refusal, call_answer}
 use Rattle.device.specs.Demand1.{LeftAlone, LeftByRefusal, Demand1}
 use Rattle.device.proofs.Calls.{accepted}
 use Rattle.device.proofs.Replies.{to_whomever}
 use Rattle.device_status.specs.declared.Reply.{Reply}
+use Rattle.device.specs.declared.Sent.{Sent}
 use Rattle.device_instructions.specs.declared.RegisteredWrite.{RegisteredWrite}
 use Rattle.device_dispatch.specs.declared.Heard.{Heard}
-use Rattle.device.specs.declared.Replied.TheVariants.{Sent, Refused}
 
 -- ---- by the answer: refused, or not
 
-pub sent_by : (r : Option Refusal) (reply : Reply) (n slot : ℕ) → answered_by r reply ≡ Sent n slot
-    → (r ≡ none) × (length (reply_bytes reply) ≡ n) × (reply.slot ≡ slot)
-sent_by none reply n slot e = (refl, cc, cc)
-sent_by (some refusal) reply n slot e = let z : ◌≡◌ {A = ℕ} 0 1 = cc in absurd (omega arith)
+pub sent_by : (r : Option Refusal) (reply : Reply) (n slot : ℕ) → answered_by r reply ≡ replied n slot
+    → (r ≡ None) × (length (reply_bytes reply) ≡ n) × (reply.slot ≡ slot)
+sent_by None reply n slot e =
+    let s : ◌≡◌ {A = Sent} (record { count = length (reply_bytes reply); slot = reply.slot }) (record { count = n; slot = slot }) = cc in
+    (refl, ap (λ (x : Sent). x.count) s, ap (λ (x : Sent). x.slot) s)
+sent_by (Some refusal) reply n slot e = let z : ◌≡◌ {A = ℕ} 0 1 = cc in absurd (omega arith)
 
-pub refused_by : (r : Option Refusal) (reply : Reply) (refusal : Refusal) → answered_by r reply ≡ Refused refusal → r ≡ some refusal
-refused_by none reply refusal e = let z : ◌≡◌ {A = ℕ} 0 1 = cc in absurd (omega arith)
-refused_by (some other) reply refusal e = cc
+pub refused_by : (r : Option Refusal) (reply : Reply) (refusal : Refusal) → answered_by r reply ≡ Err refusal → r ≡ Some refusal
+refused_by None reply refusal e = let z : ◌≡◌ {A = ℕ} 0 1 = cc in absurd (omega arith)
+refused_by (Some other) reply refusal e = cc
 
 -- ---- the error byte of a status, whose first two body bytes need no stuffing
 
@@ -55,13 +58,13 @@ carries (speaks least slot) table e out h = by_level (leb least (get_or table 68
     by_level false l = absurd (omega arith)
 
 module _ (table : List ℕ) (w : RegisteredWrite) (heard : Heard) (id : ℕ) (body out : List ℕ) where
-  refused_call : (refusal : Refusal) → call_answer table w heard id body out ≡ Refused refusal → LeftAlone table w heard id body out
+  refused_call : (refusal : Refusal) → call_answer table w heard id body out ≡ Err refusal → LeftAlone table w heard id body out
   refused_call refusal e =
       let r = refused_by (call_refusal table w out) _ refusal e in
       record { same_table = rw r; same_registered_lem = rw r; same_reply = rw r }
 
-  module _ (n slot : ℕ) (e : call_answer table w heard id body out ≡ Sent n slot) where
-    passes : call_refusal table w out ≡ none
+  module _ (n slot : ℕ) (e : call_answer table w heard id body out ≡ replied n slot) where
+    passes : call_refusal table w out ≡ None
     passes = (sent_by (call_refusal table w out) _ n slot e).0
 
     left : ¬ ((executed table w heard id body).effect.error ≡ 0)

@@ -1,17 +1,21 @@
 -- The reply of a reaction, and to whom the device listens.
-use mathlib.Core.Path.{◌≡◌, refl}
+use Rattle.std.specs.Prelude.{Err, IfOk, Ok, Result}
+use mathlib.Core.Path.{◌≡◌, refl, ap, ◌∙◌}
 use mathlib.Core.Bool.{Bool, true, false, not, cond}
 use mathlib.Core.List.{List}
-use Prim.Native.Nat.{ℕ, ◌-◌}
+use Prim.Native.Nat.{ℕ, ◌≤◌}
+use native.Mathlib.Omega.{arith}
 use lib.Dec.{eqb}
 use lib.ListN.{get_or}
 use borrow.Author.Tests.{eq-eqb, ne_eqb}
 use Rattle.device_dispatch.specs.Reactions.{own_id, ReplyRule, silent, speaks, reaction, Reaction, reacting, unchanged}
 use Rattle.device.specs.Device.{reply_by, Carried, carried, executed, carry_out}
 use Rattle.device_dispatch.specs.declared.Heard.{Heard}
-use Rattle.device_instructions.specs.Results.{done_of}
+use Rattle.device_instructions.specs.Results.{Done, done_in, done_of}
+use Rattle.device_instructions.specs.declared.ReplyData.{ReplyData}
+use Rattle.device_instructions.specs.declared.Fault.{Fault}
 use Rattle.device_replies.specs.Results.{reacted_by, reacted_of}
-use Rattle.device.specs.Results.{reply_to}
+use Rattle.device.specs.Results.{number_in, reply_to}
 use Rattle.device_status.specs.Status.{silence}
 use Rattle.device_instructions.specs.declared.RegisteredWrite.{RegisteredWrite}
 
@@ -23,6 +27,32 @@ reply_of table q = by_replying q.replying
         → reply_to q.effect.table (get_or table 7 0) (get_or table 68 0) (reacted_by replying (done_of q.effect)) ≡ reply_by replying table q.effect
     by_replying silent = refl
     by_replying (speaks least slot) = refl
+
+-- ---- an answer of the code
+
+module _ (r : Result ReplyData Fault) (w : RegisteredWrite) (d : Done) (e : done_in r w ≡ d) where
+  pub number_is : number_in r ≡ d.error
+  number_is = by_result r ∙ ap (λ (x : Done). x.error) e
+    where
+      by_result : (r : Result ReplyData Fault) → number_in r ≡ (done_in r w).error
+      by_result (Ok reply) = refl
+      by_result (Err fault) = refl
+
+  pub registered_is : w ≡ d.registered
+  registered_is = by_result r ∙ ap (λ (x : Done). x.registered) e
+    where
+      by_result : (r : Result ReplyData Fault) → w ≡ (done_in r w).registered
+      by_result (Ok reply) = refl
+      by_result (Err fault) = refl
+
+  pub few_in : d.count ≤ 8 → IfOk r (λ reply. reply.count ≤ 8)
+  few_in l = by_result r (ap (λ (x : Done). x.count) e)
+    where
+      by_result : (r : Result ReplyData Fault) → (done_in r w).count ≡ d.count → IfOk r (λ reply. reply.count ≤ 8)
+      by_result (Ok reply) c = omega arith
+      by_result (Err fault) c = tt
+
+-- ---- to whom the device listens
 
 module _ (table : List ℕ) (w : RegisteredWrite) (heard : Heard) (id : ℕ) (body : List ℕ) where
   -- to the own ID, or to all devices

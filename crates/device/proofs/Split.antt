@@ -1,8 +1,9 @@
 -- The two calls, one straight after the other, are the one call.
+use Rattle.std.specs.Prelude.{Err}
+use Rattle.std.specs.Prelude.{None, Option, Some}
 use mathlib.Core.Path.{◌≡◌, refl, ◌∙◌}
 use mathlib.Core.Bool.{Bool, true, false}
 use mathlib.Core.List.{List}
-use mathlib.Core.Option.{Option, none, some}
 use Prim.Native.Nat.{ℕ, ◌≤◌}
 use native.Mathlib.Omega.{arith}
 use lib.Dec.{leb}
@@ -18,7 +19,6 @@ use Rattle.device.proofs.Calls.{state_accepted, then_room, refuses_room, accepts
 use Rattle.device.proofs.Bounds.{sendable}
 use Rattle.device_instructions.specs.declared.RegisteredWrite.{RegisteredWrite}
 use Rattle.device_dispatch.specs.declared.Heard.{Heard}
-use Rattle.device.specs.declared.Replied.TheVariants.{Refused}
 
 module _ (table : List ℕ) (w : RegisteredWrite) (heard : Heard) (id : ℕ) (body out : List ℕ) where
   -- the same, and that the first call refuses what the one call refuses
@@ -27,13 +27,13 @@ module _ (table : List ℕ) (w : RegisteredWrite) (heard : Heard) (id : ℕ) (bo
     pub refusals : state_refusal table w ≡ call_refusal table w out
 
   -- the first is refused
-  not_carried : (refusal : Refusal) → state_refusal table w ≡ some refusal → Same
+  not_carried : (refusal : Refusal) → state_refusal table w ≡ Some refusal → Same
   unfolding call_refusal
   not_carried refusal f =
       record { as_one = record { same_answer_lem = rw f; same_table = rw f; same_registered_lem = rw f; same_reply = rw f }; refusals = rw f }
 
   -- neither is
-  carried : state_refusal table w ≡ none → 32 ≤ length out → Same
+  carried : state_refusal table w ≡ None → 32 ≤ length out → Same
   carried f room =
       let a = state_accepted table w f in
       let g = sendable table w a.sized a.known heard id body in
@@ -44,17 +44,17 @@ module _ (table : List ℕ) (w : RegisteredWrite) (heard : Heard) (id : ℕ) (bo
         refusals = rw (f, c);
       }
 
-  by_state : (r : Option Refusal) → state_refusal table w ≡ r → (state_refusal table w ≡ none → Same) → Same
-  by_state (some refusal) e next = not_carried refusal e
-  by_state none e next = next e
+  by_state : (r : Option Refusal) → state_refusal table w ≡ r → (state_refusal table w ≡ None → Same) → Same
+  by_state (Some refusal) e next = not_carried refusal e
+  by_state None e next = next e
 
   pub with_room : 32 ≤ length out → Same
   with_room room = by_state (state_refusal table w) refl (λ f. carried f room)
 
-  pub unless_short : ¬ (call_answer table w heard id body out ≡ Refused ShortReply) → Same
+  pub unless_short : ¬ (call_answer table w heard id body out ≡ Err ShortReply) → Same
   unless_short n = by_state (state_refusal table w) refl (λ f. by_room f (leb 32 (length out)) refl)
     where
-      by_room : state_refusal table w ≡ none → (b : Bool) → leb 32 (length out) ≡ b → Same
+      by_room : state_refusal table w ≡ None → (b : Bool) → leb 32 (length out) ≡ b → Same
       by_room f true l = carried f (leb-true 32 (length out) l)
       by_room f false l =
           let c = then_room table w out f ∙ refuses_room out (omega (arith, leb-false 32 (length out) l)) in

@@ -1,8 +1,8 @@
 -- What the device call leaves of an accepted table and registered write is accepted, and whatever else each change of a table keeps
 -- holds after the call.
+use Rattle.std.specs.Prelude.{None, Option, Some}
 use mathlib.Core.Path.{◌≡◌, refl, sym, ◌∙◌}
 use mathlib.Core.List.{List}
-use mathlib.Core.Option.{Option, none, some}
 use Prim.Native.Nat.{ℕ, ◌≤◌}
 use native.Mathlib.Omega.{arith}
 use lib.Dec.{leb}
@@ -36,8 +36,8 @@ module _ (P : List ℕ → Type 0) (kept : Kept P) (table : List ℕ) (p : P tab
 
   -- whatever registered write is lent, and whatever refuses it
   unless_keeps : (r : Option Refusal) → P (unless_refused r table (executed table w heard id body).effect.table)
-  unless_keeps none = executed_keeps
-  unless_keeps (some number) = p
+  unless_keeps None = executed_keeps
+  unless_keeps (Some number) = p
 
   pub carry_keeps : P (carried_table table w heard id body)
   carry_keeps = unless_keeps (state_refusal table w)
@@ -56,12 +56,12 @@ module _ (table : List ℕ) (w : RegisteredWrite) (heard : Heard) (id : ℕ) (bo
       short
 
   -- a registered write with a count above 8 stays
-  unless_count : (r : Option Refusal) → (r ≡ none → AcceptedState table w)
+  unless_count : (r : Option Refusal) → (r ≡ None → AcceptedState table w)
       → leb (kept_by r w (executed table w heard id body).effect.registered).count 8 ≡ leb w.count 8
-  unless_count none good =
+  unless_count None good =
       let a = good refl in
       le-leb _ 8 (executed_short a.sized a.short) ∙ sym (le-leb w.count 8 a.short)
-  unless_count (some number) good = refl
+  unless_count (Some number) good = refl
 
   pub carry_count : leb (carried_registered table w heard id body).count 8 ≡ leb w.count 8
   carry_count = unless_count (state_refusal table w) (state_accepted table w)
@@ -72,7 +72,7 @@ module _ (table : List ℕ) (w : RegisteredWrite) (heard : Heard) (id : ℕ) (bo
       (λ e. let a = accepted table w out e in record { sized = a.sized; known = a.known; short = a.short })
 
   -- where nothing is refused
-  pub carry_accepted : state_refusal table w ≡ none → state_refusal (carry_out table w heard id body).table (carry_out table w heard id body).registered ≡ none
+  pub carry_accepted : state_refusal table w ≡ None → state_refusal (carry_out table w heard id body).table (carry_out table w heard id body).registered ≡ None
   carry_accepted e =
       let a = state_accepted table w e in
       let f = executed_keeps FitTable fit_kept table (record { sized = a.sized; known = a.known }) w heard id body in

@@ -1,7 +1,7 @@
 -- What is sent to an ID that no device has.
+use Rattle.std.specs.Prelude.{None, Option, Some}
 use mathlib.Core.Path.{◌≡◌, refl, sym, ap}
 use mathlib.Core.List.{List}
-use mathlib.Core.Option.{Option, none, some}
 use Prim.Native.Nat.{ℕ, ◌≤◌}
 use native.Mathlib.Omega.{arith}
 use Rattle.answers.specs.declared.Refusal.{Refusal}
@@ -31,14 +31,14 @@ module _ (table : List ℕ) (w : RegisteredWrite) (heard : Heard) (body out : Li
   unheard = by_refusal (call_refusal table w out) refl
     where
       by_refusal : (r : Option Refusal) → call_refusal table w out ≡ r → Unheard
-      by_refusal (some number) e = record { same_table = rw e; same_registered_lem = rw e; same_reply = rw e; silent = rw e }
-      by_refusal none e =
+      by_refusal (Some number) e = record { same_table = rw e; same_registered_lem = rw e; same_reply = rw e; silent = rw e }
+      by_refusal None e =
           let c = nothing_done (accepted table w out e).known in
           record {
             same_table = rw e (ap (λ (x : Carried). x.table) c);
             same_registered_lem = rw e (ap (λ (x : Carried). x.registered) c);
             same_reply = rw e (ap (λ (x : Carried). overwritten out (reply_bytes x.reply)) c);
-            silent = rw e (ap (λ (x : Carried). answered_by none x.reply) c);
+            silent = rw e (ap (λ (x : Carried). answered_by None x.reply) c);
           }
 
   -- likewise of the first of two calls
@@ -51,8 +51,8 @@ module _ (table : List ℕ) (w : RegisteredWrite) (heard : Heard) (body out : Li
   first_unheard = by_refusal (state_refusal table w) refl
     where
       by_refusal : (r : Option Refusal) → state_refusal table w ≡ r → FirstUnheard
-      by_refusal (some number) e = record { same_table = rw e; same_registered_lem = rw e; silent = rw e }
-      by_refusal none e =
+      by_refusal (Some number) e = record { same_table = rw e; same_registered_lem = rw e; silent = rw e }
+      by_refusal None e =
           let c = nothing_done (state_accepted table w e).known in
           record {
             same_table = rw e (ap (λ (x : Carried). x.table) c);

@@ -1,7 +1,7 @@
 -- The status that is written.
+use Rattle.std.specs.Prelude.{None, Option, Some}
 use mathlib.Core.Path.{◌≡◌, refl, sym, ap, subst, ◌∙◌}
 use mathlib.Core.List.{List}
-use mathlib.Core.Option.{Option, none, some}
 use Prim.Native.Nat.{ℕ, ◌≤◌, ◌<◌}
 use native.Mathlib.Omega.{arith}
 use lib.ListN.{length, take}
@@ -49,8 +49,8 @@ first_early : (table : List ℕ) (w : RegisteredWrite) (heard : Heard) (id : ℕ
 first_early table w heard id body = by_refusal (state_refusal table w) refl
   where
     by_refusal : (r : Option Refusal) → state_refusal table w ≡ r → (carried_reply table w heard id body).slot ≤ 252
-    by_refusal (some number) e = rw e (omega arith)
-    by_refusal none e = let a = state_accepted table w e in rw e (sendable table w a.sized a.known heard id body).early
+    by_refusal (Some number) e = rw e (omega arith)
+    by_refusal None e = let a = state_accepted table w e in rw e (sendable table w a.sized a.known heard id body).early
 
 pub slot_within : SlotWithin
 slot_within =

@@ -3,11 +3,10 @@ use Rattle.std.specs.Prelude.{◌≡◌, Bool, true, ◌&&◌, ◌||◌, List, �
 use Rattle.device_instructions.specs.Registered.{dropped, LimitsOf}
 use Rattle.device_dispatch.specs.Reactions.{own_id}
 use Rattle.device_laws.specs.Refused.{acts_on}
-use Rattle.device.specs.Answers.{call_answer, call_table, call_registered}
+use Rattle.device.specs.Answers.{replied, call_answer, call_table, call_registered}
 use Rattle.device.specs.Demand1.{error_number}
 use Rattle.device_instructions.specs.declared.RegisteredWrite.{RegisteredWrite}
 use Rattle.device_dispatch.specs.declared.Heard.{Heard}
-use Rattle.device.specs.declared.Replied.TheVariants.{Sent}
 
 -- an Action without parameters, to the device or to all, that finds a registered write [D49]
 abbrev pub acts_here : List ℕ → RegisteredWrite → Heard → ℕ → List ℕ → Bool
@@ -23,9 +22,9 @@ pub record DroppedByLimits (table : List ℕ) (w : RegisteredWrite) (heard : Hea
 pub record ActionNeedsSameLimits : Type 0 where
   -- one that is not refused has found them as they were
   pub done : (table : List ℕ) (w : RegisteredWrite) (heard : Heard) (id : ℕ) (body out : List ℕ) (n slot : ℕ)
-      → call_answer table w heard id body out ≡ Sent n slot → acts_here table w heard id body ≡ true
+      → call_answer table w heard id body out ≡ replied n slot → acts_here table w heard id body ≡ true
       → error_number table w heard id body ≡ 0 → LimitsOf table w
   -- and under others it is refused before the write rule
   pub changed : (table : List ℕ) (w : RegisteredWrite) (heard : Heard) (id : ℕ) (body out : List ℕ) (n slot : ℕ)
-      → call_answer table w heard id body out ≡ Sent n slot → acts_here table w heard id body ≡ true
+      → call_answer table w heard id body out ≡ replied n slot → acts_here table w heard id body ≡ true
       → ¬ LimitsOf table w → DroppedByLimits table w heard id body out

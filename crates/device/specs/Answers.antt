@@ -1,11 +1,9 @@
 -- The calls of the device: refusals, and what is answered and left.
+use Rattle.std.specs.Prelude.{Err, None, Ok, Option, Result, Some}
 use Rattle.std.specs.Prelude.{List, [], ◌∷◌, ℕ, leb, eqb, length}
-use Rattle.std.proofs.Math.Option.{Option, none, some}
 use Rattle.answers.specs.Refusals.{first_failing, or_else, unless_refused}
 use Rattle.answers.specs.declared.Refusal.{Refusal}
 use Rattle.answers.specs.declared.Refusal.TheVariants.{NotATable, BadTableId, BadRegistered, ShortReply}
-use Rattle.answers.specs.declared.Answer.{Answer}
-use Rattle.answers.specs.declared.Answer.TheVariants.{Count, Refused as Answer-as-Refused}
 use Rattle.lists.specs.Write.{overwritten}
 use Rattle.table_registers.specs.Registers.{table_size}
 use Rattle.device_instructions.specs.Registered.{kept_by}
@@ -14,9 +12,8 @@ use Rattle.device.specs.Device.{carry_out}
 use Rattle.device_instructions.specs.declared.RegisteredWrite.{RegisteredWrite}
 use Rattle.device_status.specs.declared.Reply.{Reply}
 use Rattle.device_dispatch.specs.declared.Heard.{Heard}
-use Rattle.device.specs.declared.Replied.{Replied}
-use Rattle.device.specs.declared.Replied.TheVariants.{Sent, Refused}
 use Rattle.device_status.specs.Status.{silence, reply_bytes}
+use Rattle.device.specs.declared.Sent.{Sent}
 
 -- of table and registered write [N5-N7]
 unfoldable pub state_refusal : List ℕ → RegisteredWrite → Option Refusal
@@ -31,13 +28,13 @@ state_refusal table w =
 
 -- a refused one answers silence [D51]
 abbrev pub reply_unless : Option Refusal → Reply → Reply
-reply_unless none reply = reply
-reply_unless (some refusal) reply = silence
+reply_unless None reply = reply
+reply_unless (Some refusal) reply = silence
 
 -- and has no error number
 abbrev pub error_unless : Option Refusal → ℕ → ℕ
-error_unless none error = error
-error_unless (some refusal) error = 0
+error_unless None error = error
+error_unless (Some refusal) error = 0
 
 module _ (table : List ℕ) (w : RegisteredWrite) (heard : Heard) (id : ℕ) (body : List ℕ) where
   -- [D50 D51]
@@ -66,22 +63,26 @@ room_refusal out = first_failing ((leb 32 (length out), ShortReply) ∷ [])
 unfoldable pub call_refusal : List ℕ → RegisteredWrite → List ℕ → Option Refusal
 call_refusal table w out = or_else (state_refusal table w) (room_refusal out)
 
+-- a status of n bytes, 0 for silence, and its reply slot
+abbrev pub replied : ℕ → ℕ → Result Sent Refusal
+replied n slot = Ok (record { count = n; slot = slot })
+
 -- what the function that sends answers, with the reply slot [D35]
-abbrev pub with_slot : Answer → ℕ → Replied
-with_slot (Count n) slot = Sent n slot
-with_slot (Answer-as-Refused refusal) slot = Refused refusal
+abbrev pub with_slot : Result ℕ Refusal → ℕ → Result Sent Refusal
+with_slot (Ok n) slot = replied n slot
+with_slot (Err refusal) slot = Err refusal
 
 -- the status's byte count and the reply slot, both 0 when silent; or a refusal [D35]
-abbrev pub answered_by : Option Refusal → Reply → Replied
-answered_by none reply = Sent (length (reply_bytes reply)) reply.slot
-answered_by (some refusal) reply = Refused refusal
+abbrev pub answered_by : Option Refusal → Reply → Result Sent Refusal
+answered_by None reply = replied (length (reply_bytes reply)) reply.slot
+answered_by (Some refusal) reply = Err refusal
 
 -- a refusal of the first call, or none: nothing is sent by it [D51 N5-N7]
-abbrev pub carried_answer : List ℕ → RegisteredWrite → Replied
+abbrev pub carried_answer : List ℕ → RegisteredWrite → Result Sent Refusal
 carried_answer table w = answered_by (state_refusal table w) silence
 
 module _ (table : List ℕ) (w : RegisteredWrite) (heard : Heard) (id : ℕ) (body out : List ℕ) where
-  abbrev pub call_answer : Replied
+  abbrev pub call_answer : Result Sent Refusal
   call_answer = answered_by (call_refusal table w out) (carry_out table w heard id body).reply
 
   abbrev pub call_table : List ℕ

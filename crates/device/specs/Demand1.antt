@@ -1,13 +1,13 @@
 -- Demand 1: a refusal leaves table and registered write as they were, except that an Action has dropped the one it found.
+use Rattle.std.specs.Prelude.{Err}
 use Rattle.std.specs.Prelude.{◌≡◌, List, ℕ, ◌<◌, get_or}
 use Rattle.answers.specs.declared.Refusal.{Refusal}
 use Rattle.device_status.specs.Status.{error_byte}
 use Rattle.device_laws.specs.Refused.{table_if_refused, registered_if_refused}
 use Rattle.device.specs.Device.{hardware_error_in, carry_out}
-use Rattle.device.specs.Answers.{call_answer, call_table, call_registered, call_out}
+use Rattle.device.specs.Answers.{replied, call_answer, call_table, call_registered, call_out}
 use Rattle.device_instructions.specs.declared.RegisteredWrite.{RegisteredWrite}
 use Rattle.device_dispatch.specs.declared.Heard.{Heard}
-use Rattle.device.specs.declared.Replied.TheVariants.{Sent, Refused}
 
 -- the error number of an instruction, 0 for none: that of its status, or of the status that it would have where it is not answered
 -- [D40]
@@ -29,13 +29,13 @@ module _ (table : List ℕ) (w : RegisteredWrite) (heard : Heard) (id : ℕ) (bo
 pub record Demand1 : Type 0 where
   -- a call that is refused
   pub refused_call : (table : List ℕ) (w : RegisteredWrite) (heard : Heard) (id : ℕ) (body out : List ℕ) (refusal : Refusal)
-      → call_answer table w heard id body out ≡ Refused refusal → LeftAlone table w heard id body out
+      → call_answer table w heard id body out ≡ Err refusal → LeftAlone table w heard id body out
   -- an instruction that is refused, whether or not that is answered
   pub refused_instruction : (table : List ℕ) (w : RegisteredWrite) (heard : Heard) (id : ℕ) (body out : List ℕ) (n slot : ℕ)
-      → call_answer table w heard id body out ≡ Sent n slot → ¬ (error_number table w heard id body ≡ 0)
+      → call_answer table w heard id body out ≡ replied n slot → ¬ (error_number table w heard id body ≡ 0)
       → LeftByRefusal table w heard id body out
   -- the number is the one that a status carries: byte 8 is the error byte
   pub in_status : (table : List ℕ) (w : RegisteredWrite) (heard : Heard) (id : ℕ) (body out : List ℕ) (n slot : ℕ)
-      → call_answer table w heard id body out ≡ Sent n slot → 0 < n
+      → call_answer table w heard id body out ≡ replied n slot → 0 < n
       → get_or (call_out table w heard id body out) 8 0
       ≡ error_byte (error_number table w heard id body) (hardware_error_in (call_table table w heard id body out))

@@ -1,6 +1,7 @@
 -- The device call in two: the first carries out, and the second sends when the reply slot has come.
+use Rattle.std.specs.Prelude.{Err, Result}
+use Rattle.std.specs.Prelude.{None, Option, Some}
 use Rattle.std.specs.Prelude.{◌≡◌, List, ℕ}
-use Rattle.std.proofs.Math.Option.{Option, none, some}
 use Rattle.answers.specs.Refusals.{unless_refused}
 use Rattle.answers.specs.declared.Refusal.{Refusal}
 use Rattle.answers.specs.declared.Refusal.TheVariants.{ShortReply}
@@ -9,13 +10,12 @@ use Rattle.device.specs.Answers.{with_slot, state_refusal, carried_reply, carrie
 use Rattle.device_instructions.specs.declared.RegisteredWrite.{RegisteredWrite}
 use Rattle.device_status.specs.declared.Reply.{Reply}
 use Rattle.device_dispatch.specs.declared.Heard.{Heard}
-use Rattle.device.specs.declared.Replied.{Replied}
-use Rattle.device.specs.declared.Replied.TheVariants.{Refused}
+use Rattle.device.specs.declared.Sent.{Sent}
 
 -- the second call straight after the first, unless that was refused: what both answer [D54]
-abbrev pub answer_of_both : Option Refusal → Reply → List ℕ → Replied
-answer_of_both none reply out = with_slot (status_answer reply out) reply.slot
-answer_of_both (some refusal) reply out = Refused refusal
+abbrev pub answer_of_both : Option Refusal → Reply → List ℕ → Result Sent Refusal
+answer_of_both None reply out = with_slot (status_answer reply out) reply.slot
+answer_of_both (Some refusal) reply out = Err refusal
 
 -- and the reply buffer [D54]
 abbrev pub out_of_both : Option Refusal → Reply → List ℕ → List ℕ
@@ -33,4 +33,4 @@ module _ (table : List ℕ) (w : RegisteredWrite) (heard : Heard) (id : ℕ) (bo
 abbrev pub Split : Type 0
 Split =
     (table : List ℕ) (w : RegisteredWrite) (heard : Heard) (id : ℕ) (body out : List ℕ)
-    → ¬ (call_answer table w heard id body out ≡ Refused ShortReply) → SameAsOne table w heard id body out
+    → ¬ (call_answer table w heard id body out ≡ Err ShortReply) → SameAsOne table w heard id body out

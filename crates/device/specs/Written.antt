@@ -3,10 +3,9 @@ use Rattle.std.specs.Prelude.{◌≡◌, List, ℕ, ◌≤◌, ◌<◌, take}
 use Rattle.packet_front.specs.Front.{id_of}
 use Rattle.packet.specs.Packet.{WellFormed}
 use Rattle.device_dispatch.specs.Reactions.{own_id}
-use Rattle.device.specs.Answers.{carried_reply, call_answer, call_out}
+use Rattle.device.specs.Answers.{replied, carried_reply, call_answer, call_out}
 use Rattle.device_instructions.specs.declared.RegisteredWrite.{RegisteredWrite}
 use Rattle.device_dispatch.specs.declared.Heard.{Heard}
-use Rattle.device.specs.declared.Replied.TheVariants.{Sent}
 
 -- the n bytes are a status of the device whose ID, before the instruction, is `own` [D41]
 pub record IsStatus (own n : ℕ) (bytes : List ℕ) : Type 0 where
@@ -18,10 +17,10 @@ pub record IsStatus (own n : ℕ) (bytes : List ℕ) : Type 0 where
 abbrev pub StatusWritten : Type 0
 StatusWritten =
     (table : List ℕ) (w : RegisteredWrite) (heard : Heard) (id : ℕ) (body out : List ℕ) (n slot : ℕ)
-    → call_answer table w heard id body out ≡ Sent n slot → 0 < n → IsStatus (own_id table) n (take n (call_out table w heard id body out))
+    → call_answer table w heard id body out ≡ replied n slot → 0 < n → IsStatus (own_id table) n (take n (call_out table w heard id body out))
 
 -- the reply slot, of the call in one and of the reply that the first of two gives [D34 D35]
 pub record SlotWithin : Type 0 where
   pub in_one_lem : (table : List ℕ) (w : RegisteredWrite) (heard : Heard) (id : ℕ) (body out : List ℕ) (n slot : ℕ)
-      → call_answer table w heard id body out ≡ Sent n slot → slot ≤ 252
+      → call_answer table w heard id body out ≡ replied n slot → slot ≤ 252
   pub in_two_lem : (table : List ℕ) (w : RegisteredWrite) (heard : Heard) (id : ℕ) (body : List ℕ) → (carried_reply table w heard id body).slot ≤ 252

@@ -1,9 +1,10 @@
+use Rattle.std.specs.Prelude.{Err, Result}
+use Rattle.std.specs.Prelude.{None, Some}
 use mathlib.Core.Path.{◌≡◌, refl, ap, subst, ◌∙◌}
 use mathlib.Core.Bool.{Bool, true, ◌&&◌}
 use mathlib.Core.List.Memᴰ
 use mathlib.Core.List.{List, [], ◌∷◌, ◌++◌, Memᴰ}
 use mathlib.Core.Logic.{⊎_elim}
-use mathlib.Core.Option.{none, some}
 use Prim.Native.Nat.{ℕ, ◌≤◌}
 use native.Mathlib.Omega.{arith}
 use lib.Dec.{leb}
@@ -38,15 +39,14 @@ use Rattle.device_instructions.specs.declared.RegisteredWrite.{RegisteredWrite}
 use Rattle.device_dispatch.specs.Reactions.{heard_instruction}
 use Rattle.device_dispatch.specs.declared.Heard.TheVariants.{Packet, BadChecksum}
 use Rattle.device.specs.Device.{executed}
-use Rattle.device.specs.Answers.{state_refusal, room_refusal, call_refusal}
+use Rattle.device.specs.Answers.{replied, state_refusal, room_refusal, call_refusal}
 use Rattle.device_packet.specs.Exchange.{id_heard}
-use Rattle.device.specs.declared.Replied.{Replied}
-use Rattle.device.specs.declared.Replied.TheVariants.{Sent, Refused}
 use Rattle.board.specs.Board.{lent_refusal, outcome}
 use Rattle.device_calls.specs.Calls.{State, DeviceCall, fresh, measurement, device, exchange, carry, carry_packet, on_board, lend, state_of, after_all, refusal_in}
 use Rattle.cases.specs.Exchanges.{goal_at_512, registered_table, goal_too_large, goal_registered, ping_wrong_checksum}
 use Rattle.cases.specs.Cases.{ping_to_all, write_goal}
 use Rattle.device_applications.specs.Devices.{room, short, body_room, longest, behind_fresh, each_kind, start, none_start, ended, stored, on_stored, ended_stored, too_many, StaysAcceptedApplied, restored, GoalWithinLimitsApplied, write_too_large, other_limits, alerted, marked, sync_limits, cut, limits_registered, limited, DevicePromisesApplied, SplitApplied, seven_bytes, six_bytes, write_marked, badly_stuffed, to253, longest_packet, ExchangePromisesApplied}
+use Rattle.device.specs.declared.Sent.{Sent}
 
 -- every lent count is at most 8, by a test
 abbrev lent_fits : DeviceCall → Bool
@@ -81,26 +81,26 @@ stored_ends : after_all stored on_stored ≡ ended_stored
 unfolding reduce_if shift shifts crc_byte crc_from stuff_after well_after unstuff_after length_of body_of checksum_right with_checksum packet_of front_agrees length_agrees registers permits_by number_at value_at bytes_of put freshened every_byte every_touched goal_inside limits_kept write_rule read_rule read write same_limits reg_write action heard_instruction executed state_refusal room_refusal call_refusal removal_refusal id_heard shapeVerdict outcome lent_refusal first fed call
 stored_ends = refl
 
-accepted_start : refusal_in start ≡ none
+accepted_start : refusal_in start ≡ None
 unfolding put bytes_of freshened registers state_refusal
 accepted_start = refl
 
-accepted_none_start : refusal_in none_start ≡ none
+accepted_none_start : refusal_in none_start ≡ None
 unfolding put bytes_of freshened registers state_refusal
 accepted_none_start = refl
 
-accepted_stored : refusal_in stored ≡ none
+accepted_stored : refusal_in stored ≡ None
 unfolding put bytes_of freshened registers state_refusal
 accepted_stored = refl
 
 pub stays_accepted_applied : StaysAcceptedApplied
 stays_accepted_applied t = (
   ends,
-  subst (λ (s : State). refusal_in s ≡ none) ends (t.stays start each_kind accepted_start (all_lent each_kind refl)),
-  subst (λ (s : State). refusal_in (state_of s.table too_many) ≡ some BadRegistered) ends (t.by_lent start (each_kind ++ lend too_many ∷ []) accepted_start),
+  subst (λ (s : State). refusal_in s ≡ None) ends (t.stays start each_kind accepted_start (all_lent each_kind refl)),
+  subst (λ (s : State). refusal_in (state_of s.table too_many) ≡ Some BadRegistered) ends (t.by_lent start (each_kind ++ lend too_many ∷ []) accepted_start),
   stored_ends,
-  subst (λ (s : State). refusal_in s ≡ none) stored_ends (t.stays stored on_stored accepted_stored (all_lent on_stored refl)),
-  subst (λ (s : State). refusal_in (state_of s.table too_many) ≡ some BadRegistered) stored_ends (t.by_lent stored (on_stored ++ lend too_many ∷ []) accepted_stored),
+  subst (λ (s : State). refusal_in s ≡ None) stored_ends (t.stays stored on_stored accepted_stored (all_lent on_stored refl)),
+  subst (λ (s : State). refusal_in (state_of s.table too_many) ≡ Some BadRegistered) stored_ends (t.by_lent stored (on_stored ++ lend too_many ∷ []) accepted_stored),
   none_ends,
   t.stays none_start each_kind accepted_none_start (all_lent each_kind refl),
   t.by_lent none_start (each_kind ++ lend too_many ∷ []) accepted_none_start,
@@ -119,7 +119,7 @@ goal_within_limits_applied t = (
 )
 
 -- contradictory answers
-not_refused : (n slot : ℕ) (refusal : Refusal) → ¬ (◌≡◌ {A = Replied} (Sent n slot) (Refused refusal))
+not_refused : (n slot : ℕ) (refusal : Refusal) → ¬ (◌≡◌ {A = Result Sent Refusal} (replied n slot) (Err refusal))
 not_refused n slot refusal e = let z : ◌≡◌ {A = ℕ} 0 1 = cc in absurd (omega arith)
 
 other_limits_lem : ¬ LimitsOf other_limits goal_registered
@@ -221,7 +221,7 @@ wrong_id : ¬ WellFormed to253
 wrong_id w = both_ways (good_id (id_of to253)) w.identified refl
 
 -- other refusals
-not_short : ¬ (◌≡◌ {A = Replied} (Refused BadRegistered) (Refused ShortReply))
+not_short : ¬ (◌≡◌ {A = Result Sent Refusal} (Err BadRegistered) (Err ShortReply))
 not_short e = let z : ◌≡◌ {A = ℕ} 23 24 = cc in absurd (omega arith)
 
 pub split_applied : SplitApplied

@@ -1,6 +1,7 @@
 -- What is promised of the device, applied: lists of calls, refusals, statuses, Action and the limits, the call in two, packets.
+use Rattle.std.specs.Prelude.{Err}
+use Rattle.std.specs.Prelude.{None, Some}
 use Rattle.std.specs.Prelude.{◌≡◌, true, List, [], ◌∷◌, ◌++◌, ℕ, ◌≤◌, pos, take, replicate, get_or}
-use Rattle.std.proofs.Math.Option.{none, some}
 use Rattle.answers.specs.declared.Refusal.TheVariants.{BadStuffing, NoRoom, BadRegistered}
 use Rattle.reading.specs.Calls.{feed}
 use Rattle.packet_front.specs.Front.{id_of}
@@ -14,12 +15,11 @@ use Rattle.device_instructions.specs.Registered.{dropped}
 use Rattle.device_instructions.specs.declared.RegisteredWrite.{RegisteredWrite}
 use Rattle.device_dispatch.specs.declared.Heard.TheVariants.{Packet, BadChecksum}
 use Rattle.device_status.specs.Status.{status, silence}
-use Rattle.device.specs.Answers.{state_refusal, carried_table, carried_registered, carried_reply, call_table, call_registered, call_out}
+use Rattle.device.specs.Answers.{replied, state_refusal, carried_table, carried_registered, carried_reply, call_table, call_registered, call_out}
 use Rattle.device.specs.Demand1.{error_number}
 use Rattle.device.specs.Promises.{DevicePromises}
 use Rattle.device.specs.Split.{Split, answer_of_both, out_of_both}
 use Rattle.device_packet.specs.Exchange.{heard_of, packet_refusal, packet_answer, packet_reply, packet_table, packet_registered, packet_body, exchange_refusal, exchange_answer, exchange_table, exchange_registered, exchange_body, exchange_out}
-use Rattle.device.specs.declared.Replied.TheVariants.{Sent, Refused}
 use Rattle.device_calls.specs.Calls.{State, DeviceCall, fresh, measurement, device, exchange, carry, carry_packet, on_board, lend, state_of, after_all, refusal_in}
 use Rattle.device_calls.specs.Stays.{StaysAccepted}
 use Rattle.device_calls.specs.GoalWithinLimits.{GoalWithinLimits}
@@ -112,15 +112,15 @@ abbrev pub StaysAcceptedApplied : Type 0
 StaysAcceptedApplied =
     StaysAccepted
     → (after_all start each_kind ≡ ended)
-    × (refusal_in ended ≡ none)
-    × (refusal_in (state_of ended.table too_many) ≡ some BadRegistered)
+    × (refusal_in ended ≡ None)
+    × (refusal_in (state_of ended.table too_many) ≡ Some BadRegistered)
     × (after_all stored on_stored ≡ ended_stored)
-    × (refusal_in ended_stored ≡ none)
-    × (refusal_in (state_of ended_stored.table too_many) ≡ some BadRegistered)
+    × (refusal_in ended_stored ≡ None)
+    × (refusal_in (state_of ended_stored.table too_many) ≡ Some BadRegistered)
     -- where nothing is registered at first
     × (after_all none_start each_kind ≡ ended)
-    × (refusal_in (after_all none_start each_kind) ≡ none)
-    × (refusal_in (state_of (after_all none_start each_kind).table too_many) ≡ some BadRegistered)
+    × (refusal_in (after_all none_start each_kind) ≡ None)
+    × (refusal_in (state_of (after_all none_start each_kind).table too_many) ≡ Some BadRegistered)
 
 -- limits 100 and 100, and a goal position outside them, as a store might have left them
 abbrev pub restored : State
@@ -249,23 +249,23 @@ long_status =
 
 pub record InTwo : Type 0 where
   -- a Ping, and an Action that stores the goal position
-  pub ping_answer : answer_of_both (state_refusal fresh_table longest) (carried_reply fresh_table longest Packet 1 (0x01 ∷ [])) room ≡ Sent 14 0
+  pub ping_answer : answer_of_both (state_refusal fresh_table longest) (carried_reply fresh_table longest Packet 1 (0x01 ∷ [])) room ≡ replied 14 0
   pub ping_reply : take 14 (out_of_both (state_refusal fresh_table longest) (carried_reply fresh_table longest Packet 1 (0x01 ∷ [])) room) ≡ ping_status
   pub action_table : carried_table registered_table goal_registered Packet 1 (0x05 ∷ []) ≡ goal_at_512
   pub action_registered : carried_registered registered_table goal_registered Packet 1 (0x05 ∷ []) ≡ dropped
   -- a Ping with nothing registered
-  pub none_ping_answer : answer_of_both (state_refusal fresh_table dropped) (carried_reply fresh_table dropped Packet 1 (0x01 ∷ [])) room ≡ Sent 14 0
+  pub none_ping_answer : answer_of_both (state_refusal fresh_table dropped) (carried_reply fresh_table dropped Packet 1 (0x01 ∷ [])) room ≡ replied 14 0
   pub none_ping_reply : take 14 (out_of_both (state_refusal fresh_table dropped) (carried_reply fresh_table dropped Packet 1 (0x01 ∷ [])) room) ≡ ping_status
   -- a bad checksum
-  pub checksum_answer : answer_of_both (state_refusal alerted longest) (carried_reply alerted longest BadChecksum 1 []) room ≡ Sent 11 0
+  pub checksum_answer : answer_of_both (state_refusal alerted longest) (carried_reply alerted longest BadChecksum 1 []) room ≡ replied 11 0
   pub checksum_table : carried_table alerted longest BadChecksum 1 [] ≡ alerted
   pub checksum_registered : carried_registered alerted longest BadChecksum 1 [] ≡ longest
   pub checksum_reply : take 11 (out_of_both (state_refusal alerted longest) (carried_reply alerted longest BadChecksum 1 []) room) ≡ checksum_status
   -- the longest status
-  pub long_answer : answer_of_both (state_refusal marked longest) (carried_reply marked longest Packet 254 sync_limits) room ≡ Sent 21 2
+  pub long_answer : answer_of_both (state_refusal marked longest) (carried_reply marked longest Packet 254 sync_limits) room ≡ replied 21 2
   pub long_reply : take 21 (out_of_both (state_refusal marked longest) (carried_reply marked longest Packet 254 sync_limits) room) ≡ long_status
   -- 23, which comes before 24
-  pub stopped_answer : answer_of_both (state_refusal fresh_table too_many) (carried_reply fresh_table too_many Packet 1 (0x01 ∷ [])) short ≡ Refused BadRegistered
+  pub stopped_answer : answer_of_both (state_refusal fresh_table too_many) (carried_reply fresh_table too_many Packet 1 (0x01 ∷ [])) short ≡ Err BadRegistered
   pub stopped_table : carried_table fresh_table too_many Packet 1 (0x01 ∷ []) ≡ fresh_table
   pub stopped_registered : carried_registered fresh_table too_many Packet 1 (0x01 ∷ []) ≡ too_many
   pub stopped_reply : out_of_both (state_refusal fresh_table too_many) (carried_reply fresh_table too_many Packet 1 (0x01 ∷ [])) short ≡ short
@@ -305,70 +305,70 @@ pub record ExchangeApplied : Type 0 where
   pub its_id : (heard_of write_goal).id ≡ 1
   pub to_all : (heard_of ping_to_all).id ≡ 254
   -- in one
-  pub answer : exchange_answer fresh_table longest write_goal seven_bytes room ≡ Sent 11 0
+  pub answer : exchange_answer fresh_table longest write_goal seven_bytes room ≡ replied 11 0
   pub new_table : exchange_table fresh_table longest write_goal seven_bytes room ≡ goal_at_512
   pub registered : exchange_registered fresh_table longest write_goal seven_bytes room ≡ longest
   pub reply : take 11 (exchange_out fresh_table longest write_goal seven_bytes room) ≡ write_status
   pub new_body : exchange_body fresh_table longest write_goal seven_bytes room ≡ write_body
   -- the first of two
-  pub first_answer : packet_answer fresh_table longest write_goal seven_bytes ≡ Sent 0 0
+  pub first_answer : packet_answer fresh_table longest write_goal seven_bytes ≡ replied 0 0
   pub first_reply : packet_reply fresh_table longest write_goal seven_bytes ≡ status 1 0 [] 0
   pub first_table : packet_table fresh_table longest write_goal seven_bytes ≡ goal_at_512
   pub first_registered : packet_registered fresh_table longest write_goal seven_bytes ≡ longest
   pub first_body : packet_body fresh_table longest write_goal seven_bytes ≡ write_body
   -- the buffer has room for the body without its stuffing: 04 is answered
-  pub marked_answer : exchange_answer fresh_table longest write_marked seven_bytes room ≡ Sent 11 0
+  pub marked_answer : exchange_answer fresh_table longest write_marked seven_bytes room ≡ replied 11 0
   pub marked_reply : take 11 (exchange_out fresh_table longest write_marked seven_bytes room) ≡ range_status
   pub marked_body : exchange_body fresh_table longest write_marked seven_bytes room ≡ 0x03 ∷ 0x74 ∷ 0x00 ∷ 0xFF ∷ 0xFF ∷ 0xFD ∷ 0x00 ∷ []
   -- so with nothing registered
-  pub none_marked_answer : exchange_answer fresh_table dropped write_marked seven_bytes room ≡ Sent 11 0
+  pub none_marked_answer : exchange_answer fresh_table dropped write_marked seven_bytes room ≡ replied 11 0
   pub none_marked_reply : take 11 (exchange_out fresh_table dropped write_marked seven_bytes room) ≡ range_status
   pub none_marked_body : exchange_body fresh_table dropped write_marked seven_bytes room ≡ 0x03 ∷ 0x74 ∷ 0x00 ∷ 0xFF ∷ 0xFF ∷ 0xFD ∷ 0x00 ∷ []
   -- the device's call is refused, 23: the body is not in its buffer
-  pub many_answer : exchange_answer fresh_table too_many write_goal seven_bytes short ≡ Refused BadRegistered
+  pub many_answer : exchange_answer fresh_table too_many write_goal seven_bytes short ≡ Err BadRegistered
   pub many_table : exchange_table fresh_table too_many write_goal seven_bytes short ≡ fresh_table
   pub many_body : exchange_body fresh_table too_many write_goal seven_bytes short ≡ seven_bytes
-  pub many_first_answer : packet_answer fresh_table too_many write_goal seven_bytes ≡ Refused BadRegistered
+  pub many_first_answer : packet_answer fresh_table too_many write_goal seven_bytes ≡ Err BadRegistered
   pub many_first_reply : packet_reply fresh_table too_many write_goal seven_bytes ≡ silence
   pub many_first_body : packet_body fresh_table too_many write_goal seven_bytes ≡ seven_bytes
   -- no room for the body: 13, and nothing changes
-  pub stopped : exchange_answer fresh_table longest write_goal six_bytes room ≡ Refused NoRoom
+  pub stopped : exchange_answer fresh_table longest write_goal six_bytes room ≡ Err NoRoom
   pub stopped_table : exchange_table fresh_table longest write_goal six_bytes room ≡ fresh_table
   pub stopped_registered : exchange_registered fresh_table longest write_goal six_bytes room ≡ longest
   pub stopped_reply : exchange_out fresh_table longest write_goal six_bytes room ≡ room
   pub stopped_body : exchange_body fresh_table longest write_goal six_bytes room ≡ six_bytes
-  pub stopped_first : packet_answer fresh_table longest write_goal six_bytes ≡ Refused NoRoom
+  pub stopped_first : packet_answer fresh_table longest write_goal six_bytes ≡ Err NoRoom
   pub stopped_first_reply : packet_reply fresh_table longest write_goal six_bytes ≡ silence
   pub stopped_first_table : packet_table fresh_table longest write_goal six_bytes ≡ fresh_table
   pub stopped_first_registered : packet_registered fresh_table longest write_goal six_bytes ≡ longest
   pub stopped_first_body : packet_body fresh_table longest write_goal six_bytes ≡ six_bytes
   -- so with nothing registered
-  pub none_stopped : exchange_answer fresh_table dropped write_goal six_bytes room ≡ Refused NoRoom
+  pub none_stopped : exchange_answer fresh_table dropped write_goal six_bytes room ≡ Err NoRoom
   pub none_stopped_table : exchange_table fresh_table dropped write_goal six_bytes room ≡ fresh_table
   pub none_stopped_registered : exchange_registered fresh_table dropped write_goal six_bytes room ≡ dropped
   pub none_stopped_reply : exchange_out fresh_table dropped write_goal six_bytes room ≡ room
   pub none_stopped_body : exchange_body fresh_table dropped write_goal six_bytes room ≡ six_bytes
-  pub none_stopped_first : packet_answer fresh_table dropped write_goal six_bytes ≡ Refused NoRoom
+  pub none_stopped_first : packet_answer fresh_table dropped write_goal six_bytes ≡ Err NoRoom
   pub none_stopped_first_reply : packet_reply fresh_table dropped write_goal six_bytes ≡ silence
   pub none_stopped_first_table : packet_table fresh_table dropped write_goal six_bytes ≡ fresh_table
   pub none_stopped_first_registered : packet_registered fresh_table dropped write_goal six_bytes ≡ dropped
   pub none_stopped_first_body : packet_body fresh_table dropped write_goal six_bytes ≡ six_bytes
   -- bad stuffing: 14, before 23 and 24
-  pub bad_answer : exchange_answer fresh_table too_many badly_stuffed body_room short ≡ Refused BadStuffing
+  pub bad_answer : exchange_answer fresh_table too_many badly_stuffed body_room short ≡ Err BadStuffing
   pub bad_table : exchange_table fresh_table too_many badly_stuffed body_room short ≡ fresh_table
   pub bad_registered : exchange_registered fresh_table too_many badly_stuffed body_room short ≡ too_many
   pub bad_reply : exchange_out fresh_table too_many badly_stuffed body_room short ≡ short
   pub bad_body : exchange_body fresh_table too_many badly_stuffed body_room short ≡ body_room
-  pub bad_first_answer : packet_answer fresh_table too_many badly_stuffed body_room ≡ Refused BadStuffing
+  pub bad_first_answer : packet_answer fresh_table too_many badly_stuffed body_room ≡ Err BadStuffing
   pub bad_first_reply : packet_reply fresh_table too_many badly_stuffed body_room ≡ silence
   pub bad_first_table : packet_table fresh_table too_many badly_stuffed body_room ≡ fresh_table
   pub bad_first_registered : packet_registered fresh_table too_many badly_stuffed body_room ≡ too_many
   pub bad_first_body : packet_body fresh_table too_many badly_stuffed body_room ≡ body_room
   -- no packet, and so the same by the rule that only packets are carried out
-  pub bad_unheard : exchange_answer fresh_table too_many badly_stuffed body_room short ≡ Refused BadStuffing
+  pub bad_unheard : exchange_answer fresh_table too_many badly_stuffed body_room short ≡ Err BadStuffing
   pub bad_unheard_table : exchange_table fresh_table too_many badly_stuffed body_room short ≡ fresh_table
   -- a packet with a wrong checksum is not carried out
-  pub unheard : exchange_answer fresh_table longest ping_wrong_checksum body_room room ≡ Sent 0 0
+  pub unheard : exchange_answer fresh_table longest ping_wrong_checksum body_room room ≡ replied 0 0
   pub unheard_table : exchange_table fresh_table longest ping_wrong_checksum body_room room ≡ fresh_table
   pub unheard_registered : exchange_registered fresh_table longest ping_wrong_checksum body_room room ≡ longest
   pub unheard_reply : exchange_out fresh_table longest ping_wrong_checksum body_room room ≡ room
@@ -376,7 +376,7 @@ pub record ExchangeApplied : Type 0 where
   pub unheard_first_registered : packet_registered fresh_table longest ping_wrong_checksum body_room ≡ longest
   pub unheard_first_reply : packet_reply fresh_table longest ping_wrong_checksum body_room ≡ silence
   -- nor one to 253 with a right one
-  pub nobody : exchange_answer fresh_table longest to253 body_room room ≡ Sent 0 0
+  pub nobody : exchange_answer fresh_table longest to253 body_room room ≡ replied 0 0
   pub nobody_table : exchange_table fresh_table longest to253 body_room room ≡ fresh_table
   pub nobody_registered : exchange_registered fresh_table longest to253 body_room room ≡ longest
   pub nobody_reply : exchange_out fresh_table longest to253 body_room room ≡ room
@@ -384,7 +384,7 @@ pub record ExchangeApplied : Type 0 where
   pub nobody_first_registered : packet_registered fresh_table longest to253 body_room ≡ longest
   pub nobody_first_reply : packet_reply fresh_table longest to253 body_room ≡ silence
   -- so with nothing registered
-  pub none_nobody : exchange_answer fresh_table dropped to253 body_room room ≡ Sent 0 0
+  pub none_nobody : exchange_answer fresh_table dropped to253 body_room room ≡ replied 0 0
   pub none_nobody_table : exchange_table fresh_table dropped to253 body_room room ≡ fresh_table
   pub none_nobody_registered : exchange_registered fresh_table dropped to253 body_room room ≡ dropped
   pub none_nobody_reply : exchange_out fresh_table dropped to253 body_room room ≡ room
@@ -392,13 +392,13 @@ pub record ExchangeApplied : Type 0 where
   pub none_nobody_first_registered : packet_registered fresh_table dropped to253 body_room ≡ dropped
   pub none_nobody_first_reply : packet_reply fresh_table dropped to253 body_room ≡ silence
   -- buffers of 1,022 and 32 bytes: no refusal
-  pub accepted : exchange_refusal fresh_table longest write_goal (replicate 1022 0xAA) room ≡ none
-  pub first_accepted : packet_refusal fresh_table longest write_goal (replicate 1022 0xAA) ≡ none
-  pub long_accepted : exchange_refusal marked longest longest_packet (replicate 1022 0xAA) room ≡ none
-  pub first_long_accepted : packet_refusal marked longest longest_packet (replicate 1022 0xAA) ≡ none
+  pub accepted : exchange_refusal fresh_table longest write_goal (replicate 1022 0xAA) room ≡ None
+  pub first_accepted : packet_refusal fresh_table longest write_goal (replicate 1022 0xAA) ≡ None
+  pub long_accepted : exchange_refusal marked longest longest_packet (replicate 1022 0xAA) room ≡ None
+  pub first_long_accepted : packet_refusal marked longest longest_packet (replicate 1022 0xAA) ≡ None
   -- so with nothing registered
-  pub none_accepted : exchange_refusal fresh_table dropped write_goal (replicate 1022 0xAA) room ≡ none
-  pub none_first_accepted : packet_refusal fresh_table dropped write_goal (replicate 1022 0xAA) ≡ none
+  pub none_accepted : exchange_refusal fresh_table dropped write_goal (replicate 1022 0xAA) room ≡ None
+  pub none_first_accepted : packet_refusal fresh_table dropped write_goal (replicate 1022 0xAA) ≡ None
 
 abbrev pub ExchangePromisesApplied : Type 0
 ExchangePromisesApplied = ExchangePromises → ExchangeApplied

@@ -1,73 +1,58 @@
 // Bulk Read and Bulk Write. A Bulk list begins with its first entry, and each entry has an address and a length of its own. A table
-// of another size is refused, as by Sync Read and Sync Write.
+// of another size is a fault of the caller, as for Sync Read and Sync Write.
 #![tactic(auto)]
 
 ghost use Rattle.std.specs.Prelude.{◌≡◌};
-ghost use Rattle.device_replies.specs.Results.{reacted_of, sized_reaction};
+ghost use Rattle.device_replies.specs.Results.{told, reacted_of, sized_reaction};
 ghost use Rattle.device_bulk.specs.Bulk.{heard_bulk_read, heard_bulk_write};
 
-use answers::NOT_A_TABLE;
-use device_codes::ERROR_INSTRUCTION;
-use device_instructions::RegisteredWrite;
-use device_parameters::{EntryKind, OwnEntry};
-use device_replies::{LEVEL_ALL, LEVEL_READ, Reacted};
+use device_codes::ErrorNumber;
+use device_instructions::{Fault, ReplyData};
+use device_parameters::{EntryKind, word_at};
+use device_replies::{Level, Reacted};
 use table_registers::{REG_ID, TABLE_BYTES};
 
 // [D43 D44 D46]
-pub fn heard_bulk_read(
-    table: &[u8],
-    registered: RegisteredWrite,
-    all: bool,
-    params: &[u8],
-) -> Reacted
-    ensures { result ≡ reacted_of (sized_reaction table.now registered (heard_bulk_read all table.now registered params.now)) }
+pub fn heard_bulk_read(table: &[u8], all: bool, params: &[u8]) -> Reacted
+    ensures { (w : _) → told result w ≡ reacted_of (sized_reaction table.now w (heard_bulk_read all table.now w params.now)) }
 {
     if table.len() != TABLE_BYTES {
-        return device_replies::quiet(registered, NOT_A_TABLE);
+        return Reacted::unanswered(Err(Fault::NotATable));
     }
     if !all {
-        return device_replies::nothing_done(registered, ERROR_INSTRUCTION, false, LEVEL_READ);
+        return Reacted::own_only(
+            Err(Fault::Error(ErrorNumber::Instruction)),
+            all,
+            Level::Read,
+        );
     }
-    let OwnEntry::At(slot, at) = device_parameters::search(
-        params,
-        0,
-        EntryKind::BulkRead,
-        table[REG_ID],
-    ) else {
-        return device_replies::quiet(registered, 0);
+    let kind = EntryKind::BulkRead;
+    let Some(own) = device_parameters::search(params, 0, kind, table[REG_ID]) else {
+        return Reacted::unanswered(Ok(ReplyData::none()));
     };
-    let address = device_parameters::word_at(params, at + 1);
-    let n = device_parameters::word_at(params, at + 3);
-    device_sync::sync_read_by(table, registered, slot, address, n)
+    let address = word_at(params, own.offset + 1);
+    let n = word_at(params, own.offset + 3);
+    device_sync::sync_read_by(table, own.slot, address, n)
 }
 
 // [D43 D44 D47]
-pub fn heard_bulk_write(
-    table: &mut [u8],
-    registered: RegisteredWrite,
-    all: bool,
-    params: &[u8],
-) -> Reacted
-    ensures value { result ≡ reacted_of (sized_reaction table.old registered (heard_bulk_write all table.old registered params.now)) }
-    ensures table_after { table.new ≡ (sized_reaction table.old registered (heard_bulk_write all table.old registered params.now)).effect.table }
+pub fn heard_bulk_write(table: &mut [u8], all: bool, params: &[u8]) -> Reacted
+    ensures value { (w : _) → told result w ≡ reacted_of (sized_reaction table.old w (heard_bulk_write all table.old w params.now)) }
+    ensures table_after { (w : _) → table.new ≡ (sized_reaction table.old w (heard_bulk_write all table.old w params.now)).effect.table }
 {
     if table.len() != TABLE_BYTES {
-        return device_replies::quiet(registered, NOT_A_TABLE);
+        return Reacted::unanswered(Err(Fault::NotATable));
     }
     if !all {
-        return device_replies::nothing_done(registered, ERROR_INSTRUCTION, false, LEVEL_ALL);
+        return Reacted::own_only(Err(Fault::Error(ErrorNumber::Instruction)), all, Level::All);
     }
-    let OwnEntry::At(_, at) = device_parameters::search(
-        params,
-        0,
-        EntryKind::BulkWrite,
-        table[REG_ID],
-    ) else {
-        return device_replies::quiet(registered, 0);
+    let kind = EntryKind::BulkWrite;
+    let Some(own) = device_parameters::search(params, 0, kind, table[REG_ID]) else {
+        return Reacted::unanswered(Ok(ReplyData::none()));
     };
-    let address = device_parameters::word_at(params, at + 1);
-    let n = device_parameters::word_at(params, at + 3);
-    let from = at + 5;
-    let to = from + n as usize;
-    device_sync::sync_write_by(table, registered, address, &params[from..to])
+    let address = word_at(params, own.offset + 1);
+    let n = word_at(params, own.offset + 3);
+    let from = own.offset + 5;
+    let to = from + usize::from(n);
+    device_sync::sync_write_by(table, address, &params[from..to])
 }

@@ -1,7 +1,7 @@
 -- No list of calls takes the goal position out of the limits.
+use Rattle.std.specs.Prelude.{None}
 use mathlib.Core.Path.{◌≡◌, refl}
 use mathlib.Core.Bool.{true}
-use mathlib.Core.Option.{none}
 use lib.ListN.{length}
 use lib.Signed.{le_z}
 use borrow.Author.Tests.{eq-eqb}
@@ -21,7 +21,7 @@ made : (s : State) → length s.table ≡ table_size → Inside (after_call s fr
 made s sized = rw (eq-eqb (length s.table) table_size sized) fresh_inside
 
 -- a Reboot puts it at min position
-booted : (s : State) → refusal_in s ≡ none → le_z (value_of min_position s.table) (value_of max_position s.table) ≡ true
+booted : (s : State) → refusal_in s ≡ None → le_z (value_of min_position s.table) (value_of max_position s.table) ≡ true
     → Inside (after_call s (reboot_of s)).table
 unfolding executed heard_instruction
 booted s e ordered =

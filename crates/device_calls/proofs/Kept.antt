@@ -1,6 +1,6 @@
 -- What each change of a table keeps outlasts every list of calls, refused ones among them.
+use Rattle.std.specs.Prelude.{None, Option, Some}
 use mathlib.Core.List.{List, [], ◌∷◌}
-use mathlib.Core.Option.{Option, none, some}
 use Prim.Native.Nat.{ℕ}
 use Rattle.answers.specs.Refusals.{unless_refused}
 use Rattle.answers.specs.declared.Refusal.{Refusal}
@@ -24,21 +24,21 @@ use Rattle.device_calls.specs.Calls.{State, DeviceCall, fresh, measurement, devi
 module _ (P : List ℕ → Type 0) (kept : Kept P) where
   -- of a call on a packet, by what removing the stuffing refuses
   unless_keeps : (r : Option Refusal) (old new : List ℕ) → P old → P new → P (unless_refused r old new)
-  unless_keeps none old new p q = q
-  unless_keeps (some number) old new p q = p
+  unless_keeps None old new p q = q
+  unless_keeps (Some number) old new p q = p
 
   event_keeps : (table : List ℕ) → P table → (w : RegisteredWrite) (a : Option Event) → P (carried_if_any table w a).table
-  event_keeps table p w none = p
-  event_keeps table p w (some (packet bytes)) = executed_keeps P kept table p w Packet (id_of bytes) (unstuff (body_of bytes))
-  event_keeps table p w (some (bad_checksum id)) = executed_keeps P kept table p w BadChecksum id []
+  event_keeps table p w None = p
+  event_keeps table p w (Some (packet bytes)) = executed_keeps P kept table p w Packet (id_of bytes) (unstuff (body_of bytes))
+  event_keeps table p w (Some (bad_checksum id)) = executed_keeps P kept table p w BadChecksum id []
 
   board_keeps : (reader : Reader) (table : List ℕ) → P table → (w : RegisteredWrite) (c : Call) → P (outcome (board_of reader table w) c).board.table
   unfolding outcome
   board_keeps reader table p w c = by (board_refusal (board_of reader table w))
     where
       by : (r : Option Refusal) → P (outcome_unless r (board_of reader table w) c).board.table
-      by none = event_keeps table p w (call protocol2 (held_in reader) c).answer
-      by (some number) = p
+      by None = event_keeps table p w (call protocol2 (held_in reader) c).answer
+      by (Some number) = p
 
   pub after_keeps : (s : State) → P s.table → (call : DeviceCall) → P (after_call s call).table
   after_keeps s p fresh = kept.by_fresh s.table p

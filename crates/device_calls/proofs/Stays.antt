@@ -1,8 +1,8 @@
 -- Every list of calls leaves an accepted table, and a registered write whose count is as good as the one that was lent last.
+use Rattle.std.specs.Prelude.{None, Option, Some}
 use mathlib.Core.Path.{◌≡◌, refl, sym, ap, ◌∙◌}
 use mathlib.Core.Bool.{Bool}
 use mathlib.Core.List.{List, [], ◌∷◌, Memᴰ}
-use mathlib.Core.Option.{Option, none, some}
 use Prim.Native.Nat.{ℕ, ◌≤◌}
 use lib.Dec.{leb}
 use lib.ListN.{length}
@@ -36,8 +36,8 @@ use Rattle.device_calls.proofs.Kept.{after_keeps}
 
 -- of a call on a packet, by what removing the stuffing refuses
 unless_count : (r : Option Refusal) (old new : RegisteredWrite) → leb new.count 8 ≡ leb old.count 8 → leb (kept_by r old new).count 8 ≡ leb old.count 8
-unless_count none old new e = e
-unless_count (some number) old new e = refl
+unless_count None old new e = e
+unless_count (Some number) old new e = refl
 
 -- of a board's call, by its refusal: a registered write with a count above 8 stays
 board_count : (reader : Reader) (table : List ℕ) (w : RegisteredWrite) (c : Call)
@@ -46,11 +46,11 @@ unfolding outcome
 board_count reader table w c = by (board_refusal (board_of reader table w)) refl
   where
     by : (r : Option Refusal) → board_refusal (board_of reader table w) ≡ r → leb (outcome_unless r (board_of reader table w) c).board.registered.count 8 ≡ leb w.count 8
-    by none f =
+    by None f =
         let e = (accepted (board_of reader table w) f).state in
         le-leb _ 8 (state_accepted _ _ (any_accepted table w e (call protocol2 (held_in reader) c).answer)).short
         ∙ sym (le-leb w.count 8 (state_accepted table w e).short)
-    by (some number) f = refl
+    by (Some number) f = refl
 
 -- the count is as good as that of the registered write that was lent last
 after_count : (s : State) (w : RegisteredWrite) → leb s.registered.count 8 ≡ leb w.count 8 → (call : DeviceCall)
@@ -98,7 +98,7 @@ last_short (call ∷ calls) w short each = last_short calls (lent_by w call) (by
     by_call (on_board reader c) each = short
     by_call (lend new) each = each new (Memᴰ.head refl)
 
-by_lent : (s : State) (calls : List DeviceCall) → refusal_in s ≡ none
+by_lent : (s : State) (calls : List DeviceCall) → refusal_in s ≡ None
     → refusal_in (after_all s calls) ≡ first_failing ((leb (last_lent s.registered calls).count 8, BadRegistered) ∷ [])
 by_lent s calls e =
     let a = state_accepted s.table s.registered e in

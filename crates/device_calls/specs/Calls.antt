@@ -1,6 +1,6 @@
 -- Our calls on a control table and a registered write, one after the other.
+use Rattle.std.specs.Prelude.{Option}
 use Rattle.std.specs.Prelude.{List, [], ◌∷◌, ℕ, ℤ}
-use Rattle.std.proofs.Math.Option.{Option}
 use Rattle.answers.specs.declared.Refusal.{Refusal}
 use Rattle.reading.specs.Calls.{Call}
 use Rattle.reader_records.specs.declared.Reader.{Reader}

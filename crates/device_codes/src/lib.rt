@@ -1,40 +1,67 @@
 // The numbers in the bodies of packets: instructions, and the error numbers of a status.
 #![tactic(auto)]
 
-// The instructions: the first byte of a body.
-pub const INST_PING: u8 = 0x01;
+ghost use Rattle.std.specs.Prelude.{◌≡◌, Some};
+ghost use Rattle.device_codes.specs.Codes.{instruction_of};
 
-pub const INST_READ: u8 = 0x02;
+// The instructions, by the first byte of a body.
+#[derive(Clone, Copy, PartialEq, Eq, Debug)]
+pub enum Instruction {
+    Ping = 0x01,
+    Read = 0x02,
+    Write = 0x03,
+    RegWrite = 0x04,
+    Action = 0x05,
+    FactoryReset = 0x06,
+    Reboot = 0x08,
+    Status = 0x55,
+    SyncRead = 0x82,
+    SyncWrite = 0x83,
+    BulkRead = 0x92,
+    BulkWrite = 0x93,
+}
 
-pub const INST_WRITE: u8 = 0x03;
+impl Instruction {
+    // The instruction with this number, if one is defined. [D2 G4]
+    #[tactic(auto, unfolding(crate::specs::Codes::instruction_of))]
+    pub fn from_code(code: u8) -> Option<Instruction>
+        ensures { result ≡ instruction_of code }
+    {
+        match code {
+            0x01 => Some(Instruction::Ping),
+            0x02 => Some(Instruction::Read),
+            0x03 => Some(Instruction::Write),
+            0x04 => Some(Instruction::RegWrite),
+            0x05 => Some(Instruction::Action),
+            0x06 => Some(Instruction::FactoryReset),
+            0x08 => Some(Instruction::Reboot),
+            0x55 => Some(Instruction::Status),
+            0x82 => Some(Instruction::SyncRead),
+            0x83 => Some(Instruction::SyncWrite),
+            0x92 => Some(Instruction::BulkRead),
+            0x93 => Some(Instruction::BulkWrite),
+            _ => None,
+        }
+    }
+}
 
-pub const INST_REG_WRITE: u8 = 0x04;
+// Its number, by which it is found again. [D2]
+impl From<Instruction> for u8 {
+    ghost from_gives = { λ instruction code. instruction_of code ≡ Some instruction };
 
-pub const INST_ACTION: u8 = 0x05;
-
-pub const INST_FACTORY_RESET: u8 = 0x06;
-
-pub const INST_REBOOT: u8 = 0x08;
-
-pub const INST_STATUS: u8 = 0x55;
-
-pub const INST_SYNC_READ: u8 = 0x82;
-
-pub const INST_SYNC_WRITE: u8 = 0x83;
-
-pub const INST_BULK_READ: u8 = 0x92;
-
-pub const INST_BULK_WRITE: u8 = 0x93;
+    #[tactic(auto, unfolding(crate::specs::Codes::instruction_of))]
+    fn from(instruction: Instruction) -> u8 {
+        instruction as u8
+    }
+}
 
 // The error numbers of a status.
-pub const ERROR_INSTRUCTION: u8 = 0x02;
-
-pub const ERROR_CHECKSUM: u8 = 0x03;
-
-pub const ERROR_DATA_RANGE: u8 = 0x04;
-
-pub const ERROR_DATA_LENGTH: u8 = 0x05;
-
-pub const ERROR_DATA_LIMIT: u8 = 0x06;
-
-pub const ERROR_ACCESS: u8 = 0x07;
+#[derive(Clone, Copy, PartialEq, Eq, Debug)]
+pub enum ErrorNumber {
+    Instruction = 0x02,
+    Checksum = 0x03,
+    DataRange = 0x04,
+    DataLength = 0x05,
+    DataLimit = 0x06,
+    Access = 0x07,
+}

@@ -1,23 +1,25 @@
 -- An instruction by its number, and what was heard.
-use mathlib.Core.Path.{◌≡◌, refl, sym, ap, ◌∙◌}
-use mathlib.Core.Bool.{Bool, cond}
+use Rattle.std.specs.Prelude.{None, Option, Some}
+use mathlib.Core.Path.{◌≡◌, refl}
+use mathlib.Core.Bool.{Bool, true, false, cond}
 use mathlib.Core.List.{List, [], ◌∷◌}
 use Prim.Native.Nat.{ℕ}
 use native.Mathlib.Omega.{arith}
 use lib.Dec.{eqb}
 use lib.ListN.{length, get_or, drop}
-use borrow.Author.Tests.{ne_eqb}
 use Rattle.device_instructions.specs.Instructions.{Effect, refusing, read}
 use Rattle.device_instructions.specs.declared.RegisteredWrite.{RegisteredWrite}
 use Rattle.device_parameters.specs.Entries.{search}
 use Rattle.device_parameters.specs.Parameters.{bulk_read, sync_search}
 use Rattle.device_parameters.specs.declared.OwnEntry.{OwnEntry}
-use Rattle.device_replies.specs.Replies.{ReplyRule, own_only, Reaction, reacting, own_id}
-use Rattle.device_replies.specs.Results.{reacted_of}
-use Rattle.device_replies.specs.declared.Reacted.{Reacted}
-use Rattle.device_sync.specs.Sync.{by_entry, heard_sync_read}
+use Rattle.device_replies.specs.Replies.{ReplyRule, silent, own_only, Reaction, reacting, unchanged, own_id}
+use Rattle.device_codes.specs.Codes.{instruction_of}
+use Rattle.device_codes.specs.declared.Instruction.{Instruction}
+use Rattle.device_codes.specs.declared.Instruction.TheVariants.{Ping, Read, Write, RegWrite, Action, FactoryReset, Reboot, Status, SyncRead, SyncWrite, BulkRead, BulkWrite}
+use Rattle.device_single.specs.Single.{heard_ping, heard_read, heard_write, heard_reg_write, heard_action, heard_reboot, heard_factory_reset}
+use Rattle.device_sync.specs.Sync.{by_entry, heard_sync_read, heard_sync_write}
 use Rattle.device_sync.proofs.Lists.{by_list}
-use Rattle.device_bulk.specs.Bulk.{heard_bulk_read}
+use Rattle.device_bulk.specs.Bulk.{heard_bulk_read, heard_bulk_write}
 use Rattle.device_dispatch.specs.Reactions.{reaction, heard_undefined, heard_instruction}
 use Rattle.device_dispatch.specs.declared.Heard.{Heard}
 use Rattle.device_dispatch.specs.declared.Heard.TheVariants.{Packet, BadChecksum}
@@ -25,7 +27,7 @@ use Rattle.device_dispatch.specs.declared.Heard.TheVariants.{Packet, BadChecksum
 -- ---- lists by which the table is read leave it
 
 module _ (table : List ℕ) (w : RegisteredWrite) where
-  list_keeps : (all : Bool) (found : OwnEntry) (act : ℕ → ℕ → Reaction) (replying : ReplyRule) → ((slot at : ℕ) → table ≡ (act slot at).effect.table)
+  list_keeps : (all : Bool) (found : Option OwnEntry) (act : ℕ → ℕ → Reaction) (replying : ReplyRule) → ((slot at : ℕ) → table ≡ (act slot at).effect.table)
       → table ≡ (cond all (by_entry found table w act) (reacting (refusing table w 0x02) replying)).effect.table
   list_keeps = by_list (λ (e : Effect). table ≡ e.table) table w refl refl
 
@@ -37,23 +39,40 @@ module _ (table : List ℕ) (w : RegisteredWrite) where
   unfolding read
   bulk_read_keeps all params = list_keeps all (search bulk_read (own_id table) params 0) _ _ (λ slot at. refl)
 
--- ---- an instruction by its number, and one that is none of those defined
+-- ---- an instruction by its number
 
-pub by_number : (i k : ℕ) (all : Bool) (table : List ℕ) (w : RegisteredWrite) (params : List ℕ) (r : Reacted) (t : List ℕ) → i ≡ k
-    → r ≡ reacted_of (heard_instruction k all table w params) → t ≡ (heard_instruction k all table w params).effect.table
-    → (r ≡ reacted_of (heard_instruction i all table w params)) × (t ≡ (heard_instruction i all table w params).effect.table)
-by_number i k all table w params r t e a b =
-    let f = ap (λ (n : ℕ). heard_instruction n all table w params) (sym e) in
-    (a ∙ ap reacted_of f, b ∙ ap (λ (q : Reaction). q.effect.table) f)
+-- what is done with an instruction, and with a number that is none
+abbrev pub heard_as : Option Instruction → Bool → List ℕ → RegisteredWrite → List ℕ → Reaction
+heard_as None all table w params = heard_undefined all table w
+heard_as (Some Ping) all table w params = heard_ping all table w params
+heard_as (Some Read) all table w params = heard_read all table w params
+heard_as (Some Write) all table w params = heard_write all table w params
+heard_as (Some RegWrite) all table w params = heard_reg_write all table w params
+heard_as (Some Action) all table w params = heard_action all table w params
+heard_as (Some FactoryReset) all table w params = heard_factory_reset all table w params
+heard_as (Some Reboot) all table w params = heard_reboot all table w params
+heard_as (Some Status) all table w params = reacting (unchanged table w) silent
+heard_as (Some SyncRead) all table w params = heard_sync_read all table w params
+heard_as (Some SyncWrite) all table w params = heard_sync_write all table w params
+heard_as (Some BulkRead) all table w params = heard_bulk_read all table w params
+heard_as (Some BulkWrite) all table w params = heard_bulk_write all table w params
 
-pub undefined_instruction : (i : ℕ) (all : Bool) (table : List ℕ) (w : RegisteredWrite) (params : List ℕ)
-    → (i ≡ 0x01 → ⊥) → (i ≡ 0x02 → ⊥) → (i ≡ 0x03 → ⊥) → (i ≡ 0x04 → ⊥) → (i ≡ 0x05 → ⊥) → (i ≡ 0x06 → ⊥) → (i ≡ 0x08 → ⊥)
-    → (i ≡ 0x55 → ⊥) → (i ≡ 0x82 → ⊥) → (i ≡ 0x83 → ⊥) → (i ≡ 0x92 → ⊥) → (i ≡ 0x93 → ⊥)
-    → heard_undefined all table w ≡ heard_instruction i all table w params
-unfolding heard_instruction
-undefined_instruction i all table w params n₁ n₂ n₃ n₄ n₅ n₆ n₇ n₈ n₉ n₁₀ n₁₁ n₁₂ =
-    rw
-    (ne_eqb i 0x01 n₁, ne_eqb i 0x02 n₂, ne_eqb i 0x03 n₃, ne_eqb i 0x04 n₄, ne_eqb i 0x05 n₅, ne_eqb i 0x06 n₆, ne_eqb i 0x08 n₇, ne_eqb i 0x55 n₈, ne_eqb i 0x82 n₉, ne_eqb i 0x83 n₁₀, ne_eqb i 0x92 n₁₁, ne_eqb i 0x93 n₁₂)
+module _ (all : Bool) (table : List ℕ) (w : RegisteredWrite) (params : List ℕ) where
+  or_else : (b : Bool) (k l : Option Instruction) (q : Reaction) → heard_as l all table w params ≡ q
+      → heard_as (cond b k l) all table w params ≡ cond b (heard_as k all table w params) q
+  or_else true k l q e = refl
+  or_else false k l q e = e
+
+  coded : (i : ℕ) → heard_as (instruction_of i) all table w params ≡ heard_instruction i all table w params
+  unfolding instruction_of heard_instruction
+  coded i =
+      or_else (eqb i 0x01) (Some Ping) _ _ (or_else (eqb i 0x02) (Some Read) _ _ (or_else (eqb i 0x03) (Some Write) _ _
+      (or_else (eqb i 0x04) (Some RegWrite) _ _ (or_else (eqb i 0x05) (Some Action) _ _ (or_else (eqb i 0x06) (Some FactoryReset) _ _
+      (or_else (eqb i 0x08) (Some Reboot) _ _ (or_else (eqb i 0x55) (Some Status) _ _ (or_else (eqb i 0x82) (Some SyncRead) _ _
+      (or_else (eqb i 0x83) (Some SyncWrite) _ _ (or_else (eqb i 0x92) (Some BulkRead) _ _ (or_else (eqb i 0x93) (Some BulkWrite) _ _ refl)))))))))))
+
+  pub by_number : (i : ℕ) (k : Option Instruction) → k ≡ instruction_of i → heard_as k all table w params ≡ heard_instruction i all table w params
+  by_number i k e = rw e (coded i)
 
 -- ---- what was heard
 

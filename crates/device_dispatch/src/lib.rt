@@ -1,25 +1,26 @@
-// What the device makes of what it hears: which instruction is carried out, and how that is answered. A table of another size is
-// refused: nothing is done, NOT_A_TABLE stands in the place of the error number, and nothing is answered.
+// What the device makes of what it hears: which instruction is carried out, and how that is answered. A table of another size is a
+// fault of the caller: nothing is done, and nothing is answered.
 #![tactic(auto)]
 
 ghost use Rattle.std.specs.Prelude.{◌≡◌, length};
 ghost use Rattle.table_registers.specs.Registers.{table_size};
-ghost use Rattle.device_replies.specs.Results.{reacted_of, sized_reaction};
+ghost use Rattle.device_replies.specs.Results.{told, reacted_of, sized_reaction};
 ghost use Rattle.device_dispatch.specs.Reactions.{heard_instruction};
 ghost use Rattle.device_dispatch.specs.Reactions.{reaction as reactions_reaction};
 
-use answers::NOT_A_TABLE;
-use device_codes::{
-    ERROR_CHECKSUM, ERROR_INSTRUCTION, INST_ACTION, INST_BULK_READ, INST_BULK_WRITE,
-    INST_FACTORY_RESET, INST_PING, INST_READ, INST_REBOOT, INST_REG_WRITE, INST_STATUS,
-    INST_SYNC_READ, INST_SYNC_WRITE, INST_WRITE,
+use device_bulk::{heard_bulk_read, heard_bulk_write};
+use device_codes::{ErrorNumber, Instruction};
+use device_instructions::{Fault, RegisteredWrite, ReplyData};
+use device_replies::{Level, Reacted};
+use device_single::{
+    heard_action, heard_factory_reset, heard_ping, heard_read, heard_reboot, heard_reg_write,
+    heard_write,
 };
-use device_instructions::RegisteredWrite;
-use device_replies::{LEVEL_ALL, Reacted};
+use device_sync::{heard_sync_read, heard_sync_write};
 use table_registers::TABLE_BYTES;
 
 // What the device hears: a packet with its unstuffed body, or one whose checksum is wrong, which has no body.
-#[derive(Clone, Copy)]
+#[derive(Clone, Copy, PartialEq, Eq, Debug)]
 pub enum Heard {
     Packet,
     BadChecksum,
@@ -27,51 +28,55 @@ pub enum Heard {
 
 fn react(
     table: &mut [u8],
-    registered: RegisteredWrite,
+    registered: &mut RegisteredWrite,
     all: bool,
-    instruction: u8,
+    code: u8,
     params: &[u8],
 ) -> Reacted
     requires { length table.old ≡ table_size }
-    ensures value { result ≡ reacted_of (heard_instruction instruction all table.old registered params.now) }
-    ensures table_after { table.new ≡ (heard_instruction instruction all table.old registered params.now).effect.table }
+    ensures value { told result registered.new ≡ reacted_of (heard_instruction code all table.old registered.old params.now) }
+    ensures table_after { table.new ≡ (heard_instruction code all table.old registered.old params.now).effect.table }
 {
+    let Some(instruction) = Instruction::from_code(code) else {
+        return Reacted::own_only(Err(Fault::Error(ErrorNumber::Instruction)), all, Level::All);
+    };
     match instruction {
-        INST_PING => device_single::heard_ping(&table[..], registered, all, params),
-        INST_READ => device_single::heard_read(&table[..], registered, all, params),
-        INST_WRITE => device_single::heard_write(table, registered, all, params),
-        INST_REG_WRITE => device_single::heard_reg_write(table, registered, all, params),
-        INST_ACTION => device_single::heard_action(table, registered, all, params),
-        INST_FACTORY_RESET => device_single::heard_factory_reset(table, registered, all, params),
-        INST_REBOOT => device_single::heard_reboot(table, registered, all, params),
-        INST_STATUS => device_replies::quiet(registered, 0),
-        INST_SYNC_READ => device_sync::heard_sync_read(&table[..], registered, all, params),
-        INST_SYNC_WRITE => device_sync::heard_sync_write(table, registered, all, params),
-        INST_BULK_READ => device_bulk::heard_bulk_read(&table[..], registered, all, params),
-        INST_BULK_WRITE => device_bulk::heard_bulk_write(table, registered, all, params),
-        _ => device_replies::nothing_done(registered, ERROR_INSTRUCTION, all, LEVEL_ALL),
+        Instruction::Ping => heard_ping(&table[..], all, params),
+        Instruction::Read => heard_read(&table[..], all, params),
+        Instruction::Write => heard_write(table, all, params),
+        Instruction::RegWrite => heard_reg_write(table, registered, all, params),
+        Instruction::Action => heard_action(table, registered, all, params),
+        Instruction::FactoryReset => heard_factory_reset(table, registered, all, params),
+        Instruction::Reboot => heard_reboot(table, registered, all, params),
+        Instruction::Status => Reacted::unanswered(Ok(ReplyData::none())),
+        Instruction::SyncRead => heard_sync_read(&table[..], all, params),
+        Instruction::SyncWrite => heard_sync_write(table, all, params),
+        Instruction::BulkRead => heard_bulk_read(&table[..], all, params),
+        Instruction::BulkWrite => heard_bulk_write(table, all, params),
     }
 }
 
 // A body without a byte is heard as an undefined instruction; a bad checksum has no body. [D1-D7 D13 D14 D18 D19 D26 D27 D32 D33 D45]
 pub fn reaction(
     table: &mut [u8],
-    registered: RegisteredWrite,
+    registered: &mut RegisteredWrite,
     heard: Heard,
     all: bool,
     body: &[u8],
 ) -> Reacted
-    ensures value { result ≡ reacted_of (sized_reaction table.old registered (reactions_reaction heard all table.old registered body.now)) }
-    ensures table_after { table.new ≡ (sized_reaction table.old registered (reactions_reaction heard all table.old registered body.now)).effect.table }
+    ensures value { told result registered.new ≡ reacted_of (sized_reaction table.old registered.old (reactions_reaction heard all table.old registered.old body.now)) }
+    ensures table_after { table.new ≡ (sized_reaction table.old registered.old (reactions_reaction heard all table.old registered.old body.now)).effect.table }
 {
     if table.len() != TABLE_BYTES {
-        return device_replies::quiet(registered, NOT_A_TABLE);
+        return Reacted::unanswered(Err(Fault::NotATable));
     }
-    let Heard::Packet = heard else {
-        return device_replies::nothing_done(registered, ERROR_CHECKSUM, all, LEVEL_ALL);
-    };
-    if body.len() == 0 {
-        return device_replies::nothing_done(registered, ERROR_INSTRUCTION, all, LEVEL_ALL);
+    match (heard, body) {
+        (Heard::BadChecksum, _) => {
+            Reacted::own_only(Err(Fault::Error(ErrorNumber::Checksum)), all, Level::All)
+        }
+        (Heard::Packet, []) => {
+            Reacted::own_only(Err(Fault::Error(ErrorNumber::Instruction)), all, Level::All)
+        }
+        (Heard::Packet, [code, params @ ..]) => react(table, registered, all, *code, params),
     }
-    react(table, registered, all, body[0], &body[1..])
 }

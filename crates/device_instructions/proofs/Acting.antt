@@ -1,8 +1,8 @@
 -- What Action leaves: byte 69 is 0, and the bytes of the registered write are written where the limits have not changed.
 use mathlib.Core.Path.{◌≡◌, refl, sym, ap, ap₂, ◌∙◌}
-use mathlib.Core.Bool.{Bool, true, false, cond}
+use mathlib.Core.Bool.{Bool, true, false}
 use mathlib.Core.List.{List}
-use Prim.Native.Nat.{ℕ, ◌≤◌}
+use Prim.Native.Nat.{ℕ, min}
 use native.Mathlib.Omega.{arith}
 use lib.Dec.{leb}
 use lib.ListN.{length, take, set, length-set}
@@ -21,22 +21,13 @@ use Rattle.device_instructions.specs.declared.RegisteredWrite.{RegisteredWrite}
 
 -- ---- how many bytes
 
-pub eight : (count n : ℕ) → n ≡ cond (leb count 8) count 8 → n ≤ 8
-eight count n e = by_count (leb count 8) refl e
-  where
-    by_count : (b : Bool) → leb count 8 ≡ b → n ≡ cond b count 8 → n ≤ 8
-    by_count true t e = let h = leb-true count 8 t in omega arith
-    by_count false t e = omega arith
-
 -- as many bytes as there are, where the count is larger
-all_eight : (count n : ℕ) (bytes : List ℕ) → length bytes ≡ 8 → n ≡ cond (leb count 8) count 8 → take n bytes ≡ take count bytes
-all_eight count n bytes l e = ap (λ (k : ℕ). take k bytes) e ∙ by_count (leb count 8) refl
+all_eight : (count n : ℕ) (bytes : List ℕ) → length bytes ≡ 8 → n ≡ min count 8 → take n bytes ≡ take count bytes
+all_eight count n bytes l e = by_count (leb count 8) refl
   where
-    by_count : (b : Bool) → leb count 8 ≡ b → take (cond b count 8) bytes ≡ take count bytes
-    by_count true t = refl
-    by_count false t =
-        let h = leb-false count 8 t in
-        take_all 8 bytes (omega arith) ∙ sym (take_all count bytes (omega arith))
+    by_count : (b : Bool) → leb count 8 ≡ b → take n bytes ≡ take count bytes
+    by_count true t = let h = leb-true count 8 t in let same_count : n ≡ count = omega arith in rw same_count
+    by_count false t = let h = leb-false count 8 t in take_all n bytes (omega arith) ∙ sym (take_all count bytes (omega arith))
 
 -- ---- the test and the equations
 
@@ -76,7 +67,7 @@ module _ (table : List ℕ) (w : RegisteredWrite) (s : length table ≡ table_si
             let n : ◌≡◌ {A = ℕ} 6 0 = ap (λ (e : Effect). e.error) (not_acted f) ∙ e in
             absurd (omega arith)
 
-    pub acted : (n : ℕ) → length w.bytes ≡ 8 → same_limits table w ≡ true → n ≡ cond (leb w.count 8) w.count 8
+    pub acted : (n : ℕ) → length w.bytes ≡ 8 → same_limits table w ≡ true → n ≡ min w.count 8
         → sized (set table 69 0) dropped (write (set table 69 0) dropped w.address (take n w.bytes)) ≡ action table w
     unfolding action
     acted n l t e =

@@ -1,8 +1,8 @@
 -- The error numbers of reads and writes are at most 7.
+use Rattle.std.specs.Prelude.{Option, Some}
 use mathlib.Core.Path.{◌≡◌, refl}
 use mathlib.Core.Bool.{Bool, true, false, cond, ◌&&◌}
 use mathlib.Core.List.{List, [], ◌∷◌}
-use mathlib.Core.Option.{Option, some}
 use Prim.Native.Nat.{ℕ, ◌≤◌}
 use native.Mathlib.Omega.{arith}
 use lib.Dec.{leb, ltb}
@@ -27,7 +27,7 @@ first_numbered : (tests : List (Bool × ℕ)) → numbered tests ≡ true → Nu
 first_numbered [] e = record { at_most_7 = omega arith }
 first_numbered (t ∷ tests) e = by_test t.0 (first_numbered tests (and_right (leb t.1 7) (numbered tests) e))
   where
-    by_test : (b : Bool) → Numbered (first_failing tests) → Numbered (cond b (first_failing tests) (some t.1))
+    by_test : (b : Bool) → Numbered (first_failing tests) → Numbered (cond b (first_failing tests) (Some t.1))
     by_test true rest = rest
     by_test false rest = record { at_most_7 = leb-true t.1 7 (and_left (leb t.1 7) (numbered tests) e) }
 

@@ -1,8 +1,8 @@
 -- What a call finds it leaves: a table of its size with an ID up to 252; and a good Reg Write leaves at most 8 bytes.
+use Rattle.std.specs.Prelude.{None, Option, Some}
 use mathlib.Core.Path.{◌≡◌, refl, sym, ap, ◌∙◌}
 use mathlib.Core.Bool.{Bool, true, false, not, cond, ◌&&◌, ◌||◌}
 use mathlib.Core.List.{List, [], ◌∷◌}
-use mathlib.Core.Option.{Option, none, some}
 use Prim.Native.Nat.{ℕ, ◌+◌, ◌-◌, ◌≤◌, ◌<◌}
 use native.Mathlib.Omega.{arith}
 use lib.Dec.{leb, ltb}
@@ -89,7 +89,7 @@ own_in_range new address n e h l =
     let top = and_right (le_z (pos 0) (value_of device_id new)) (le_z (value_of device_id new) (pos 252)) range in
     leb-true (get_or new 7 0) 252 (sym (ap (λ (z : ℤ). le_z z (pos 252)) (value_byte new 7 1 refl)) ∙ top)
 
-good_fit : (table : List ℕ) → FitTable table → (address : ℕ) (bytes : List ℕ) → in_table table (write_rule table address bytes) ≡ none
+good_fit : (table : List ℕ) → FitTable table → (address : ℕ) (bytes : List ℕ) → in_table table (write_rule table address bytes) ≡ None
     → FitTable (stored table address bytes)
 good_fit table f address bytes e =
     let i = write_inside table address bytes e in
@@ -180,5 +180,5 @@ unfolding reg_write
 reg_write_short table w sized short address bytes = by_rule (write_rule table address bytes) refl
   where
     by_rule : (r : Option ℕ) → write_rule table address bytes ≡ r → (kept_by r w (registering table address bytes)).count ≤ 8
-    by_rule none e = write_short table address bytes (in_table_lem table sized _ ∙ e)
-    by_rule (some number) e = short
+    by_rule None e = write_short table address bytes (in_table_lem table sized _ ∙ e)
+    by_rule (Some number) e = short

@@ -1,4 +1,5 @@
 pub mod Sized
+pub mod Denied
 pub mod Effects
 pub mod Options
 pub mod Acting

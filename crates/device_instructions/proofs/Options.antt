@@ -2,7 +2,7 @@
 use mathlib.Core.Path.{◌≡◌, refl, sym, ap, ◌∙◌}
 use mathlib.Core.Bool.{Bool, true, false, cond}
 use mathlib.Core.List.{List, [], ◌∷◌, ◌++◌}
-use Prim.Native.Nat.{ℕ, ◌+◌}
+use Prim.Native.Nat.{ℕ}
 use native.Mathlib.Omega.{arith}
 use lib.Dec.{eqb}
 use borrow.Author.Tests.{ne_eqb}
@@ -13,8 +13,7 @@ use Rattle.table_items.specs.Items.{item_bytes, put}
 use Rattle.device_instructions.specs.declared.RegisteredWrite.{RegisteredWrite}
 use Rattle.device_instructions.specs.Instructions.{Effect, refusing, write, action, reboot, factory_reset}
 use Rattle.device_instructions.specs.Registered.{dropped, bytes_to_write, same_limits}
-use Rattle.device_instructions.specs.declared.Done.{Done}
-use Rattle.device_instructions.specs.Results.{done_of, sized}
+use Rattle.device_instructions.specs.Results.{Done, done_of, sized}
 use Rattle.device_instructions.proofs.Sized.{of_size, done}
 use Rattle.table_resets.specs.Resets.{reset_rom, keeps_none, keeps_id, keeps_id_and_baud}
 use Rattle.table_rules.specs.Outcomes.{on_table}

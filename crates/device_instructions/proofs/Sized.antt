@@ -1,16 +1,15 @@
 -- What the functions do on a table of the right size, and on one of another.
+use Rattle.std.specs.Prelude.{None, Some}
 use mathlib.Core.Path.{◌≡◌, refl, ap, ◌∙◌, sym}
 use mathlib.Core.Bool.{Bool, true, false, cond}
 use mathlib.Core.List.{List, []}
-use mathlib.Core.Option.{none, some}
 use Prim.Native.Nat.{ℕ}
 use lib.Dec.{eqb}
 use lib.ListN.{length}
 use borrow.Author.Tests.{eq-eqb, ne_eqb, eqb-true, eqb-false}
 use Rattle.table_registers.specs.Registers.{table_size}
 use Rattle.device_instructions.specs.Instructions.{Effect, refusing}
-use Rattle.device_instructions.specs.Results.{done_with, done_of, effect_unless, sized}
-use Rattle.device_instructions.specs.declared.Done.{Done}
+use Rattle.device_instructions.specs.Results.{Done, done_with, done_of, effect_unless, sized}
 use Rattle.device_instructions.specs.declared.RegisteredWrite.{RegisteredWrite}
 
 module _ (table : List ℕ) (w : RegisteredWrite) (e : Effect) where
@@ -26,7 +25,7 @@ module _ (table : List ℕ) (w : RegisteredWrite) (e : Effect) where
       → P (sized table w e)
   by_size P good bad = by_test (eqb (length table) table_size) refl
     where
-      by_test : (b : Bool) → eqb (length table) table_size ≡ b → P (effect_unless (cond b none (some 21)) table w e)
+      by_test : (b : Bool) → eqb (length table) table_size ≡ b → P (effect_unless (cond b None (Some 21)) table w e)
       by_test true t = good (eqb-true (length table) table_size t)
       by_test false t = bad (eqb-false (length table) table_size t)
 

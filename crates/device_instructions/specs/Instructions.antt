@@ -1,6 +1,6 @@
 -- What each instruction does. How it is answered is in the crates of reactions, the reply in `device`.
-use Rattle.std.specs.Prelude.{cond, List, [], ◌++◌, ℕ, ◌+◌, eqb, take, drop}
-use Rattle.std.proofs.Math.Option.{Option, none, some}
+use Rattle.std.specs.Prelude.{None, Option, Some}
+use Rattle.std.specs.Prelude.{cond, List, [], ◌++◌, ℕ, eqb, take, drop}
 use Rattle.answers.specs.Refusals.{unless_refused}
 use Rattle.table_registers.specs.Registers.{model_number, firmware_version, registered_instruction}
 use Rattle.table_items.specs.Items.{item_bytes, put}
@@ -31,8 +31,8 @@ ping table w = leaving table w 0 (item_bytes model_number table ++ item_bytes fi
 
 -- the error number of a refusal
 abbrev pub error_of : Option ℕ → ℕ
-error_of none = 0
-error_of (some error) = error
+error_of None = 0
+error_of (Some error) = error
 
 -- [D9]
 unfoldable pub read : List ℕ → RegisteredWrite → ℕ → ℕ → Effect

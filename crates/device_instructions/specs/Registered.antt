@@ -1,6 +1,6 @@
 -- The registered write (the paper's held turn), with the values that the rules give it.
+use Rattle.std.specs.Prelude.{None, Option, Some}
 use Rattle.std.specs.Prelude.{◌≡◌, Bool, ◌&&◌, List, ℕ, pos, length, take, replicate}
-use Rattle.std.proofs.Math.Option.{Option, none, some}
 use Rattle.lists.specs.Write.{padded}
 use Rattle.table_registers.specs.Registers.{min_position, max_position}
 use Rattle.table_items.specs.Items.{value_of, same}
@@ -23,8 +23,8 @@ dropped = record { address = 0; count = 0; bytes = replicate 8 0; min = pos 0; m
 
 -- a refusal leaves the older one [D13]
 abbrev pub kept_by : {R : Type 0} → Option R → RegisteredWrite → RegisteredWrite → RegisteredWrite
-kept_by none old new = new
-kept_by (some number) old new = old
+kept_by None old new = new
+kept_by (Some number) old new = old
 
 -- [D6]
 abbrev pub bytes_to_write : RegisteredWrite → List ℕ

@@ -1,28 +1,26 @@
-// What each instruction does to the control table and the registered write. A table of another size is refused: nothing is done,
-// and NOT_A_TABLE stands in the place of the error number.
+// What each instruction does to the control table and the registered write. A table of another size is a fault of the caller: nothing
+// is done.
 #![tactic(auto)]
 
-ghost use Rattle.std.specs.Prelude.{◌≡◌, cond, [], ◌≤◌, leb, length};
+ghost use Rattle.std.specs.Prelude.{◌≡◌, ◌≤◌, length, replicate};
 ghost use Rattle.table_registers.specs.Registers.{table_size};
-ghost use Rattle.table_rules.specs.Outcomes.{refusal_of};
+ghost use Rattle.table_rules.specs.Outcomes.{denial_number};
 ghost use Rattle.table_resets.specs.Resets.{reset_rom, keeping};
 ghost use Rattle.device_instructions.specs.Registered.{dropped as registered_dropped, registering as registered_registering, same_limits};
-ghost use Rattle.device_instructions.specs.Instructions.{error_of, reg_write, factory_reset};
+ghost use Rattle.device_instructions.specs.Instructions.{reg_write, factory_reset};
 ghost use Rattle.device_instructions.specs.Instructions.{ping as instructions_ping};
 ghost use Rattle.device_instructions.specs.Instructions.{write as instructions_write};
 ghost use Rattle.device_instructions.specs.Instructions.{action as instructions_action};
 ghost use Rattle.device_instructions.specs.Instructions.{reboot as instructions_reboot};
-ghost use Rattle.device_instructions.specs.Results.{done_with, done_by, done_of, sized, HasRead};
+ghost use Rattle.device_instructions.specs.Results.{fault_number, done_in, done_of, sized, HasRead};
 
-use answers::NOT_A_TABLE;
-use device_codes::{
-    ERROR_ACCESS, ERROR_DATA_LENGTH, ERROR_DATA_LIMIT, ERROR_DATA_RANGE, ERROR_INSTRUCTION,
-};
+use answers::Refusal;
+use device_codes::ErrorNumber;
 use table_registers::{
     MAX_DATA, REG_FIRMWARE_VERSION, REG_MODEL_NUMBER, REG_REGISTERED_INSTRUCTION,
     SIZE_FIRMWARE_VERSION, SIZE_MODEL_NUMBER, TABLE_BYTES,
 };
-use table_rules::Outcome;
+use table_rules::Denied;
 
 // The options of Factory Reset.
 pub const RESET_ALL: u8 = 0xFF;
@@ -46,219 +44,203 @@ pub struct RegisteredWrite {
     pub max: i32,
 }
 
-// What an instruction did, but for the table: the error number of the status (0 for none), its data, the registered write.
-#[derive(Clone, Copy)]
-pub struct Done {
-    pub error: u8,
-    pub count: usize,
-    pub bytes: [u8; MAX_DATA],
-    pub registered: RegisteredWrite,
-}
-
-// The same of a read.
-#[derive(Clone, Copy)]
-pub struct Data {
-    pub error: u8,
-    pub count: usize,
-    pub bytes: [u8; MAX_DATA],
-}
-
-// None is registered.
-pub fn dropped() -> RegisteredWrite
-    ensures { result ≡ registered_dropped }
-{
-    RegisteredWrite {
-        address: 0,
-        count: 0,
-        bytes: [0u8; MAX_DATA],
-        min: 0,
-        max: 0,
-    }
-}
-
-// The write of these bytes, which was judged on this table.
-fn registering(table: &[u8], address: u16, bytes: &[u8]) -> RegisteredWrite
-    requires { (length table.now ≡ table_size) × (length bytes.now ≤ 8) }
-    ensures { result ≡ registered_registering table.now address bytes.now }
-{
-    let limits = table_rules::limits_in(table);
-    RegisteredWrite {
-        address,
-        count: bytes.len() as u8,
-        bytes: buffers::first_eight(bytes),
-        min: limits.min,
-        max: limits.max,
-    }
-}
-
-pub fn without_data(error: u8, registered: RegisteredWrite) -> Done
-    ensures { result ≡ done_with error [] registered }
-{
-    Done {
-        error,
-        count: 0,
-        bytes: [0u8; MAX_DATA],
-        registered,
-    }
-}
-
-// The error number of an outcome: 0 where it is done.
-fn error_of(outcome: Outcome) -> u8
-    ensures { result ≡ error_of (refusal_of outcome) }
-{
-    match outcome {
-        Outcome::Done => 0,
-        Outcome::DataRange => ERROR_DATA_RANGE,
-        Outcome::DataLength => ERROR_DATA_LENGTH,
-        Outcome::DataLimit => ERROR_DATA_LIMIT,
-        Outcome::NoAccess => ERROR_ACCESS,
-        Outcome::NotTable => NOT_A_TABLE,
-    }
-}
-
-// The registered write stays. It does not go through here, where it would be copied twice: `keeping` puts it to what was read.
-pub fn read(table: &[u8], address: u16, count: u16) -> Data
-    ensures { HasRead result table.now address count }
-{
-    let reading = table_access::read(table, address, count);
-    let outcome = reading.outcome;
-    if !table_rules::is_done(outcome) {
-        return Data {
-            error: error_of(outcome),
+impl RegisteredWrite {
+    // None is registered.
+    pub fn none() -> Self
+        ensures { result ≡ registered_dropped }
+    {
+        RegisteredWrite {
+            address: 0,
             count: 0,
             bytes: [0u8; MAX_DATA],
-        };
+            min: 0,
+            max: 0,
+        }
     }
-    let bytes = reading.bytes;
-    Data {
-        error: 0,
-        count: count as usize,
-        bytes,
+
+    // The write of these bytes, which was judged on this table.
+    fn on(table: &[u8], address: u16, bytes: &[u8]) -> Self
+        requires { (length table.now ≡ table_size) × (length bytes.now ≤ 8) }
+        ensures { result ≡ registered_registering table.now address bytes.now }
+    {
+        let limits = table_rules::limits_in(table);
+        RegisteredWrite {
+            address,
+            count: bytes.len() as u8,
+            bytes: buffers::first_eight(bytes),
+            min: limits.min,
+            max: limits.max,
+        }
+    }
+
+    // The limits in the table are still those at which the write was registered.
+    fn has_limits_of(self, table: &[u8]) -> bool
+        requires { length table.now ≡ table_size }
+        ensures { result ≡ same_limits table.now self }
+    {
+        let limits = table_rules::limits_in(table);
+        limits.min == self.min && limits.max == self.max
     }
 }
 
-pub fn keeping(reading: Data, registered: RegisteredWrite) -> Done
-    ensures { result ≡ done_by reading registered }
-{
-    let bytes = reading.bytes;
-    Done {
-        error: reading.error,
-        count: reading.count,
-        bytes,
-        registered,
+// Why nothing is done: the error of the status, or a table of another size.
+#[derive(Clone, Copy, PartialEq, Eq, Debug)]
+pub enum Fault {
+    Error(ErrorNumber),
+    NotATable,
+}
+
+impl From<Denied> for Fault {
+    ghost from_gives = { λ denied fault. fault_number fault ≡ denial_number denied };
+
+    fn from(denied: Denied) -> Fault {
+        match denied {
+            Denied::DataRange => Fault::Error(ErrorNumber::DataRange),
+            Denied::DataLength => Fault::Error(ErrorNumber::DataLength),
+            Denied::DataLimit => Fault::Error(ErrorNumber::DataLimit),
+            Denied::NoAccess => Fault::Error(ErrorNumber::Access),
+            Denied::NotTable => Fault::NotATable,
+        }
     }
 }
 
-pub fn write(table: &mut [u8], registered: RegisteredWrite, address: u16, bytes: &[u8]) -> Done
-    ensures value { result ≡ done_of (sized table.old registered (instructions_write table.old registered address bytes.now)) }
-    ensures table_after { table.new ≡ (sized table.old registered (instructions_write table.old registered address bytes.now)).table }
+impl From<Fault> for u8 {
+    ghost from_gives = { λ fault number. number ≡ fault_number fault };
+
+    fn from(fault: Fault) -> u8 {
+        match fault {
+            Fault::Error(error) => error as u8,
+            Fault::NotATable => u8::from(Refusal::NotATable),
+        }
+    }
+}
+
+// The data of a status: so many bytes, with 0 after them.
+#[derive(Clone, Copy)]
+pub struct ReplyData {
+    pub count: usize,
+    pub bytes: [u8; MAX_DATA],
+}
+
+impl ReplyData {
+    pub fn none() -> Self
+        ensures { result ≡ record { count = 0; bytes = replicate 8 0 } }
+    {
+        ReplyData {
+            count: 0,
+            bytes: [0u8; MAX_DATA],
+        }
+    }
+}
+
+pub fn read(table: &[u8], address: u16, count: u16) -> Result<ReplyData, Fault>
+    ensures { HasRead result table.now address count }
 {
-    let outcome = table_access::write(table, address, bytes);
-    without_data(error_of(outcome), registered)
+    let bytes = table_access::read(table, address, count)?;
+    Ok(ReplyData {
+        count: usize::from(count),
+        bytes,
+    })
+}
+
+pub fn write(table: &mut [u8], address: u16, bytes: &[u8]) -> Result<ReplyData, Fault>
+    ensures value { (w : _) → done_in result w ≡ done_of (sized table.old w (instructions_write table.old w address bytes.now)) }
+    ensures table_after { (w : _) → table.new ≡ (sized table.old w (instructions_write table.old w address bytes.now)).table }
+{
+    table_access::write(table, address, bytes)?;
+    Ok(ReplyData::none())
 }
 
 // A good write is kept for Action.
-pub fn reg_write(table: &mut [u8], registered: RegisteredWrite, address: u16, bytes: &[u8]) -> Done
-    ensures value { result ≡ done_of (sized table.old registered (reg_write table.old registered address bytes.now)) }
-    ensures table_after { table.new ≡ (sized table.old registered (reg_write table.old registered address bytes.now)).table }
+pub fn reg_write(
+    table: &mut [u8],
+    registered: &mut RegisteredWrite,
+    address: u16,
+    bytes: &[u8],
+) -> Result<ReplyData, Fault>
+    ensures value { done_in result registered.new ≡ done_of (sized table.old registered.old (reg_write table.old registered.old address bytes.now)) }
+    ensures table_after { table.new ≡ (sized table.old registered.old (reg_write table.old registered.old address bytes.now)).table }
 {
-    let outcome = table_rules::judge(&table[..], address, bytes);
-    if !table_rules::is_done(outcome) {
-        return without_data(error_of(outcome), registered);
-    }
-    let kept = registering(&table[..], address, bytes);
+    table_rules::judge(&table[..], address, bytes)?;
+    *registered = RegisteredWrite::on(&table[..], address, bytes);
     table[REG_REGISTERED_INSTRUCTION] = 1;
-    without_data(0, kept)
-}
-
-// How many bytes of a registered write there are: a count above 8 means all 8.
-fn byte_count(count: u8) -> usize
-    ensures { result ≡ cond (leb count 8) count 8 }
-{
-    if count <= MAX_REGISTERED {
-        return count as usize;
-    }
-    MAX_DATA
-}
-
-// The limits in the table are still those at which the write was registered.
-fn same_limits(table: &[u8], registered: RegisteredWrite) -> bool
-    requires { length table.now ≡ table_size }
-    ensures { result ≡ same_limits table.now registered }
-{
-    let limits = table_rules::limits_in(table);
-    limits.min == registered.min && limits.max == registered.max
+    Ok(ReplyData::none())
 }
 
 // The registered write is dropped, and then judged on the table as it is now, unless the limits have changed.
-pub fn action(table: &mut [u8], registered: RegisteredWrite) -> Done
-    ensures value { result ≡ done_of (sized table.old registered (instructions_action table.old registered)) }
-    ensures table_after { table.new ≡ (sized table.old registered (instructions_action table.old registered)).table }
+pub fn action(table: &mut [u8], registered: &mut RegisteredWrite) -> Result<ReplyData, Fault>
+    ensures value { done_in result registered.new ≡ done_of (sized table.old registered.old (instructions_action table.old registered.old)) }
+    ensures table_after { table.new ≡ (sized table.old registered.old (instructions_action table.old registered.old)).table }
 {
     if table.len() != TABLE_BYTES {
-        return without_data(NOT_A_TABLE, registered);
+        return Err(Fault::NotATable);
     }
     if registered.count == 0 {
-        return without_data(ERROR_INSTRUCTION, registered);
+        return Err(Fault::Error(ErrorNumber::Instruction));
     }
-    let same = same_limits(&table[..], registered);
+    let held = *registered;
+    let same = held.has_limits_of(&table[..]);
     table[REG_REGISTERED_INSTRUCTION] = 0;
+    *registered = RegisteredWrite::none();
     if !same {
-        return without_data(ERROR_DATA_LIMIT, dropped());
+        return Err(Fault::Error(ErrorNumber::DataLimit));
     }
-    let n = byte_count(registered.count);
-    let held = registered.bytes;
-    let address = registered.address;
-    write(table, dropped(), address, &held[..n])
+    let n = usize::from(held.count).min(MAX_DATA);
+    write(table, held.address, &held.bytes[..n])
 }
 
 // The registered write is dropped.
-pub fn reboot(table: &mut [u8], registered: RegisteredWrite) -> Done
-    ensures value { result ≡ done_of (sized table.old registered (instructions_reboot table.old registered)) }
-    ensures table_after { table.new ≡ (sized table.old registered (instructions_reboot table.old registered)).table }
+pub fn reboot(table: &mut [u8], registered: &mut RegisteredWrite) -> Result<ReplyData, Fault>
+    ensures value { done_in result registered.new ≡ done_of (sized table.old registered.old (instructions_reboot table.old registered.old)) }
+    ensures table_after { table.new ≡ (sized table.old registered.old (instructions_reboot table.old registered.old)).table }
 {
     if table.len() != TABLE_BYTES {
-        return without_data(NOT_A_TABLE, registered);
+        return Err(Fault::NotATable);
     }
-    table_resets::reboot(table);
-    without_data(0, dropped())
+    let _ = table_resets::reboot(table);
+    *registered = RegisteredWrite::none();
+    Ok(ReplyData::none())
 }
 
 // ROM is reset, and then as Reboot.
 fn reset_with(
     table: &mut [u8],
-    registered: RegisteredWrite,
+    registered: &mut RegisteredWrite,
     keeps_id: bool,
     keeps_baud: bool,
-) -> Done
+) -> Result<ReplyData, Fault>
     requires { length table.old ≡ table_size }
-    ensures value { result ≡ done_of (instructions_reboot (reset_rom (keeping keeps_id keeps_baud) table.old) registered) }
-    ensures table_after { table.new ≡ (instructions_reboot (reset_rom (keeping keeps_id keeps_baud) table.old) registered).table }
+    ensures value { done_in result registered.new ≡ done_of (instructions_reboot (reset_rom (keeping keeps_id keeps_baud) table.old) registered.old) }
+    ensures table_after { table.new ≡ (instructions_reboot (reset_rom (keeping keeps_id keeps_baud) table.old) registered.old).table }
 {
-    table_resets::reset_rom(table, keeps_id, keeps_baud);
+    let _ = table_resets::reset_rom(table, keeps_id, keeps_baud);
     reboot(table, registered)
 }
 
-pub fn factory_reset(table: &mut [u8], registered: RegisteredWrite, option: u8) -> Done
-    ensures value { result ≡ done_of (sized table.old registered (factory_reset table.old registered option)) }
-    ensures table_after { table.new ≡ (sized table.old registered (factory_reset table.old registered option)).table }
+pub fn factory_reset(
+    table: &mut [u8],
+    registered: &mut RegisteredWrite,
+    option: u8,
+) -> Result<ReplyData, Fault>
+    ensures value { done_in result registered.new ≡ done_of (sized table.old registered.old (factory_reset table.old registered.old option)) }
+    ensures table_after { table.new ≡ (sized table.old registered.old (factory_reset table.old registered.old option)).table }
 {
     if table.len() != TABLE_BYTES {
-        return without_data(NOT_A_TABLE, registered);
+        return Err(Fault::NotATable);
     }
     match option {
         RESET_ALL => reset_with(table, registered, false, false),
         RESET_BUT_ID => reset_with(table, registered, true, false),
         RESET_BUT_ID_AND_BAUD => reset_with(table, registered, true, true),
-        _ => without_data(ERROR_DATA_RANGE, registered),
+        _ => Err(Fault::Error(ErrorNumber::DataRange)),
     }
 }
 
-pub fn ping(table: &[u8], registered: RegisteredWrite) -> Done
-    ensures { result ≡ done_of (sized table.now registered (instructions_ping table.now registered)) }
+pub fn ping(table: &[u8]) -> Result<ReplyData, Fault>
+    ensures { (w : _) → done_in result w ≡ done_of (sized table.now w (instructions_ping table.now w)) }
 {
     if table.len() != TABLE_BYTES {
-        return without_data(NOT_A_TABLE, registered);
+        return Err(Fault::NotATable);
     }
     let bytes = [
         table[REG_MODEL_NUMBER],
@@ -270,10 +252,8 @@ pub fn ping(table: &[u8], registered: RegisteredWrite) -> Done
         0,
         0,
     ];
-    Done {
-        error: 0,
+    Ok(ReplyData {
         count: SIZE_MODEL_NUMBER + SIZE_FIRMWARE_VERSION,
         bytes,
-        registered,
-    }
+    })
 }

@@ -1,4 +1,5 @@
 -- What holds of each effect holds of the effect of whatever is heard; it may hold of an Action without parameters alone.
+use Rattle.std.specs.Prelude.{Option}
 use mathlib.Core.Path.{◌≡◌, refl, sym, subst}
 use mathlib.Core.Bool.{Bool, true, false, cond, ◌&&◌}
 use mathlib.Core.List.{List, [], ◌∷◌}
@@ -42,7 +43,7 @@ module _ (P : Bool → Effect → Type 0) where
       (writes : (address : ℕ) (bytes : List ℕ) → P false (write table w address bytes))
       (reg-writes : (address : ℕ) (bytes : List ℕ) → P false (reg_write table w address bytes)) (actions : P true (action table w))
       (reboots : P false (reboot table w)) (resets : (option : ℕ) → P false (factory_reset table w option)) where
-    listed : (all : Bool) (found : OwnEntry) (act : ℕ → ℕ → Reaction) (replying : ReplyRule) → ((slot at : ℕ) → P false (act slot at).effect)
+    listed : (all : Bool) (found : Option OwnEntry) (act : ℕ → ℕ → Reaction) (replying : ReplyRule) → ((slot at : ℕ) → P false (act slot at).effect)
         → P false (cond all (by_entry found table w act) (reacting (refusing table w 0x02) replying)).effect
     listed = by_list (P false) table w nothing_done (refusals 0x02 (omega arith))
 

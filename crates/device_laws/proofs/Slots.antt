@@ -1,4 +1,5 @@
 -- The reply slot of whatever is heard is at most 252.
+use Rattle.std.specs.Prelude.{None, Option, Some}
 use mathlib.Core.Path.{◌≡◌, refl}
 use mathlib.Core.Bool.{Bool, true, false, cond}
 use mathlib.Core.List.{List, [], ◌∷◌}
@@ -6,10 +7,9 @@ use Prim.Native.Nat.{ℕ, ◌+◌, ◌≤◌}
 use native.Mathlib.Omega.{arith}
 use lib.Dec.{eqb}
 use lib.ListN.{length}
-use Rattle.device_parameters.specs.Entries.{search}
+use Rattle.device_parameters.specs.Entries.{search, entry_at}
 use Rattle.device_parameters.specs.Parameters.{word_at, bulk_read, bulk_write, sync_search}
 use Rattle.device_parameters.specs.declared.OwnEntry.{OwnEntry}
-use Rattle.device_parameters.specs.declared.OwnEntry.TheVariants.{At, Nothing}
 use Rattle.device_parameters.proofs.Searching.{found_whole, sync_early}
 use Rattle.device_instructions.specs.Instructions.{refusing}
 use Rattle.device_instructions.specs.declared.RegisteredWrite.{RegisteredWrite}
@@ -38,13 +38,13 @@ module _ (table : List ℕ) (w : RegisteredWrite) (known : own_id table ≤ 252)
   ping_early false right = omega arith
 
   -- by the own entry, whose slot is known
-  entry_early : (found : OwnEntry) (act : ℕ → ℕ → Reaction) → ((slot at : ℕ) → found ≡ At slot at → Early (act slot at).replying)
+  entry_early : (found : Option OwnEntry) (act : ℕ → ℕ → Reaction) → ((slot at : ℕ) → found ≡ entry_at slot at → Early (act slot at).replying)
       → Early (by_entry found table w act).replying
-  entry_early (At slot at) act f = f slot at refl
-  entry_early Nothing act f = tt
+  entry_early (Some entry) act f = f entry.slot entry.offset refl
+  entry_early None act f = tt
 
-  list_early : (all : Bool) (found : OwnEntry) (act : ℕ → ℕ → Reaction) (replying : ReplyRule) → Early replying
-      → ((slot at : ℕ) → found ≡ At slot at → Early (act slot at).replying)
+  list_early : (all : Bool) (found : Option OwnEntry) (act : ℕ → ℕ → Reaction) (replying : ReplyRule) → Early replying
+      → ((slot at : ℕ) → found ≡ entry_at slot at → Early (act slot at).replying)
       → Early (cond all (by_entry found table w act) (reacting (refusing table w 0x02) replying)).replying
   list_early all found act replying r f = by_test all _ _ (entry_early found act f) r
 

@@ -1,8 +1,8 @@
 -- What a refused instruction leaves.
+use Rattle.std.specs.Prelude.{None, Option, Some}
 use mathlib.Core.Path.{◌≡◌, refl}
 use mathlib.Core.Bool.{Bool, true, false, cond, not, ◌&&◌, false≢true}
 use mathlib.Core.List.{List, [], ◌∷◌}
-use mathlib.Core.Option.{Option, none, some}
 use Prim.Native.Nat.{ℕ}
 use native.Mathlib.Omega.{arith}
 use lib.Dec.{eqb}
@@ -44,8 +44,8 @@ module _ (table : List ℕ) (w : RegisteredWrite) (sized : length table ≡ tabl
   refused_write address bytes = by_rule (write_rule table address bytes)
     where
       by_rule : (r : Option ℕ) → Refused false (leaving (unless_refused r table (stored table address bytes)) w (error_of r) [])
-      by_rule none = good _ _ refl
-      by_rule (some number) = stays _ _
+      by_rule None = good _ _ refl
+      by_rule (Some number) = stays _ _
 
   refused_reg_write : (address : ℕ) (bytes : List ℕ) → Refused false (reg_write table w address bytes)
   unfolding reg_write
@@ -53,8 +53,8 @@ module _ (table : List ℕ) (w : RegisteredWrite) (sized : length table ≡ tabl
     where
       by_rule : (r : Option ℕ)
           → Refused false (leaving (unless_refused r table (put table registered_instruction 1)) (kept_by r w (registering table address bytes)) (error_of r) [])
-      by_rule none = good _ _ refl
-      by_rule (some number) = stays _ _
+      by_rule None = good _ _ refl
+      by_rule (Some number) = stays _ _
 
   refused_action : Refused true (action table w)
   unfolding action write Refused
@@ -62,8 +62,8 @@ module _ (table : List ℕ) (w : RegisteredWrite) (sized : length table ≡ tabl
     where
       by_rule : (r : Option ℕ) → eqb w.count 0 ≡ false
           → Refused true (leaving (unless_refused r (put table registered_instruction 0) (stored (put table registered_instruction 0) w.address (bytes_to_write w))) dropped (error_of r) [])
-      by_rule none e = λ n. absurd (n refl)
-      by_rule (some number) e = λ n. rw e (put_byte table registered_instruction 0 refl (omega arith) (omega arith), refl)
+      by_rule None e = λ n. absurd (n refl)
+      by_rule (Some number) e = λ n. rw e (put_byte table registered_instruction 0 refl (omega arith) (omega arith), refl)
 
       by_limits : (b : Bool) → same_limits table w ≡ b → eqb w.count 0 ≡ false → Refused true (action table w)
       by_limits true l e = rw (e, l) (rw e at (by_rule (write_rule (put table registered_instruction 0) w.address (bytes_to_write w)) e))

@@ -1,8 +1,9 @@
 -- What the steps of the call come to: the ID, the refusals of removal, and what the device is given.
+use Rattle.std.specs.Prelude.{Result}
+use Rattle.std.specs.Prelude.{None, Option, Some}
 use mathlib.Core.Path.{◌≡◌, refl, sym, ap, ap₂, subst, ◌∙◌}
 use mathlib.Core.Bool.{Bool, true, false, cond}
 use mathlib.Core.List.{List, [], append-nil}
-use mathlib.Core.Option.{Option, none, some}
 use Prim.Native.Nat.{ℕ, ◌≤◌, ◌<◌}
 use native.Mathlib.Omega.{arith}
 use lib.Dec.{eqb}
@@ -17,7 +18,6 @@ use Rattle.lists.proofs.Bools.{both_ways}
 use Rattle.lists.proofs.Write.{overwritten_take}
 use Rattle.stuffing.specs.Stuffing.{well_stuffed, unstuff}
 use Rattle.stuffing.specs.Answers.{checked, removal_refusal, removal_out}
-use Rattle.stuffing.specs.declared.Checked.TheVariants.{Good, Bad}
 use Rattle.stuffing.proofs.Answers.{checked_bad, checked_good, Removed}
 use Rattle.reading.specs.Rules.{Verdict, is_packet, is_bad_checksum, is_waiting, is_nothing}
 use Rattle.packet_front.specs.Front.{header, id_of}
@@ -37,9 +37,9 @@ use Rattle.device_instructions.specs.declared.RegisteredWrite.{RegisteredWrite}
 use Rattle.device_status.specs.declared.Reply.{Reply}
 use Rattle.device.specs.Answers.{answered_by, reply_unless}
 use Rattle.device_status.specs.Status.{silence}
-use Rattle.device.specs.declared.Replied.{Replied}
 use Rattle.device.proofs.Calls.{Refuses}
 use Rattle.device_packet.specs.Exchange.{id_by, id_heard, Message, heard_of, refused_or}
+use Rattle.device.specs.declared.Sent.{Sent}
 
 -- ---- the ID
 
@@ -124,18 +124,18 @@ module _ (packet : List ℕ) where
 -- ---- the removal of the stuffing
 
 module _ (packet body : List ℕ) where
-  pub bad_stuffing : checked (body_of packet) ≡ Bad → removal_refusal (body_of packet) body ≡ some BadStuffing
+  pub bad_stuffing : checked (body_of packet) ≡ None → removal_refusal (body_of packet) body ≡ Some BadStuffing
   unfolding removal_refusal
   bad_stuffing e = rw (checked_bad (body_of packet) e)
 
-  module _ (n : ℕ) (e : checked (body_of packet) ≡ Good n) where
-    pub no_room : length body < n → removal_refusal (body_of packet) body ≡ some NoRoom
+  module _ (n : ℕ) (e : checked (body_of packet) ≡ Some n) where
+    pub no_room : length body < n → removal_refusal (body_of packet) body ≡ Some NoRoom
     unfolding removal_refusal
     no_room l =
         let g = checked_good (body_of packet) n e in
         rw (g.0, lt-leb (length (unstuff (body_of packet))) (length body) (omega arith))
 
-    pub fits : n ≤ length body → removal_refusal (body_of packet) body ≡ none
+    pub fits : n ≤ length body → removal_refusal (body_of packet) body ≡ None
     unfolding removal_refusal
     fits room =
         let g = checked_good (body_of packet) n e in
@@ -158,7 +158,7 @@ module _ (packet body : List ℕ) where
 
 -- ---- the device refuses: what the call refuses first, and that everything stays
 
-module _ (b c : Option Refusal) (r : Replied) (q : Refuses c r) where
+module _ (b c : Option Refusal) (r : Result Sent Refusal) (q : Refuses c r) where
   pub answers_first : (reply : Reply) → refused_or b r ≡ refused_or b (answered_by c reply)
   answers_first reply = ap (refused_or b) (q.answers reply)
 
@@ -167,26 +167,26 @@ module _ (b c : Option Refusal) (r : Replied) (q : Refuses c r) where
   first_answered = by_refusal b
     where
       by_refusal : (b : Option Refusal) → refused_or b r ≡ answered_by (or_else b c) silence
-      by_refusal none = q.answers silence
-      by_refusal (some refusal) = refl
+      by_refusal None = q.answers silence
+      by_refusal (Some refusal) = refl
 
   pub silences_first : (reply : Reply) → silence ≡ reply_unless b (reply_unless c reply)
   silences_first reply = by_refusal b
     where
       by_refusal : (b : Option Refusal) → silence ≡ reply_unless b (reply_unless c reply)
-      by_refusal none = q.silences reply
-      by_refusal (some refusal) = refl
+      by_refusal None = q.silences reply
+      by_refusal (Some refusal) = refl
 
   pub keeps_first : (old new : RegisteredWrite) → old ≡ kept_by b old (kept_by c old new)
   keeps_first old new = by_refusal b
     where
       by_refusal : (b : Option Refusal) → old ≡ kept_by b old (kept_by c old new)
-      by_refusal none = q.keeps old new
-      by_refusal (some refusal) = refl
+      by_refusal None = q.keeps old new
+      by_refusal (Some refusal) = refl
 
   pub leaves_first : (old new : List ℕ) → (old ≡ unless_refused b old (unless_refused c old new)) × (old ≡ unless_refused (or_else b c) old new)
   leaves_first old new = by_refusal b
     where
       by_refusal : (b : Option Refusal) → (old ≡ unless_refused b old (unless_refused c old new)) × (old ≡ unless_refused (or_else b c) old new)
-      by_refusal none = (q.leaves old new, q.leaves old new)
-      by_refusal (some refusal) = (refl, refl)
+      by_refusal None = (q.leaves old new, q.leaves old new)
+      by_refusal (Some refusal) = (refl, refl)

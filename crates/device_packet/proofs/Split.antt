@@ -1,16 +1,16 @@
 -- The two calls on a packet, one straight after the other, are the one call.
+use Rattle.std.specs.Prelude.{Err, None, Option, Some}
 use mathlib.Core.Path.{◌≡◌, refl, ap}
 use mathlib.Core.List.{List}
-use mathlib.Core.Option.{Option, none, some}
 use Prim.Native.Nat.{ℕ, ◌≤◌}
-use native.Mathlib.Omega.{arith}
 use lib.ListN.{length}
 use Rattle.answers.specs.Refusals.{unless_refused}
 use Rattle.answers.specs.declared.Refusal.{Refusal}
 use Rattle.lists.specs.Write.{overwritten}
 use Rattle.stuffing.specs.Answers.{removal_refusal}
 use Rattle.packet.specs.Packet.{body_of}
-use Rattle.device.specs.Answers.{with_slot}
+use Rattle.device.specs.Answers.{replied, with_slot, answered_by}
+use Rattle.device_status.specs.Status.{silence}
 use Rattle.device_status.specs.Sending.{status_answer, status_out}
 use Rattle.device.specs.Split.{answer_of_both, out_of_both}
 use Rattle.device_status.specs.declared.Reply.{Reply}
@@ -27,11 +27,11 @@ module _ (table : List ℕ) (w : RegisteredWrite) (packet body out : List ℕ) w
     pub same_body : packet_body table w packet body ≡ exchange_body table w packet body out
     pub same_reply : out_of_both (packet_refusal table w packet body) (packet_reply table w packet body) out ≡ exchange_out table w packet body out
 
-  not_removed : (refusal : Refusal) → removal_refusal (body_of packet) body ≡ some refusal → SameAsOne
+  not_removed : (refusal : Refusal) → removal_refusal (body_of packet) body ≡ Some refusal → SameAsOne
   not_removed refusal e = record { same_answer_lem = rw e; same_table = rw e; same_registered_lem = rw e; same_body = rw e; same_reply = rw e }
 
   -- the stuffing is removed, and the device hears
-  heard : removal_refusal (body_of packet) body ≡ none
+  heard : removal_refusal (body_of packet) body ≡ None
       → Same table w Packet (heard_of packet).id (heard_of packet).body out → SameAsOne
   heard e same =
       let d = same.as_one in
@@ -44,18 +44,24 @@ module _ (table : List ℕ) (w : RegisteredWrite) (packet body out : List ℕ) w
       }
 
   by_removal : (r : Option Refusal) → removal_refusal (body_of packet) body ≡ r
-      → (removal_refusal (body_of packet) body ≡ none → Same table w Packet (heard_of packet).id (heard_of packet).body out)
+      → (removal_refusal (body_of packet) body ≡ None → Same table w Packet (heard_of packet).id (heard_of packet).body out)
       → SameAsOne
-  by_removal (some refusal) e device = not_removed refusal e
-  by_removal none e device = heard e (device e)
+  by_removal (Some refusal) e device = not_removed refusal e
+  by_removal None e device = heard e (device e)
 
   pub with_room : 32 ≤ length out → SameAsOne
   with_room room =
       by_removal (removal_refusal (body_of packet) body) refl
       (λ e. device-with-room table w Packet (heard_of packet).id (heard_of packet).body out room)
 
--- the first call is not refused: the second is made
-pub goes_on : (refusal : Option Refusal) → refusal ≡ none → (reply : Reply) (out : List ℕ)
+-- the first call is refused, and the second not made
+pub stopped : (refusal : Option Refusal) (r : Refusal) → Err r ≡ answered_by refusal silence → (reply : Reply) (out : List ℕ)
+    → (Err r ≡ answer_of_both refusal reply out) × (out ≡ out_of_both refusal reply out)
+stopped None r e reply out = absurd cc
+stopped (Some refusal) r e reply out = (e, refl)
+
+-- it is not refused: the second is made
+pub goes_on : (refusal : Option Refusal) → replied 0 0 ≡ answered_by refusal silence → (reply : Reply) (out : List ℕ)
     → (with_slot (status_answer reply out) reply.slot ≡ answer_of_both refusal reply out) × (status_out reply out ≡ out_of_both refusal reply out)
-goes_on none e reply out = (refl, refl)
-goes_on (some refusal) e reply out = let z : ◌≡◌ {A = ℕ} 0 1 = cc in absurd (omega arith)
+goes_on None e reply out = (refl, refl)
+goes_on (Some refusal) e reply out = absurd cc

@@ -1,6 +1,6 @@
 -- Only well-formed packets are heard, and they are not refused.
+use Rattle.std.specs.Prelude.{None, Option, Some}
 use mathlib.Core.Path.{◌≡◌, refl, ◌∙◌}
-use mathlib.Core.Option.{Option, none, some}
 use mathlib.Core.List.{List}
 use Prim.Native.Nat.{ℕ, ◌-◌, ◌≤◌}
 use native.Mathlib.Omega.{arith}
@@ -21,7 +21,7 @@ use Rattle.device_packet.proofs.Hearing.{heard_packet, heard_nobody}
 
 -- a well-formed packet is refused for a lack of room only
 pub well_formed_fits : (packet body : List ℕ) → WellFormed packet → length (unstuff (body_of packet)) ≤ length body
-    → removal_refusal (body_of packet) body ≡ none
+    → removal_refusal (body_of packet) body ≡ None
 unfolding removal_refusal
 well_formed_fits packet body f room = rw (f.stuffed, le-leb (length (unstuff (body_of packet))) (length body) room)
 
@@ -41,7 +41,7 @@ module _ (table : List ℕ) (w : RegisteredWrite) (packet body out : List ℕ) w
   not_heard bad = by_refusal (removal_refusal (body_of packet) body) refl
     where
       by_refusal : (r : Option Refusal) → removal_refusal (body_of packet) body ≡ r → Unheard table w packet body out
-      by_refusal (some number) e =
+      by_refusal (Some number) e =
           record {
             same_table = rw e;
             same_registered_lem = rw e;
@@ -51,7 +51,7 @@ module _ (table : List ℕ) (w : RegisteredWrite) (packet body out : List ℕ) w
             first_registered = rw e;
             first_reply = rw e;
           }
-      by_refusal none e =
+      by_refusal None e =
           let u = unheard table w Packet (heard_of packet).body out in
           let v = first_unheard table w Packet (heard_of packet).body out in
           let i = heard_nobody packet bad in

@@ -1,7 +1,8 @@
 -- The calls on a packet as received are the device's calls on what is heard of it, unless removing the stuffing refuses them: what is
 -- promised of the device holds of them so.
+use Rattle.std.specs.Prelude.{Err}
+use Rattle.std.specs.Prelude.{None, Some}
 use Rattle.std.specs.Prelude.{◌≡◌, List, ℕ}
-use Rattle.std.proofs.Math.Option.{none, some}
 use Rattle.answers.specs.Refusals.{unless_refused}
 use Rattle.answers.specs.declared.Refusal.{Refusal}
 use Rattle.lists.specs.Write.{overwritten}
@@ -11,7 +12,6 @@ use Rattle.device_status.specs.Status.{silence}
 use Rattle.device.specs.Answers.{state_refusal, carried_answer, carried_reply, carried_table, carried_registered, call_refusal, call_answer, call_table, call_registered, call_out}
 use Rattle.device_instructions.specs.declared.RegisteredWrite.{RegisteredWrite}
 use Rattle.device_dispatch.specs.declared.Heard.TheVariants.{Packet}
-use Rattle.device.specs.declared.Replied.TheVariants.{Refused}
 use Rattle.device_packet.specs.Exchange.{heard_of, packet_answer, packet_reply, packet_table, packet_registered, packet_body, exchange_answer, exchange_table, exchange_registered, exchange_out, exchange_body}
 
 module _ (table : List ℕ) (w : RegisteredWrite) (packet body out : List ℕ) where
@@ -30,12 +30,12 @@ module _ (table : List ℕ) (w : RegisteredWrite) (packet body out : List ℕ) w
 
   -- the refusal, and all that was lent as it was [N12]
   pub record Stopped (refusal : Refusal) : Type 0 where
-    pub answer : exchange_answer table w packet body out ≡ Refused refusal
+    pub answer : exchange_answer table w packet body out ≡ Err refusal
     pub same_table : exchange_table table w packet body out ≡ table
     pub same_registered_lem : exchange_registered table w packet body out ≡ w
     pub same_reply : exchange_out table w packet body out ≡ out
     pub same_body : exchange_body table w packet body out ≡ body
-    pub first_answer : packet_answer table w packet body ≡ Refused refusal
+    pub first_answer : packet_answer table w packet body ≡ Err refusal
     pub first_reply : packet_reply table w packet body ≡ silence
     pub first_table : packet_table table w packet body ≡ table
     pub first_registered : packet_registered table w packet body ≡ w
@@ -43,8 +43,8 @@ module _ (table : List ℕ) (w : RegisteredWrite) (packet body out : List ℕ) w
 
 -- [D38 D39 D50]
 pub record AsDevice : Type 0 where
-  pub passed_on : (table : List ℕ) (w : RegisteredWrite) (packet body out : List ℕ) → removal_refusal (body_of packet) body ≡ none
+  pub passed_on : (table : List ℕ) (w : RegisteredWrite) (packet body out : List ℕ) → removal_refusal (body_of packet) body ≡ None
       → PassedOn table w packet body out
   -- 14 or 13
   pub stopped : (table : List ℕ) (w : RegisteredWrite) (packet body out : List ℕ) (refusal : Refusal)
-      → removal_refusal (body_of packet) body ≡ some refusal → Stopped table w packet body out refusal
+      → removal_refusal (body_of packet) body ≡ Some refusal → Stopped table w packet body out refusal

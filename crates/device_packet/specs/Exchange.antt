@@ -1,6 +1,7 @@
 -- From a packet as received to the device: what it hears, and what the call on a packet answers and leaves.
+use Rattle.std.specs.Prelude.{Err, Result}
+use Rattle.std.specs.Prelude.{None, Option, Some}
 use Rattle.std.specs.Prelude.{cond, List, ℕ, eqb, length}
-use Rattle.std.proofs.Math.Option.{Option, none, some}
 use Rattle.answers.specs.Refusals.{or_else, unless_refused}
 use Rattle.answers.specs.declared.Refusal.{Refusal}
 use Rattle.lists.specs.Write.{overwritten}
@@ -16,8 +17,7 @@ use Rattle.device.specs.Answers.{answered_by, reply_unless, state_refusal, carri
 use Rattle.device_status.specs.declared.Reply.{Reply}
 use Rattle.device_instructions.specs.declared.RegisteredWrite.{RegisteredWrite}
 use Rattle.device_dispatch.specs.declared.Heard.TheVariants.{Packet}
-use Rattle.device.specs.declared.Replied.{Replied}
-use Rattle.device.specs.declared.Replied.TheVariants.{Refused}
+use Rattle.device.specs.declared.Sent.{Sent}
 
 -- by the verdict on the bytes: one well-formed packet, and nothing beyond it, is for its ID; anything else is for nobody, as
 -- what is sent to 255 is
@@ -40,9 +40,9 @@ abbrev pub heard_of : List ℕ → Message
 heard_of packet = record { id = id_heard packet; body = unstuff (body_of packet) }
 
 -- a refusal, or else the device's answer
-abbrev pub refused_or : Option Refusal → Replied → Replied
-refused_or none answer = answer
-refused_or (some refusal) answer = Refused refusal
+abbrev pub refused_or : Option Refusal → Result Sent Refusal → Result Sent Refusal
+refused_or None answer = answer
+refused_or (Some refusal) answer = Err refusal
 
 -- ---- the first call on a packet as received: 14 and 13, then 21 to 23
 module _ (table : List ℕ) (w : RegisteredWrite) (packet body : List ℕ) where
@@ -51,7 +51,7 @@ module _ (table : List ℕ) (w : RegisteredWrite) (packet body : List ℕ) where
   packet_refusal = or_else (removal_refusal (body_of packet) body) (state_refusal table w)
 
   -- a refusal, or none: nothing is sent by it
-  abbrev pub packet_answer : Replied
+  abbrev pub packet_answer : Result Sent Refusal
   packet_answer = answered_by packet_refusal silence
 
   -- [D50 D51]
@@ -81,7 +81,7 @@ module _ (table : List ℕ) (w : RegisteredWrite) (packet body out : List ℕ) w
   abbrev pub exchange_refusal : Option Refusal
   exchange_refusal = or_else body_refusal (call_refusal table w out)
 
-  abbrev pub exchange_answer : Replied
+  abbrev pub exchange_answer : Result Sent Refusal
   exchange_answer = refused_or body_refusal (call_answer table w Packet (heard_of packet).id (heard_of packet).body out)
 
   abbrev pub exchange_table : List ℕ

@@ -1,7 +1,7 @@
 -- Only well-formed packets are carried out: no table changes by bytes that the packet rules refuse, whoever calls. And none is
 -- refused where table, registered write and buffers are as they should be.
+use Rattle.std.specs.Prelude.{None}
 use Rattle.std.specs.Prelude.{◌≡◌, List, ℕ, ◌≤◌, length}
-use Rattle.std.proofs.Math.Option.{none}
 use Rattle.stuffing.specs.Stuffing.{unstuff}
 use Rattle.stuffing.specs.Answers.{removal_refusal}
 use Rattle.packet_front.specs.Front.{id_of}
@@ -26,10 +26,10 @@ pub record OnlyPackets : Type 0 where
   -- a well-formed packet is heard, if there is room for its body
   pub its_id : (packet : List ℕ) → WellFormed packet → (heard_of packet).id ≡ id_of packet
   pub with_room : (packet body : List ℕ) → WellFormed packet → length (unstuff (body_of packet)) ≤ length body
-      → removal_refusal (body_of packet) body ≡ none
+      → removal_refusal (body_of packet) body ≡ None
   pub others : (table : List ℕ) (w : RegisteredWrite) (packet body out : List ℕ) → ¬ WellFormed packet → Unheard table w packet body out
   -- 'No bytes on the line lead to a refused call': a packet, a body buffer of 1,022 bytes, a reply buffer of 32, and a table and a
   -- registered write that are accepted give no refusal [D42]
   pub never_refused : (table : List ℕ) (w : RegisteredWrite) (packet body out : List ℕ) → WellFormed packet → 1022 ≤ length body
-      → 32 ≤ length out → state_refusal table w ≡ none
-      → (exchange_refusal table w packet body out ≡ none) × (packet_refusal table w packet body ≡ none)
+      → 32 ≤ length out → state_refusal table w ≡ None
+      → (exchange_refusal table w packet body out ≡ None) × (packet_refusal table w packet body ≡ None)

@@ -1,4 +1,5 @@
 -- The search in a list, round by round. Which IDs have passed stands in a table of marks.
+use Rattle.std.specs.Prelude.{None, Option, Some}
 use mathlib.Core.Path.{◌≡◌, refl, sym, ap, ◌∙◌}
 use mathlib.Core.Bool.{Bool, true, false, not, cond, ◌&&◌, ◌||◌}
 use mathlib.Core.List.{List, [], ◌∷◌}
@@ -9,12 +10,11 @@ use lib.ListN.{length, take, drop, get_or, set, replicate, length-set, length-dr
 use lib.Seq.{take_all, get_or-set_same, get_or-set_other}
 use borrow.Author.Tests.{leb-true, leb-false, le-leb, lt-leb, eqb-true, eqb-false, eq-eqb, ne_eqb, not-true}
 use Rattle.lists.proofs.Bools.{and_left, and_right}
-use Rattle.device_parameters.specs.Entries.{EntryShape, occurs, entry_good, search_from, search}
-use Rattle.device_parameters.specs.Parameters.{word_at, plain, bulk_read, bulk_write, entry_of, sync_search}
+use Rattle.device_parameters.specs.Entries.{EntryShape, entry_at, size_here, occurs, entry_good, search_from, search}
+use Rattle.device_parameters.specs.Parameters.{word_at, plain, entry_of, sync_search}
 use Rattle.device_parameters.specs.declared.EntryKind.{EntryKind}
 use Rattle.device_parameters.specs.declared.EntryKind.TheVariants.{Plain, BulkRead, BulkWrite}
 use Rattle.device_parameters.specs.declared.OwnEntry.{OwnEntry}
-use Rattle.device_parameters.specs.declared.OwnEntry.TheVariants.{At, Nothing}
 use Rattle.device_parameters.proofs.Apart.{Apart, none_apart, apart_next, apart_few}
 
 -- ---- what `entry_size` has told of the entry at `at`
@@ -28,62 +28,24 @@ some_bytes BulkWrite rest = omega arith
 abbrev pub whole_here : EntryShape → List ℕ → Bool
 whole_here e rest = e.allowed rest && leb (e.size rest) (length rest)
 
--- the size of a Bulk entry, by its length where that is there
-abbrev pub bulk_length : List ℕ → ℕ
-bulk_length rest = cond (leb 5 (length rest)) (word_at rest 3) 0
+module _ (k : EntryKind) (params : List ℕ) (at : ℕ) (r : Option ℕ) (h : at ≤ length params)
+    (stated : r ≡ size_here (entry_of k) (take (length params - at) (drop at params))) where
+  stated_here : r ≡ size_here (entry_of k) (drop at params)
+  stated_here = stated ∙ ap (size_here (entry_of k)) (take_all (length params - at) (drop at params) (simp length-drop (omega arith)))
 
-module _ (rest : List ℕ) (n : ℕ) (l : n ≡ bulk_length rest) where
-  pub read_size : (r : ℕ) → r ≡ cond (eqb n 0) 0 5 → r ≡ cond (whole_here bulk_read rest) 5 0
-  read_size r e = by_test (leb 5 (length rest)) l (eqb (word_at rest 3) 0) refl
-    where
-      by_test : (b : Bool) → n ≡ cond b (word_at rest 3) 0 → (z : Bool) → eqb (word_at rest 3) 0 ≡ z → r ≡ cond (not z && b) 5 0
-      by_test true m true q = e ∙ rw (m, q)
-      by_test true m false q = e ∙ rw (m, q)
-      by_test false m true q = e ∙ rw m
-      by_test false m false q = e ∙ rw m
-
-  cut_none : (b : Bool) → 0 ≡ cond (b && false) (5 + word_at rest 3) 0
-  cut_none true = refl
-  cut_none false = refl
-
-  pub write_empty : n ≡ 0 → 0 ≡ cond (whole_here bulk_write rest) (5 + word_at rest 3) 0
-  write_empty z = by_test (leb 5 (length rest)) refl l
-    where
-      by_test : (b : Bool) → leb 5 (length rest) ≡ b → n ≡ cond b (word_at rest 3) 0 → 0 ≡ cond (whole_here bulk_write rest) (5 + word_at rest 3) 0
-      by_test true b m = rw (eq-eqb (word_at rest 3) 0 (sym m ∙ z))
-      by_test false b m =
-          let s = leb-false 5 (length rest) b in
-          rw (lt-leb (5 + word_at rest 3) (length rest) (omega arith)) (cut_none (not (eqb (word_at rest 3) 0)))
-
-  pub write_size : (n ≡ 0 → ⊥) → (r : ℕ) → r ≡ cond (leb (5 + n) (length rest)) (5 + n) 0
-      → r ≡ cond (whole_here bulk_write rest) (5 + word_at rest 3) 0
-  write_size o r e = by_test (leb 5 (length rest)) l
-    where
-      by_test : (b : Bool) → n ≡ cond b (word_at rest 3) 0 → r ≡ cond (whole_here bulk_write rest) (5 + word_at rest 3) 0
-      by_test true m = rw (ne_eqb (word_at rest 3) 0 (λ z. o (m ∙ z))) (e ∙ rw m)
-      by_test false m = absurd (o m)
-
-abbrev size_stated : EntryKind → List ℕ → ℕ
-size_stated k rest = cond (whole_here (entry_of k) rest) ((entry_of k).size rest) 0
-
-module _ (k : EntryKind) (params : List ℕ) (at size : ℕ) (h : at ≤ length params)
-    (stated : size ≡ size_stated k (take (length params - at) (drop at params))) where
-  stated_here : size ≡ size_stated k (drop at params)
-  stated_here = stated ∙ ap (size_stated k) (take_all (length params - at) (drop at params) (simp length-drop (omega arith)))
-
-  pub not_good : size ≡ 0 → whole_here (entry_of k) (drop at params) ≡ false
+  pub not_good : r ≡ None → whole_here (entry_of k) (drop at params) ≡ false
   not_good z = by_test (whole_here (entry_of k) (drop at params)) stated_here
     where
-      by_test : (b : Bool) → size ≡ cond b ((entry_of k).size (drop at params)) 0 → b ≡ false
+      by_test : (b : Bool) → r ≡ cond b (Some ((entry_of k).size (drop at params))) None → b ≡ false
       by_test false e = refl
-      by_test true e = let s = some_bytes k (drop at params) in absurd (omega arith)
+      by_test true e = let n : Some ((entry_of k).size (drop at params)) ≡ None = sym e ∙ z in cc
 
-  module _ (n : size ≡ 0 → ⊥) where
+  module _ (size : ℕ) (n : r ≡ Some size) where
     is_good : whole_here (entry_of k) (drop at params) ≡ true
     is_good = by_test (whole_here (entry_of k) (drop at params)) stated_here
       where
-        by_test : (b : Bool) → size ≡ cond b ((entry_of k).size (drop at params)) 0 → b ≡ true
-        by_test false e = absurd (n e)
+        by_test : (b : Bool) → r ≡ cond b (Some ((entry_of k).size (drop at params))) None → b ≡ true
+        by_test false e = let z : Some size ≡ None = sym n ∙ e in cc
         by_test true e = refl
 
     pub allowed : (entry_of k).allowed (drop at params) ≡ true
@@ -96,7 +58,7 @@ module _ (k : EntryKind) (params : List ℕ) (at size : ℕ) (h : at ≤ length 
         omega arith
 
     pub size_is : size ≡ (entry_of k).size (drop at params)
-    size_is = stated_here ∙ rw is_good
+    size_is = let e : Some size ≡ Some ((entry_of k).size (drop at params)) = sym n ∙ stated_here ∙ rw is_good in cc
 
 -- ---- the loop
 
@@ -105,12 +67,12 @@ abbrev mark_of : ℕ → ℕ → List ℕ → ℕ
 mark_of own k passed = cond (occurs k passed) 1 (cond (eqb k own) 2 0)
 
 -- the own entry, by the mark of the own ID and where it stood
-abbrev pub own_entry : ℕ → ℕ → ℕ → OwnEntry
-own_entry mark slot at = cond (eqb mark 2) Nothing (At slot at)
+abbrev pub own_entry : ℕ → ℕ → ℕ → Option OwnEntry
+own_entry mark slot at = cond (eqb mark 2) None (entry_at slot at)
 
 module _ (e : EntryShape) (own : ℕ) (params : List ℕ) (from : ℕ) where
   -- the entries before `at` have these IDs, and the rest of the search decides
-  pub record Searching (seen : List ℕ) (at slot : ℕ) (found : OwnEntry) : Type 0 where
+  pub record Searching (seen : List ℕ) (at slot : ℕ) (found : Option OwnEntry) : Type 0 where
     pub passed : List ℕ
     pub steps : ℕ
     pub enough : length params ≤ at + steps
@@ -120,7 +82,7 @@ module _ (e : EntryShape) (own : ℕ) (params : List ℕ) (from : ℕ) where
     pub marked : (k : ℕ) → k < 256 → get_or seen k 0 ≡ mark_of own k passed
     pub same : search_from e own params steps at passed found ≡ search e own params from
 
-  searching_start : own < 256 → Searching (set (replicate 256 0) own 2) from 0 Nothing
+  searching_start : own < 256 → Searching (set (replicate 256 0) own 2) from 0 None
   unfolding occurs
   searching_start h =
       record {
@@ -144,37 +106,37 @@ module _ (e : EntryShape) (own : ℕ) (params : List ℕ) (from : ℕ) where
   pub none_found : own < 256 → Searching (set (replicate 256 0) own 2) from 0 (own_entry (get_or {A = ℕ} (set (replicate 256 0) own 2) own 0) 0 0)
   none_found h = rw (get_or-set_same {A = ℕ} (replicate 256 0) own 2 0 h) (searching_start h)
 
-  turn : (steps at : ℕ) (passed : List ℕ) (found : OwnEntry) → at < length params → 0 < steps
+  turn : (steps at : ℕ) (passed : List ℕ) (found : Option OwnEntry) → at < length params → 0 < steps
       → search_from e own params steps at passed found
       ≡ cond (entry_good e params at passed)
       (search_from e own params (steps - 1) (at + e.size (drop at params)) (get_or params at 0 ∷ passed)
-      (cond (eqb (get_or params at 0) own) (At (length passed) at) found))
-      Nothing
+      (cond (eqb (get_or params at 0) own) (entry_at (length passed) at) found))
+      None
   unfolding search_from
   turn zero at passed found h s = absurd (omega arith)
   turn (suc steps) at passed found h s =
       let e : suc steps - 1 ≡ steps = omega arith in
       rw (lt-leb (length params) at h, e)
 
-  module _ (seen : List ℕ) (at slot : ℕ) (found : OwnEntry) (r : Searching seen at slot found) (h : at < length params) where
+  module _ (seen : List ℕ) (at slot : ℕ) (found : Option OwnEntry) (r : Searching seen at slot found) (h : at < length params) where
     goes : search e own params from
         ≡ cond (entry_good e params at r.passed)
         (search_from e own params (r.steps - 1) (at + e.size (drop at params)) (get_or params at 0 ∷ r.passed)
-        (cond (eqb (get_or params at 0) own) (At (length r.passed) at) found))
-        Nothing
+        (cond (eqb (get_or params at 0) own) (entry_at (length r.passed) at) found))
+        None
     goes = let e = r.enough in sym r.same ∙ turn r.steps at r.passed found h (omega arith)
 
-    barred : e.allowed (drop at params) ≡ false → Nothing ≡ search e own params from
+    barred : e.allowed (drop at params) ≡ false → None ≡ search e own params from
     barred b = sym (goes ∙ rw b)
 
-    cut_short : e.allowed (drop at params) ≡ true → length params < at + e.size (drop at params) → Nothing ≡ search e own params from
+    cut_short : e.allowed (drop at params) ≡ true → length params < at + e.size (drop at params) → None ≡ search e own params from
     cut_short ok l = sym (goes ∙ rw (ok, lt-leb (at + e.size (drop at params)) (length params) l))
 
-    pub not_whole : whole_here e (drop at params) ≡ false → Nothing ≡ search e own params from
+    pub not_whole : whole_here e (drop at params) ≡ false → None ≡ search e own params from
     not_whole f = by_test (e.allowed (drop at params)) refl (leb (e.size (drop at params)) (length (drop at params))) refl
       where
         by_test : (a : Bool) → e.allowed (drop at params) ≡ a → (b : Bool) → leb (e.size (drop at params)) (length (drop at params)) ≡ b
-            → Nothing ≡ search e own params from
+            → None ≡ search e own params from
         by_test false p b q = barred p
         by_test true p false q =
             let l = leb-false (e.size (drop at params)) (length (drop at params)) q in
@@ -187,7 +149,7 @@ module _ (e : EntryShape) (own : ℕ) (params : List ℕ) (from : ℕ) where
         fits : leb (at + e.size (drop at params)) (length params) ≡ true
         fits = le-leb (at + e.size (drop at params)) (length params) whole
 
-        pub no_id : 252 < get_or params at 0 → Nothing ≡ search e own params from
+        pub no_id : 252 < get_or params at 0 → None ≡ search e own params from
         no_id l = sym (goes ∙ rw (ok, fits, lt-leb (get_or params at 0) 252 l))
 
         module _ (known : get_or params at 0 ≤ 252) where
@@ -200,10 +162,10 @@ module _ (e : EntryShape) (own : ℕ) (params : List ℕ) (from : ℕ) where
           fresh_mark true z = omega arith
           fresh_mark false z = omega arith
 
-          pub again : get_or seen (get_or params at 0) 0 ≡ 1 → Nothing ≡ search e own params from
+          pub again : get_or seen (get_or params at 0) 0 ≡ 1 → None ≡ search e own params from
           again n = by_mark (occurs (get_or params at 0) r.passed) refl
             where
-              by_mark : (b : Bool) → occurs (get_or params at 0) r.passed ≡ b → Nothing ≡ search e own params from
+              by_mark : (b : Bool) → occurs (get_or params at 0) r.passed ≡ b → None ≡ search e own params from
               by_mark false m = absurd (fresh_mark (eqb (get_or params at 0) own) (sym (occurred false m) ∙ n))
               by_mark true m = sym (goes ∙ simp (ok, fits, le-leb (get_or params at 0) 252 known, m))
 
@@ -226,7 +188,7 @@ module _ (e : EntryShape) (own : ℕ) (params : List ℕ) (from : ℕ) where
                     rw (e) (rw (i) (get_or-set_same seen (get_or params at 0) 1 0 (omega arith)))
                 by_id false e = rw (e) (get_or-set_other seen (get_or params at 0) k 1 0 (eqb-false k (get_or params at 0) e) ∙ r.marked k l)
 
-            next : Searching (set seen (get_or params at 0) 1) (at + e.size (drop at params)) (slot + 1) (cond (eqb (get_or params at 0) own) (At slot at) found)
+            next : Searching (set seen (get_or params at 0) 1) (at + e.size (drop at params)) (slot + 1) (cond (eqb (get_or params at 0) own) (entry_at slot at) found)
             unfolding occurs
             next =
                 let k = r.enough in
@@ -241,7 +203,7 @@ module _ (e : EntryShape) (own : ℕ) (params : List ℕ) (from : ℕ) where
                   sized = simp length-set r.sized;
                   marked = mark;
                   same =
-                      ap (λ (n : ℕ). search_from e own params (r.steps - 1) (at + e.size (drop at params)) (get_or params at 0 ∷ r.passed) (cond (eqb (get_or params at 0) own) (At n at) found)) s
+                      ap (λ (n : ℕ). search_from e own params (r.steps - 1) (at + e.size (drop at params)) (get_or params at 0 ∷ r.passed) (cond (eqb (get_or params at 0) own) (entry_at n at) found)) s
                       ∙ sym (goes ∙ simp (ok, fits, le-leb (get_or params at 0) 252 known, not_passed));
                 }
 
@@ -270,7 +232,7 @@ module _ (e : EntryShape) (own : ℕ) (params : List ℕ) (from : ℕ) where
                     let m : get_or seen (get_or params at 0) 0 ≡ 2 = occurred false not_passed ∙ rw (eq-eqb (get_or params at 0) own i) in
                     omega arith
 
-  pub searched : (seen : List ℕ) (at slot : ℕ) (found : OwnEntry) → Searching seen at slot found → length params ≤ at → found ≡ search e own params from
+  pub searched : (seen : List ℕ) (at slot : ℕ) (found : Option OwnEntry) → Searching seen at slot found → length params ≤ at → found ≡ search e own params from
   unfolding search_from
   searched seen at slot found r h = by_steps r.steps r.same
     where
@@ -280,11 +242,11 @@ module _ (e : EntryShape) (own : ℕ) (params : List ℕ) (from : ℕ) where
       by_steps (suc steps) s = sym (rw (le-leb (length params) at h)) ∙ s
 
   -- a list that begins at the end or past it has no entry
-  pub past_end : length params ≤ from → search e own params from ≡ Nothing
+  pub past_end : length params ≤ from → search e own params from ≡ None
   unfolding search_from
   past_end h = by_steps (length params)
     where
-      by_steps : (steps : ℕ) → search_from e own params steps from [] Nothing ≡ Nothing
+      by_steps : (steps : ℕ) → search_from e own params steps from [] None ≡ None
       by_steps zero = rw (le-leb (length params) from h)
       by_steps (suc steps) = rw (le-leb (length params) from h)
 
@@ -295,22 +257,23 @@ module _ (e : EntryShape) (own : ℕ) (params : List ℕ) (from : ℕ) where
     pub fits : at + e.size (drop at params) ≤ length params
     pub early : slot ≤ 252
 
-  AllWhole : OwnEntry → Type 0
-  AllWhole found = (slot at : ℕ) → found ≡ At slot at → Whole slot at
+  AllWhole : Option OwnEntry → Type 0
+  AllWhole found = (slot at : ℕ) → found ≡ entry_at slot at → Whole slot at
 
-  nothing_whole : AllWhole Nothing
+  nothing_whole : AllWhole None
   unfolding AllWhole
   nothing_whole slot at e = let z : ◌≡◌ {A = ℕ} 0 1 = cc in absurd (omega arith)
 
-  pick_whole : (b : Bool) (x y : OwnEntry) → (b ≡ true → AllWhole x) → (b ≡ false → AllWhole y) → AllWhole (cond b x y)
+  pick_whole : (b : Bool) (x y : Option OwnEntry) → (b ≡ true → AllWhole x) → (b ≡ false → AllWhole y) → AllWhole (cond b x y)
   pick_whole true x y f g = f refl
   pick_whole false x y f g = g refl
 
-  here_whole : (n at : ℕ) → Whole n at → AllWhole (At n at)
+  here_whole : (n at : ℕ) → Whole n at → AllWhole (entry_at n at)
   unfolding AllWhole
   here_whole n at w slot k e =
-      let y : n ≡ slot = cc in
-      let z : at ≡ k = cc in
+      let o : ◌≡◌ {A = OwnEntry} (record { slot = n; offset = at }) (record { slot = slot; offset = k }) = cc in
+      let y : n ≡ slot = ap (λ (x : OwnEntry). x.slot) o in
+      let z : at ≡ k = ap (λ (x : OwnEntry). x.offset) o in
       rw (y, z) at w
 
   module _ (at : ℕ) (passed : List ℕ) (g : entry_good e params at passed ≡ true) where
@@ -330,22 +293,22 @@ module _ (e : EntryShape) (own : ℕ) (params : List ℕ) (from : ℕ) where
           early = let n = apart_few (get_or params at 0 ∷ passed) (good_apart d) in omega arith;
         }
 
-  from_whole : (steps at : ℕ) (passed : List ℕ) (found : OwnEntry) → Apart passed → AllWhole found
+  from_whole : (steps at : ℕ) (passed : List ℕ) (found : Option OwnEntry) → Apart passed → AllWhole found
       → AllWhole (search_from e own params steps at passed found)
   unfolding search_from
-  from_whole zero at passed found d f = pick_whole (leb (length params) at) found Nothing (λ _. f) (λ _. nothing_whole)
+  from_whole zero at passed found d f = pick_whole (leb (length params) at) found None (λ _. f) (λ _. nothing_whole)
   from_whole (suc steps) at passed found d f =
-      pick_whole (leb (length params) at) found _ (λ _. f) (λ _. pick_whole (entry_good e params at passed) _ Nothing (λ g. from_whole steps (at + e.size (drop at params)) (get_or params at 0 ∷ passed) _ (good_apart at passed g d) (pick_whole (eqb (get_or params at 0) own) (At (length passed) at) found (λ _. here_whole (length passed) at (good_whole at passed g d)) (λ _. f))) (λ _. nothing_whole))
+      pick_whole (leb (length params) at) found _ (λ _. f) (λ _. pick_whole (entry_good e params at passed) _ None (λ g. from_whole steps (at + e.size (drop at params)) (get_or params at 0 ∷ passed) _ (good_apart at passed g d) (pick_whole (eqb (get_or params at 0) own) (entry_at (length passed) at) found (λ _. here_whole (length passed) at (good_whole at passed g d)) (λ _. f))) (λ _. nothing_whole))
 
-  pub found_whole : (slot at : ℕ) → search e own params from ≡ At slot at → Whole slot at
+  pub found_whole : (slot at : ℕ) → search e own params from ≡ entry_at slot at → Whole slot at
   unfolding AllWhole
-  found_whole slot at s = from_whole (length params) from [] Nothing none_apart nothing_whole slot at s
+  found_whole slot at s = from_whole (length params) from [] None none_apart nothing_whole slot at s
 
-module _ (size own : ℕ) (params : List ℕ) (slot at : ℕ) (e : sync_search size own params ≡ At slot at) where
+module _ (size own : ℕ) (params : List ℕ) (slot at : ℕ) (e : sync_search size own params ≡ entry_at slot at) where
   sync_found : Whole (plain size) own params 4 slot at
   unfolding AllWhole
   sync_found =
-      pick_whole (plain size) own params 4 (eqb (word_at params 2) 0) Nothing (search (plain size) own params 4)
+      pick_whole (plain size) own params 4 (eqb (word_at params 2) 0) None (search (plain size) own params 4)
       (λ _. nothing_whole (plain size) own params 4) (λ _ s k f. found_whole (plain size) own params 4 s k f) slot at e
 
   pub sync_whole : at + size ≤ length params

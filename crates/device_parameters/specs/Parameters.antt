@@ -1,9 +1,9 @@
 -- The parameters of an instruction: words, what the entries of lists are, and the list of a Sync instruction.
+use Rattle.std.specs.Prelude.{None, Option}
 use Rattle.std.specs.Prelude.{true, not, cond, List, ℕ, ◌+◌, ◌*◌, get_or, eqb}
 use Rattle.device_parameters.specs.declared.EntryKind.{EntryKind}
 use Rattle.device_parameters.specs.declared.EntryKind.TheVariants.{Plain, BulkRead, BulkWrite}
 use Rattle.device_parameters.specs.declared.OwnEntry.{OwnEntry}
-use Rattle.device_parameters.specs.declared.OwnEntry.TheVariants.{Nothing}
 use Rattle.device_parameters.specs.Entries.{EntryShape, search}
 
 -- two bytes of the parameters, low byte first [D5]
@@ -28,5 +28,5 @@ entry_of BulkRead = bulk_read
 entry_of BulkWrite = bulk_write
 
 -- address, length, entries: without a length there is no list [D22 D23]
-abbrev pub sync_search : ℕ → ℕ → List ℕ → OwnEntry
-sync_search size own params = cond (eqb (word_at params 2) 0) Nothing (search (plain size) own params 4)
+abbrev pub sync_search : ℕ → ℕ → List ℕ → Option OwnEntry
+sync_search size own params = cond (eqb (word_at params 2) 0) None (search (plain size) own params 4)

@@ -2,70 +2,53 @@
 // reply slot.
 #![tactic(auto)]
 
-ghost use Rattle.std.specs.Prelude.{◌≡◌, []};
-ghost use Rattle.device_instructions.specs.Results.{done_with};
+ghost use Rattle.std.specs.Prelude.{◌≡◌};
+ghost use Rattle.device_instructions.specs.Results.{done_in};
 ghost use Rattle.device_replies.specs.Replies.{silent, own_only};
-ghost use Rattle.device_replies.specs.Results.{reacted_by};
+ghost use Rattle.device_replies.specs.Results.{level_number, reacted_by, told};
 
-use device_instructions::{Done, RegisteredWrite};
+use device_instructions::{Fault, ReplyData};
 
-// The status return level from which on it is answered: Ping always, a read, everything else.
-pub const LEVEL_PING: u8 = 0;
+// The status return level from which on an instruction is answered: Ping always, a read, everything else.
+#[derive(Clone, Copy, PartialEq, Eq, Debug)]
+pub enum Level {
+    Ping = 0,
+    Read = 1,
+    All = 2,
+}
 
-pub const LEVEL_READ: u8 = 1;
-
-pub const LEVEL_ALL: u8 = 2;
-
-// What was done, and whether it is answered: from which status return level on, and in which reply slot.
-#[derive(Clone, Copy)]
-pub struct Reacted {
-    pub done: Done,
-    pub speaks: bool,
-    pub level: u8,
+// An answer: from which status return level on, and in which reply slot.
+#[derive(Clone, Copy, PartialEq, Eq, Debug)]
+pub struct ReplyAt {
+    pub level: Level,
     pub slot: usize,
 }
 
-// No answer.
-pub fn unanswered(done: Done) -> Reacted
-    ensures { result ≡ reacted_by silent done }
-{
-    Reacted {
-        done,
-        speaks: false,
-        level: 0,
-        slot: 0,
-    }
+// What was done, and how that is answered, if it is.
+#[derive(Clone, Copy)]
+pub struct Reacted {
+    pub outcome: Result<ReplyData, Fault>,
+    pub reply: Option<ReplyAt>,
 }
 
-// An answer to the own ID only. [D10 D31 D34]
-pub fn own_only(done: Done, all: bool, level: u8) -> Reacted
-    ensures { result ≡ reacted_by (own_only all level) done }
-{
-    if all {
-        return unanswered(done);
+impl Reacted {
+    // No answer.
+    pub fn unanswered(outcome: Result<ReplyData, Fault>) -> Self
+        ensures { (w : _) → told result w ≡ reacted_by silent (done_in outcome w) }
+    {
+        Reacted {
+            outcome,
+            reply: None,
+        }
     }
-    Reacted {
-        done,
-        speaks: true,
-        level,
-        slot: 0,
+
+    // An answer to the own ID only. [D10 D31 D34]
+    pub fn own_only(outcome: Result<ReplyData, Fault>, all: bool, level: Level) -> Self
+        ensures { (w : _) → told result w ≡ reacted_by (own_only all (level_number level)) (done_in outcome w) }
+    {
+        Reacted {
+            outcome,
+            reply: (!all).then_some(ReplyAt { level, slot: 0 }),
+        }
     }
-}
-
-// Nothing is done, and nothing is answered.
-pub fn quiet(registered: RegisteredWrite, error: u8) -> Reacted
-    ensures { result ≡ reacted_by silent (done_with error [] registered) }
-{
-    unanswered(device_instructions::without_data(error, registered))
-}
-
-// Nothing is done, and the error number, 0 for none, is answered to the own ID only.
-pub fn nothing_done(registered: RegisteredWrite, error: u8, all: bool, level: u8) -> Reacted
-    ensures { result ≡ reacted_by (own_only all level) (done_with error [] registered) }
-{
-    own_only(
-        device_instructions::without_data(error, registered),
-        all,
-        level,
-    )
 }

@@ -1,7 +1,7 @@
 -- A reply with a good ID and at most 8 bytes goes out: 32 bytes are room enough.
+use Rattle.std.specs.Prelude.{None, Ok, Some}
 use mathlib.Core.Path.{◌≡◌, sym, ap, ◌∙◌}
 use mathlib.Core.List.{List, [], ◌∷◌}
-use mathlib.Core.Option.{none, some}
 use Prim.Native.Nat.{ℕ, suc, ◌+◌, ◌≤◌, ◌<◌}
 use native.Mathlib.Nat.{le_of_eq}
 use native.Mathlib.Numerals.{add-one}
@@ -10,7 +10,6 @@ use lib.ListN.{length, take, drop, get_or, length-take, drop_of_length-le}
 use lib.Seq.{drop-cons}
 use borrow.Author.Tests.{le-leb, lt-leb}
 use Rattle.answers.specs.declared.Refusal.TheVariants.{BadId, TooLong, ShortReply}
-use Rattle.answers.specs.declared.Answer.TheVariants.{Count}
 use Rattle.stuffing.specs.Stuffing.{stuff}
 use Rattle.stuffing.proofs.Laws.{stuff_at_most}
 use Rattle.packet_encoder.proofs.Writing.{packet_length}
@@ -44,27 +43,27 @@ body_stuffed r short =
 
 -- ---- the refusals, each where those before it do not apply
 module _ (r : Reply) (out : List ℕ) where
-  pub refuses_id : 252 < r.id → status_refusal r out ≡ some BadId
+  pub refuses_id : 252 < r.id → status_refusal r out ≡ Some BadId
   unfolding status_refusal
   refuses_id l = rw (lt-leb r.id 252 l)
 
   module _ (known : r.id ≤ 252) where
-    pub refuses_count : 8 < r.count → status_refusal r out ≡ some TooLong
+    pub refuses_count : 8 < r.count → status_refusal r out ≡ Some TooLong
     unfolding status_refusal
     refuses_count l = rw (le-leb r.id 252 known, lt-leb r.count 8 l)
 
     module _ (short : r.count ≤ 8) where
-      pub refuses_room : length out < 32 → status_refusal r out ≡ some ShortReply
+      pub refuses_room : length out < 32 → status_refusal r out ≡ Some ShortReply
       unfolding status_refusal
       refuses_room l = rw (le-leb r.id 252 known, le-leb r.count 8 short, lt-leb 32 (length out) l)
 
       module _ (room : 32 ≤ length out) where
-        pub accepts : status_refusal r out ≡ none
+        pub accepts : status_refusal r out ≡ None
         unfolding status_refusal
         accepts = rw (le-leb r.id 252 known, le-leb r.count 8 short, le-leb 32 (length out) room)
 
         -- and then the encoder refuses nothing
-        pub fits : encode_refusal r.id (status_body r) out 0 ≡ none
+        pub fits : encode_refusal r.id (status_body r) out 0 ≡ None
         unfolding encode_refusal
         fits =
             let l = body_stuffed r short in
@@ -74,5 +73,5 @@ module _ (r : Reply) (out : List ℕ) where
               le-leb (0 + length (status_packet r)) (length out) (omega (arith, packet_length r.id (status_body r))),
             )
 
-        pub goes_out : encode_answer r.id (status_body r) out 0 ≡ Count (length (status_packet r))
+        pub goes_out : encode_answer r.id (status_body r) out 0 ≡ Ok (length (status_packet r))
         goes_out = rw fits

@@ -1,8 +1,8 @@
 -- The status that is written of any reply.
+use Rattle.std.specs.Prelude.{None}
 use mathlib.Core.Path.{◌≡◌, refl, sym, ap, subst, ◌∙◌}
 use mathlib.Core.Bool.{Bool, true, false, cond}
 use mathlib.Core.List.{List, [], ◌∷◌}
-use mathlib.Core.Option.{none}
 use Prim.Native.Nat.{ℕ, ◌≤◌, ◌<◌}
 use native.Mathlib.Omega.{arith}
 use lib.Dec.{leb, eqb}
@@ -26,7 +26,7 @@ pub record Accepted (r : Reply) (out : List ℕ) : Type 0 where
   pub short : r.count ≤ 8
   pub room : 32 ≤ length out
 
-pub accepted : (r : Reply) (out : List ℕ) → status_refusal r out ≡ none → Accepted r out
+pub accepted : (r : Reply) (out : List ℕ) → status_refusal r out ≡ None → Accepted r out
 unfolding status_refusal
 accepted r out e =
     let p = passed (leb r.id 252) BadId _ e in

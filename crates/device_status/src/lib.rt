@@ -7,8 +7,8 @@ ghost use Rattle.device_status.specs.Status.{silence as status_silence};
 ghost use Rattle.device_status.specs.Status.{error_byte, status_body};
 ghost use Rattle.device_status.specs.Sending.{status_answer, status_out};
 
-use answers::{Answer, Refusal};
-use device_codes::INST_STATUS;
+use answers::Refusal;
+use device_codes::Instruction;
 use packet_front::MAX_ID;
 use table_registers::MAX_DATA;
 
@@ -58,7 +58,7 @@ pub fn error_byte(error: u8, hardware: u8) -> u8
 }
 
 // Writes the status packet to the start of out.
-fn write_status(reply: Reply, out: &mut [u8]) -> Answer
+fn write_status(reply: Reply, out: &mut [u8]) -> Result<usize, Refusal>
     requires { reply.count ≤ 8 }
     ensures value { result ≡ encode_answer reply.id (status_body reply) out.old 0 }
     ensures out_after { out.new ≡ encode_out reply.id (status_body reply) out.old 0 }
@@ -67,27 +67,27 @@ fn write_status(reply: Reply, out: &mut [u8]) -> Answer
     let params = [reply.error, b[0], b[1], b[2], b[3], b[4], b[5], b[6], b[7]];
     let n = reply.count as usize + 1;
     let id = reply.id;
-    packet_encoder::encode(id, INST_STATUS, &params[..n], out, 0)
+    packet_encoder::encode(id, Instruction::Status as u8, &params[..n], out, 0)
 }
 
 // Writes the status packet to the start of out; silence writes nothing, and counts 0. Refused, in this order, even for silence: an ID above 252,
 // more than 8 bytes of data, a buffer under 32 bytes. A refusal writes nothing.
 // [D28 D35-D37 D52 D53 N1 N2 N8 N10-N12 N14]
-pub fn send(reply: Reply, out: &mut [u8]) -> Answer
+pub fn send(reply: Reply, out: &mut [u8]) -> Result<usize, Refusal>
     ensures value { result ≡ status_answer reply out.old }
     ensures out_after { out.new ≡ status_out reply out.old }
 {
     if MAX_ID < reply.id {
-        return Answer::Refused(Refusal::BadId);
+        return Err(Refusal::BadId);
     }
     if MAX_REPLY_DATA < reply.count {
-        return Answer::Refused(Refusal::TooLong);
+        return Err(Refusal::TooLong);
     }
     if out.len() < MIN_REPLY {
-        return Answer::Refused(Refusal::ShortReply);
+        return Err(Refusal::ShortReply);
     }
     if reply.speaks == 0 {
-        return Answer::Count(0);
+        return Ok(0);
     }
     write_status(reply, out)
 }

@@ -1,17 +1,17 @@
 -- Instructions with an entry for each device, which are sent to all devices: Sync Read and Sync Write, whose parameters are address,
 -- length and entries.
+use Rattle.std.specs.Prelude.{None, Option, Some}
 use Rattle.std.specs.Prelude.{Bool, cond, List, ℕ, ◌+◌, take, drop}
 use Rattle.device_instructions.specs.Instructions.{refusing, read, write}
 use Rattle.device_instructions.specs.declared.RegisteredWrite.{RegisteredWrite}
 use Rattle.device_parameters.specs.Parameters.{word_at, sync_search}
 use Rattle.device_parameters.specs.declared.OwnEntry.{OwnEntry}
-use Rattle.device_parameters.specs.declared.OwnEntry.TheVariants.{At, Nothing}
 use Rattle.device_replies.specs.Replies.{own_id, silent, speaks, Reaction, reacting, unchanged}
 
 -- by the own entry, if there is one: the slot and the offset at which it stands
-abbrev pub by_entry : OwnEntry → List ℕ → RegisteredWrite → (ℕ → ℕ → Reaction) → Reaction
-by_entry (At slot at) table w act = act slot at
-by_entry Nothing table w act = reacting (unchanged table w) silent
+abbrev pub by_entry : Option OwnEntry → List ℕ → RegisteredWrite → (ℕ → ℕ → Reaction) → Reaction
+by_entry (Some entry) table w act = act entry.slot entry.offset
+by_entry None table w act = reacting (unchanged table w) silent
 
 -- answered in the slot of its entry [D24 D25 D31 D34 D46]
 abbrev pub sync_read_by : List ℕ → RegisteredWrite → ℕ → ℕ → ℕ → Reaction

@@ -1,8 +1,8 @@
 -- The counts of what is written into a buffer.
+use Rattle.std.specs.Prelude.{Err, None, Ok, Option, Some}
 use mathlib.Core.Path.{◌≡◌, refl}
 use mathlib.Core.Bool.{Bool}
 use mathlib.Core.List.{List}
-use mathlib.Core.Option.{Option, none, some}
 use Prim.Native.Nat.{ℕ, zero, suc, ◌+◌, ◌≤◌, min}
 use lib.IntN.{ℤ}
 use native.Mathlib.Omega.{arith}
@@ -11,7 +11,6 @@ use lib.Dec.{leb, eqb}
 use lib.ListN.{length}
 use Rattle.answers.specs.declared.Refusal.{Refusal}
 use Rattle.answers.specs.declared.Refusal.TheVariants.{BadId, TooLong, BadStuffing, NoRoom, NotATable, BadTableId, BadRegistered, ShortReply, BadReader, BadLog, BadLogId, BadLogSize, WrongIndex, NotGoals, BadGoal}
-use Rattle.answers.specs.declared.Answer.TheVariants.{Count, Refused}
 use Rattle.answers.specs.Refusals.{or_else}
 use Rattle.answers.specs.Answers.{answered, exported}
 use Rattle.answers.proofs.Laws.{passed}
@@ -37,10 +36,10 @@ use Rattle.fits.specs.Fits.{AtMost, CountsFit}
 
 -- ---- a count or a refusal
 
-pub count_at_most : (most n : ℕ) → n ≤ most → AtMost most (exported (Count n))
+pub count_at_most : (most n : ℕ) → n ≤ most → AtMost most (exported (Ok n))
 count_at_most most n h = omega (arith, h)
 
-pub refused_at_most : (most : ℕ) (refusal : Refusal) → AtMost most (exported (Refused refusal))
+pub refused_at_most : (most : ℕ) (refusal : Refusal) → AtMost most (exported (Err refusal))
 refused_at_most most BadId = tt
 refused_at_most most TooLong = tt
 refused_at_most most BadStuffing = tt
@@ -57,62 +56,62 @@ refused_at_most most WrongIndex = tt
 refused_at_most most NotGoals = tt
 refused_at_most most BadGoal = tt
 
-answered_at_most : (most n : ℕ) (r : Option Refusal) → (r ≡ none → n ≤ most) → AtMost most (exported (answered r n))
-answered_at_most most n none h = count_at_most most n (h refl)
-answered_at_most most n (some refusal) h = refused_at_most most refusal
+answered_at_most : (most n : ℕ) (r : Option Refusal) → (r ≡ None → n ≤ most) → AtMost most (exported (answered r n))
+answered_at_most most n None h = count_at_most most n (h refl)
+answered_at_most most n (Some refusal) h = refused_at_most most refusal
 
 -- the first of two refusals is none, and so is the second
-pub neither : {R : Type 0} (a b : Option R) → or_else a b ≡ none → (a ≡ none) × (b ≡ none)
-neither none b e = (refl, e)
-neither (some x) b e = let z : ◌≡◌ {A = ℕ} 0 1 = cc in absurd (omega arith)
+pub neither : {R : Type 0} (a b : Option R) → or_else a b ≡ None → (a ≡ None) × (b ≡ None)
+neither None b e = (refl, e)
+neither (Some x) b e = let z : ◌≡◌ {A = ℕ} 0 1 = cc in absurd (omega arith)
 
 -- ---- what is written
 
-encoded : (id : ℕ) (body out : List ℕ) (at : ℕ) → encode_refusal id body out at ≡ none → length (packet_of id body) ≤ min 1031 (length out)
+encoded : (id : ℕ) (body out : List ℕ) (at : ℕ) → encode_refusal id body out at ≡ None → length (packet_of id body) ≤ min 1031 (length out)
 unfolding encode_refusal
 encoded id body out at e =
     let t = passed (good_id id) BadId _ e in
     let u = passed (leb (length (stuff body) + 2) 1024) TooLong _ t.1 in
-    let v = passed (leb (at + length (packet_of id body)) (length out)) NoRoom none u.1 in
+    let v = passed (leb (at + length (packet_of id body)) (length out)) NoRoom None u.1 in
     let l = leb-true (length (stuff body) + 2) 1024 u.0 in
     let m = leb-true (at + length (packet_of id body)) (length out) v.0 in
     omega (arith, packet_length id body, l, m)
 
-encoded_v1 : (good : ℕ → Bool) (id : ℕ) (body out : List ℕ) (at : ℕ) → encodeRefusalV1 good id body out at ≡ none
+encoded_v1 : (good : ℕ → Bool) (id : ℕ) (body out : List ℕ) (at : ℕ) → encodeRefusalV1 good id body out at ≡ None
     → length (packetOfV1 id body) ≤ min 259 (length out)
 unfolding encodeRefusalV1
 encoded_v1 good id body out at e =
     let t = passed (good id) BadId _ e in
     let u = passed (leb (length body + 1) 255) TooLong _ t.1 in
-    let v = passed (leb (at + length (packetOfV1 id body)) (length out)) NoRoom none u.1 in
+    let v = passed (leb (at + length (packetOfV1 id body)) (length out)) NoRoom None u.1 in
     let l = leb-true (length body + 1) 255 u.0 in
     let m = leb-true (at + length (packetOfV1 id body)) (length out) v.0 in
     omega (arith, packet-length-v1 id body, l, m)
 
-unstuffed : (body out : List ℕ) → removal_refusal body out ≡ none → length (unstuff body) ≤ min (length body) (length out)
+unstuffed : (body out : List ℕ) → removal_refusal body out ≡ None → length (unstuff body) ≤ min (length body) (length out)
 unfolding removal_refusal
 unstuffed body out e =
     let t = passed (well_stuffed body) BadStuffing _ e in
-    let u = passed (leb (length (unstuff body)) (length out)) NoRoom none t.1 in
+    let u = passed (leb (length (unstuff body)) (length out)) NoRoom None t.1 in
     let l = leb-true (length (unstuff body)) (length out) u.0 in
     omega (arith, unstuff_short body, l)
 
-logged : (bytes lengths out : List ℕ) → write_refusal bytes lengths out ≡ none → length (written bytes lengths) ≤ length out
+logged : (bytes lengths out : List ℕ) → write_refusal bytes lengths out ≡ None → length (written bytes lengths) ≤ length out
 unfolding write_refusal
 logged bytes lengths out e =
     let n = length (written bytes lengths) in
     let t = passed (eqb (sum lengths) (length bytes)) BadLog _ e in
     let u = passed (leb n longest_file) BadLog _ t.1 in
-    leb-true _ _ (passed (leb n (length out)) NoRoom none u.1).0
+    leb-true _ _ (passed (leb n (length out)) NoRoom None u.1).0
 
-planned : (goals : List ℤ) (out : List ℕ) → plan_refusal goals out ≡ none → length (plan_of goals) ≤ length out
+planned : (goals : List ℤ) (out : List ℕ) → plan_refusal goals out ≡ None → length (plan_of goals) ≤ length out
 unfolding plan_refusal
 planned goals out e =
     let t = neither (goals_refusal goals) _ e in
-    leb-true _ _ (passed (leb (length (plan_of goals)) (length out)) NoRoom none t.1).0
+    leb-true _ _ (passed (leb (length (plan_of goals)) (length out)) NoRoom None t.1).0
 
 -- silence has no bytes
-sent : (r : Reply) (out : List ℕ) (n : ℕ) → length (reply_bytes r) ≡ n → status_refusal r out ≡ none → length (reply_bytes r) ≤ 22
+sent : (r : Reply) (out : List ℕ) (n : ℕ) → length (reply_bytes r) ≡ n → status_refusal r out ≡ None → length (reply_bytes r) ≤ 22
 sent r out zero l e = omega (arith, l)
 sent r out (suc n) l e = (reply_written r out (length (reply_bytes r)) (rw e refl) (omega (arith, l))).short
 

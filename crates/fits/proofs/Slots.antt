@@ -1,7 +1,9 @@
 -- The reply slot of the device, and the calls on a board.
+use Rattle.std.specs.Prelude.{Ok}
+use Rattle.std.specs.Prelude.{Err, Result}
+use Rattle.std.specs.Prelude.{None, Option, Some}
 use mathlib.Core.Path.{◌≡◌, refl}
 use mathlib.Core.List.{List, []}
-use mathlib.Core.Option.{Option, none, some}
 use Prim.Native.Nat.{ℕ, zero, suc, ◌≤◌, ◌<◌, max}
 use native.Mathlib.Omega.{arith}
 use borrow.Author.Tests.{leb-true}
@@ -21,9 +23,7 @@ use Rattle.reader_records.specs.Records.{held_in}
 use Rattle.device_instructions.specs.declared.RegisteredWrite.{RegisteredWrite}
 use Rattle.device_dispatch.specs.declared.Heard.{Heard}
 use Rattle.device_dispatch.specs.declared.Heard.TheVariants.{Packet, BadChecksum}
-use Rattle.device.specs.declared.Replied.{Replied}
-use Rattle.device.specs.declared.Replied.TheVariants.{Sent, Refused}
-use Rattle.device.specs.Answers.{carried_reply, call_answer, reply_unless, state_refusal}
+use Rattle.device.specs.Answers.{replied, carried_reply, call_answer, reply_unless, state_refusal}
 use Rattle.device.proofs.Written.{status_written, slot_within}
 use Rattle.device_packet.specs.Exchange.{heard_of, refused_or}
 use Rattle.board.specs.Board.{Board, board_refusal, carried_if_any, outcome, reader_left}
@@ -33,12 +33,14 @@ use Rattle.numbers.specs.Exported.{device_numbers}
 use Rattle.fits.specs.Fits.{AtMost, DeviceFits, BoardFits}
 use Rattle.fits.proofs.Counts.{count_at_most, refused_at_most}
 use Rattle.fits.proofs.Steps.{takes, packet_fits}
+use Rattle.device.specs.declared.Sent.{Sent}
+use Rattle.answers.specs.Answers.{exported}
 
 -- ---- the device
 
-by_sent : (kept : RegisteredWrite) (a : Replied) → ((n slot : ℕ) → a ≡ Sent n slot → slot ≤ 252) → (device_numbers a kept).slot ≤ 252
-by_sent kept (Sent n slot) h = h n slot refl
-by_sent kept (Refused refusal) h = omega arith
+by_sent : (kept : RegisteredWrite) (a : Result Sent Refusal) → ((n slot : ℕ) → a ≡ replied n slot → slot ≤ 252) → (device_numbers a kept).slot ≤ 252
+by_sent kept (Ok sent) h = h sent.count sent.slot refl
+by_sent kept (Err refusal) h = omega arith
 
 module _ (table : List ℕ) (w : RegisteredWrite) where
   call_slot : (kept : RegisteredWrite) (heard : Heard) (id : ℕ) (body out : List ℕ) → (device_numbers (call_answer table w heard id body out) kept).slot ≤ 252
@@ -47,20 +49,23 @@ module _ (table : List ℕ) (w : RegisteredWrite) where
   module _ (packet body : List ℕ) where
     exchange_slot : (kept : RegisteredWrite) (out : List ℕ) (r : Option Refusal)
         → (device_numbers (refused_or r (call_answer table w Packet (heard_of packet).id (heard_of packet).body out)) kept).slot ≤ 252
-    exchange_slot kept out none = call_slot kept Packet (heard_of packet).id (heard_of packet).body out
-    exchange_slot kept out (some refusal) = omega arith
+    exchange_slot kept out None = call_slot kept Packet (heard_of packet).id (heard_of packet).body out
+    exchange_slot kept out (Some refusal) = omega arith
 
     reply_slot : (r : Option Refusal)
         → (reply_unless r (carried_reply table w Packet (heard_of packet).id (heard_of packet).body)).slot ≤ 252
-    reply_slot none = slot_within.in_two_lem table w Packet (heard_of packet).id (heard_of packet).body
-    reply_slot (some refusal) = omega arith
+    reply_slot None = slot_within.in_two_lem table w Packet (heard_of packet).id (heard_of packet).body
+    reply_slot (Some refusal) = omega arith
 
 -- a status has 21 bytes at the most, and silence none
-sent_count : (kept : RegisteredWrite) (most : ℕ) (a : Replied) → ((n slot : ℕ) → a ≡ Sent n slot → 0 < n → n ≤ most)
+sent_count : (kept : RegisteredWrite) (most : ℕ) (a : Result Sent Refusal) → ((n slot : ℕ) → a ≡ replied n slot → 0 < n → n ≤ most)
     → AtMost most (device_numbers a kept).count
-sent_count kept most (Sent zero slot) h = count_at_most most 0 (omega arith)
-sent_count kept most (Sent (suc n) slot) h = count_at_most most (suc n) (h (suc n) slot refl (omega arith))
-sent_count kept most (Refused refusal) h = refused_at_most most refusal
+sent_count kept most (Ok sent) h = by_count sent.count (h sent.count sent.slot refl)
+  where
+    by_count : (n : ℕ) → (0 < n → n ≤ most) → AtMost most (exported (Ok n))
+    by_count zero g = count_at_most most 0 (omega arith)
+    by_count (suc n) g = count_at_most most (suc n) (g (omega arith))
+sent_count kept most (Err refusal) h = refused_at_most most refusal
 
 module _ (table : List ℕ) (w kept : RegisteredWrite) (most : ℕ) (m : 21 ≤ most) where
   call_count : (heard : Heard) (id : ℕ) (body out : List ℕ) → AtMost most (device_numbers (call_answer table w heard id body out) kept).count
@@ -70,8 +75,8 @@ module _ (table : List ℕ) (w kept : RegisteredWrite) (most : ℕ) (m : 21 ≤ 
 
   exchange_count : (bytes out : List ℕ) (r : Option Refusal)
       → AtMost most (device_numbers (refused_or r (call_answer table w Packet (heard_of bytes).id (heard_of bytes).body out)) kept).count
-  exchange_count bytes out none = call_count Packet (heard_of bytes).id (heard_of bytes).body out
-  exchange_count bytes out (some refusal) = refused_at_most most refusal
+  exchange_count bytes out None = call_count Packet (heard_of bytes).id (heard_of bytes).body out
+  exchange_count bytes out (Some refusal) = refused_at_most most refusal
 
 pub device_fits : DeviceFits
 device_fits =
@@ -90,38 +95,38 @@ device_fits =
 -- ---- a board
 
 module _ (b : Board) (c : Call) where
-  by_event : state_refusal b.table b.registered ≡ none → (e : Option Event) → (carried_if_any b.table b.registered e).reply.slot ≤ 252
-  by_event s none = omega arith
-  by_event s (some (packet bytes)) = rw s at (slot_within.in_two_lem b.table b.registered Packet (id_of bytes) (unstuff (body_of bytes)))
-  by_event s (some (bad_checksum id)) = rw s at (slot_within.in_two_lem b.table b.registered BadChecksum id [])
+  by_event : state_refusal b.table b.registered ≡ None → (e : Option Event) → (carried_if_any b.table b.registered e).reply.slot ≤ 252
+  by_event s None = omega arith
+  by_event s (Some (packet bytes)) = rw s at (slot_within.in_two_lem b.table b.registered Packet (id_of bytes) (unstuff (body_of bytes)))
+  by_event s (Some (bad_checksum id)) = rw s at (slot_within.in_two_lem b.table b.registered BadChecksum id [])
 
   by_count : (e : Option Event) → (call protocol2 (held_in b.reader) c).answer ≡ e → count_of e ≤ 1031
-  by_count none i = omega arith
-  by_count (some (packet w)) i = packet_fits protocol2 laws (held_in b.reader) c w i
-  by_count (some (bad_checksum id)) i = omega arith
+  by_count None i = omega arith
+  by_count (Some (packet w)) i = packet_fits protocol2 laws (held_in b.reader) c w i
+  by_count (Some (bad_checksum id)) i = omega arith
 
   step_taken : (r : Option Refusal) → board_refusal b ≡ r → (board_step b c).taken ≤ length (chunk_of c)
   unfolding board_step outcome
-  step_taken none e = rw e (takes protocol2 laws (held_in b.reader) c)
-  step_taken (some refusal) e = rw e (omega arith)
+  step_taken None e = rw e (takes protocol2 laws (held_in b.reader) c)
+  step_taken (Some refusal) e = rw e (omega arith)
 
   step_count : (r : Option Refusal) → board_refusal b ≡ r → (board_step b c).count ≤ 1031
   unfolding board_step outcome
-  step_count none e = rw e (by_count (call protocol2 (held_in b.reader) c).answer refl)
-  step_count (some refusal) e = rw e (omega arith)
+  step_count None e = rw e (by_count (call protocol2 (held_in b.reader) c).answer refl)
+  step_count (Some refusal) e = rw e (omega arith)
 
   step_slot : (r : Option Refusal) → board_refusal b ≡ r → (board_step b c).reply.slot ≤ 252
   unfolding board_step outcome
-  step_slot none e = rw e (by_event (accepted b e).state (call protocol2 (held_in b.reader) c).answer)
-  step_slot (some refusal) e = rw e (omega arith)
+  step_slot None e = rw e (by_event (accepted b e).state (call protocol2 (held_in b.reader) c).answer)
+  step_slot (Some refusal) e = rw e (omega arith)
 
   left_held : (r : Option Refusal) → board_refusal b ≡ r → (outcome b c).board.reader.count ≤ max b.reader.count 1030
   unfolding outcome reader_left
-  left_held none e =
+  left_held None e =
       let l = (accepted b e).held in
       let k = held_bound protocol2 laws (held_in b.reader) c (simp length-take (omega (arith, l))) in
       rw e (omega (arith, k))
-  left_held (some refusal) e = rw e (omega arith)
+  left_held (Some refusal) e = rw e (omega arith)
 
 pub board_fits : BoardFits
 board_fits =

@@ -1,8 +1,8 @@
 -- Feeding and gap calls, by themselves and on a board; the plain reader's events.
+use Rattle.std.specs.Prelude.{None, Option, Some}
 use mathlib.Core.Path.{◌≡◌, refl}
 use mathlib.Core.Bool.{Bool, true, false}
 use mathlib.Core.List.{List, [], append-nil}
-use mathlib.Core.Option.{Option, none, some}
 use Prim.Native.Nat.{ℕ, ◌-◌, ◌≤◌, max}
 use native.Mathlib.Omega.{arith}
 use borrow.Author.Tests.{leb-true}
@@ -22,8 +22,8 @@ use Rattle.packet_protocols.proofs.Shapes.{laws}
 use Rattle.reader_core.specs.Results.{most_held, event_for}
 use Rattle.reader_records.specs.declared.Reader.{Reader}
 use Rattle.reader_records.specs.Records.{held_in, step_in, left_in}
-use Rattle.reader_plain.specs.declared.Next.{Next}
-use Rattle.reader_plain.specs.declared.Next.TheVariants.{Packet, BadChecksum, Nothing}
+use Rattle.reader_plain.specs.declared.Event.{Event as Event-of-segment}
+use Rattle.reader_plain.specs.declared.Event.TheVariants.{Packet, BadChecksum}
 use Rattle.reader_plain.specs.Next.{next_event}
 use Rattle.reader_plain.specs.Plain.{Within}
 use Rattle.reader_plain.proofs.Plain.{within}
@@ -42,7 +42,7 @@ module _ (R : Rules) (L : Laws R) (h : List ℕ) where
   takes (feed s) = (fed_fewest R h s).within
   takes gap = gap_takes (first R closed h)
 
-  pub packet_fits : (c : Call) (w : List ℕ) → (call R h c).answer ≡ some (packet w) → length w ≤ R.longest
+  pub packet_fits : (c : Call) (w : List ℕ) → (call R h c).answer ≡ Some (packet w) → length w ≤ R.longest
   packet_fits c w e = packet_short R L w (length w) (rw append-nil at (L.whole w [] (packet_good R L h c w e)))
 
 -- ---- on a record
@@ -52,14 +52,14 @@ module _ (p : Protocol) (r : Reader) (c : Call) where
   result = call (rules_of p) (held_in r) c
 
   told_taken : (n : ℕ) (a : Option Event) → (event_numbers n (event_for p a)).taken ≡ n
-  told_taken n none = refl
-  told_taken n (some (packet w)) = refl
-  told_taken n (some (bad_checksum id)) = refl
+  told_taken n None = refl
+  told_taken n (Some (packet w)) = refl
+  told_taken n (Some (bad_checksum id)) = refl
 
   told_count : (n : ℕ) (a : Option Event) → result.answer ≡ a → (event_numbers n (event_for p a)).count ≤ (rules_of p).longest
-  told_count n none e = omega arith
-  told_count n (some (packet w)) e = packet_fits (rules_of p) (laws p) (held_in r) c w e
-  told_count n (some (bad_checksum id)) e = omega arith
+  told_count n None e = omega arith
+  told_count n (Some (packet w)) e = packet_fits (rules_of p) (laws p) (held_in r) c w e
+  told_count n (Some (bad_checksum id)) e = omega arith
 
   step_taken : (b : Bool) → leb r.count (most_held p) ≡ b → (step_numbers (step_in p r c)).taken ≤ length (chunk_of c)
   unfolding step_in
@@ -100,20 +100,20 @@ steps_fit =
 -- ---- the plain reader
 
 module _ (s : List ℕ) (from : ℕ) where
-  by_offset : (n : Next) → Within s from n → (next_numbers n).offset ≤ length s
-  by_offset (Packet p n q id) w = omega (arith, w.1, w.2)
-  by_offset (BadChecksum p q id) w = omega (arith, w.1, w.2)
-  by_offset Nothing w = omega arith
+  by_offset : (n : Option Event-of-segment) → Within s from n → (next_numbers n).offset ≤ length s
+  by_offset (Some (Packet p n q id)) w = omega (arith, w.1, w.2)
+  by_offset (Some (BadChecksum p q id)) w = omega (arith, w.1, w.2)
+  by_offset None w = omega arith
 
-  by_count : (n : Next) → Within s from n → (next_numbers n).count ≤ length s
-  by_count (Packet p n q id) w = omega (arith, w.2, w.3)
-  by_count (BadChecksum p q id) w = omega arith
-  by_count Nothing w = omega arith
+  by_count : (n : Option Event-of-segment) → Within s from n → (next_numbers n).count ≤ length s
+  by_count (Some (Packet p n q id)) w = omega (arith, w.2, w.3)
+  by_count (Some (BadChecksum p q id)) w = omega arith
+  by_count None w = omega arith
 
-  by_next : (n : Next) → Within s from n → (next_numbers n).next ≤ length s
-  by_next (Packet p n q id) w = w.2
-  by_next (BadChecksum p q id) w = w.2
-  by_next Nothing w = omega arith
+  by_next : (n : Option Event-of-segment) → Within s from n → (next_numbers n).next ≤ length s
+  by_next (Some (Packet p n q id)) w = w.2
+  by_next (Some (BadChecksum p q id)) w = w.2
+  by_next None w = omega arith
 
 pub event_fits : EventFits
 event_fits =

@@ -3,72 +3,89 @@
 // If a read or a write fails, it says so on standard error and does not print `end BYTES`.
 #![tactic(auto)]
 
-use answers::Answer;
-use reader_plain::Next;
+ghost use Rattle.std.specs.Prelude.{◌-◌, length};
+ghost use Rattle.std.specs.Iterator.{at_most};
+ghost use Rattle.reader_plain.specs.Plain.{Within};
 
-// This and the functions below return whether all of it was written.
-fn print_packet(rt: &impl Print, id: u8, instruction: u8, params: u64) -> bool {
-    println!(rt; "packet {id} {instruction} {params}").is_ok()
+use anyhow::Context;
+use packet_front::MAX_BODY;
+use reader_plain::Event as Found;
+use std::io;
+
+// An event lies within the segment, and reading goes on behind where it begins.
+fn next_event(segment: &[u8], from: usize) -> Option<Found>
+    ensures { Within segment.now from result }
+{
+    reader_plain::next_event(segment, from)
 }
 
-fn print_bad_checksum(rt: &impl Print, id: u8) -> bool {
-    println!(rt; "crc {id}").is_ok()
+// An event of a segment, a packet by all its bytes.
+#[derive(Clone, Copy)]
+enum Event<'a> {
+    Packet { id: u8, bytes: &'a [u8] },
+    BadChecksum { id: u8 },
 }
 
-fn print_end(rt: &impl Print, bytes: u64) -> bool {
-    println!(rt; "end {bytes}").is_ok()
+// The events of a segment from an offset on, each read from where the one before says that reading goes on.
+#[derive(Drop)]
+struct Events<'a> {
+    segment: &'a [u8],
+    from: usize,
 }
 
-// A packet's body is never empty, and unstuffed it has at most 1,022 bytes.
-fn packet_line(rt: &impl Print, id: u8, found: &[u8]) -> bool {
-    let mut body = [0u8; packet_front::MAX_BODY];
-    let Answer::Count(n) = packet::unstuff(found, &mut body) else {
-        return false;
-    };
-    if n == 0 {
-        return false;
-    }
-    print_packet(rt, id, body[0], (n - 1) as u64)
-}
+impl<'a> Iterator for Events<'a> {
+    type Item = Event<'a>;
 
-// A line for each event, from where the one before says that reading goes on.
-fn print_segment(rt: &impl Print, segment: &[u8]) -> bool {
-    let mut from = 0;
-    loop {
-        match reader_plain::next_event(segment, from) {
-            Next::Packet {
+    ghost remaining = { λ events. at_most (length events.segment.now - events.from) };
+
+    fn next(&mut self) -> Option<Event<'a>> {
+        match next_event(self.segment, self.from)? {
+            Found::Packet {
                 offset,
-                count: _,
                 next,
                 id,
+                ..
             } => {
-                if !packet_line(rt, id, &segment[offset..next]) {
-                    return false;
-                }
-                from = next;
+                let bytes = &self.segment[offset..next];
+                self.from = next;
+                Some(Event::Packet { id, bytes })
             }
-            Next::BadChecksum {
-                offset: _,
-                next,
-                id,
-            } => {
-                if !print_bad_checksum(rt, id) {
-                    return false;
-                }
-                from = next;
+            Found::BadChecksum { next, id, .. } => {
+                self.from = next;
+                Some(Event::BadChecksum { id })
             }
-            Next::Nothing => return print_end(rt, segment.len() as u64),
         }
     }
 }
 
-fn main(rt: HostRuntime) {
+// A packet's body is never empty, and unstuffed it has at most 1,022 bytes.
+fn print_packet(rt: &impl Print, id: u8, bytes: &[u8]) -> io::Result<()> {
+    let mut body = [0u8; MAX_BODY];
+    match packet::unstuff(bytes, &mut body) {
+        Ok(n) if n > 0 => println!(rt; "packet {id} {} {}", body[0], n - 1),
+        _ => Err(io::Error::other("a packet has no body")),
+    }
+}
+
+// A line for each event, and the last.
+fn print_segment(rt: &impl Print, segment: &[u8]) -> io::Result<()> {
+    for event in (Events { segment, from: 0 }) {
+        match event {
+            Event::Packet { id, bytes } => print_packet(rt, id, bytes)?,
+            Event::BadChecksum { id } => println!(rt; "crc {id}")?,
+        }
+    }
+    println!(rt; "end {}", segment.len())
+}
+
+fn run(rt: &HostRuntime) -> anyhow::Result<()> {
     let mut buffer = [0u8; 65536];
-    let got = input::read(&mut rt.stdin(), &mut buffer);
-    let n = got.count;
-    if got.failed {
-        let _ = eprintln!(rt; "line: standard input cannot be read");
-    } else if !print_segment(&rt, &buffer[..n]) {
-        let _ = eprintln!(rt; "line: standard output cannot be written");
+    let n = input::read(&mut rt.stdin(), &mut buffer)?;
+    print_segment(rt, &buffer[..n]).context("standard output cannot be written")
+}
+
+fn main(rt: HostRuntime) {
+    if let Err(error) = run(&rt) {
+        let _ = eprintln!(rt; "line: {error}");
     }
 }

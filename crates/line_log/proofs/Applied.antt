@@ -1,6 +1,6 @@
+use Rattle.std.specs.Prelude.{None, Option, Some}
 use mathlib.Core.Path.{◌≡◌, refl}
 use mathlib.Core.Bool.{true}
-use mathlib.Core.Option.{Option, none, some}
 use Prim.Native.Nat.{ℕ, zero, suc}
 use native.Mathlib.Omega.{arith}
 use Rattle.lists.specs.Numbers.{number_at, bytes_of}
@@ -22,18 +22,18 @@ use Rattle.log_layout.proofs.Samples.{two_sound}
 use Rattle.line_log.specs.Soundness.{same_numbers, check_refusal}
 use Rattle.line_log.specs.Applied.{SoundExactlyApplied, damaged, LogPromisesApplied}
 
-not_both : (o : Option Refusal) (refusal : Refusal) → o ≡ some refusal → ¬ (o ≡ none)
+not_both : (o : Option Refusal) (refusal : Refusal) → o ≡ Some refusal → ¬ (o ≡ None)
 not_both o refusal e f = let z : ◌≡◌ {A = ℕ} 0 1 = cc in absurd (omega arith)
 
 is_bytes : all_bytes file ≡ true
 unfolding laid bytes_of
 is_bytes = refl
 
-test_wrong : check_refusal (numbered 1 1 2) ≡ some WrongIndex
+test_wrong : check_refusal (numbered 1 1 2) ≡ Some WrongIndex
 unfolding number_at bytes_of reduce_if shift shifts crc_byte crc_from well_after read_fuel read_from reading length_of front_agrees length_agrees body_of checksum_right shapeVerdict last_packet last_from index_from laid numbers entries chained none_above header_right laid_out same_numbers check_refusal
 test_wrong = refl
 
-test_file : check_refusal file ≡ none
+test_file : check_refusal file ≡ None
 unfolding number_at bytes_of reduce_if shift shifts crc_byte crc_from well_after read_fuel read_from reading length_of front_agrees length_agrees body_of checksum_right shapeVerdict last_packet last_from index_from laid numbers entries chained none_above header_right laid_out same_numbers check_refusal
 test_file = refl
 

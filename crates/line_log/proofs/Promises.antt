@@ -1,8 +1,8 @@
 -- The test accepts the sound logs and no others; the question, on a sound log and on two that agree where it looks.
+use Rattle.std.specs.Prelude.{Err, None, Option, Some}
 use mathlib.Core.Path.{◌≡◌, refl, sym, ap, ap₂, subst, ◌∙◌}
 use mathlib.Core.Bool.{true, false}
 use mathlib.Core.List.{List, [], ◌∷◌}
-use mathlib.Core.Option.{Option, none, some}
 use Prim.Native.Nat.{ℕ, zero, suc, ◌+◌, ◌*◌, ◌-◌, ◌≤◌, ◌<◌}
 use native.Mathlib.Omega.{arith}
 use lib.ListN.{length, take, drop, get_or}
@@ -19,27 +19,26 @@ use Rattle.log_layout.proofs.Sound.{is_laid_out, laid_out_log, index_log, segmen
 use Rattle.log_index.proofs.Marks.{position_within, at_position, index_is}
 use Rattle.line_log.specs.Soundness.{same_numbers, check_refusal, SoundExactly}
 use Rattle.line_log.specs.Question.{named, last_answer, last_refusal, found, found_unless, question, index_number_of, LogPromises}
-use Rattle.line_log.specs.declared.Found.TheVariants.{Refused}
 use Rattle.line_log.proofs.Rounds.{numbers_at, numbers_length, segments_at, none_above_lem, same_are, same_self}
 
 -- ---- the test
 
 module _ (ss : List (List ℕ)) (fits : length (log_of ss) ≤ 4294967295) where
-  accepted : check_refusal (log_of ss) ≡ none
+  accepted : check_refusal (log_of ss) ≡ None
   unfolding check_refusal
   accepted = rw (laid_out_log ss fits, index_log ss fits, segments_log ss fits, same_self (index ss))
 
 module _ (file : List ℕ) where
-  pub wrong_layout : laid_out file ≡ false → check_refusal file ≡ some BadLog
+  pub wrong_layout : laid_out file ≡ false → check_refusal file ≡ Some BadLog
   unfolding check_refusal
   wrong_layout h = rw h
 
   module _ (l : laid_out file ≡ true) where
-    pub wrong_index : same_numbers (index_in file) (index (segments_in file)) ≡ false → check_refusal file ≡ some WrongIndex
+    pub wrong_index : same_numbers (index_in file) (index (segments_in file)) ≡ false → check_refusal file ≡ Some WrongIndex
     unfolding check_refusal
     wrong_index h = rw (l, h)
 
-    pub right_index : same_numbers (index_in file) (index (segments_in file)) ≡ true → check_refusal file ≡ none
+    pub right_index : same_numbers (index_in file) (index (segments_in file)) ≡ true → check_refusal file ≡ None
     unfolding check_refusal
     right_index h = rw (l, h)
 
@@ -47,11 +46,11 @@ pub sound_exactly : SoundExactly
 unfolding check_refusal
 sound_exactly =
     record {
-      accepts = λ file s. subst (λ (f : List ℕ). check_refusal f ≡ none) (sym s.are) (accepted s.segments (rw s.are at s.fits));
+      accepts = λ file s. subst (λ (f : List ℕ). check_refusal f ≡ None) (sym s.are) (accepted s.segments (rw s.are at s.fits));
       only =
           λ file b e.
           let t = passed (laid_out file) BadLog _ e in
-          let i = passed (same_numbers (index_in file) (index (segments_in file))) WrongIndex none t.1 in
+          let i = passed (same_numbers (index_in file) (index (segments_in file))) WrongIndex None t.1 in
           let h = is_laid_out file t.0 in
           record { fits = h.fits; segments = segments_in file; are = log_back file b h (same_are _ _ i.0) };
     }
@@ -59,7 +58,7 @@ sound_exactly =
 -- ---- the question, test by test
 
 module _ (file : List ℕ) (id : ℕ) where
-  pub bad_layout : laid_out file ≡ false → question file id ≡ Refused BadLog
+  pub bad_layout : laid_out file ≡ false → question file id ≡ Err BadLog
   unfolding last_refusal
   bad_layout h = rw h
 
@@ -67,7 +66,7 @@ module _ (file : List ℕ) (id : ℕ) where
   number_is = numbers_at file (index_offset (count_in file)) index_size (mark_of id) (position_within id)
 
   module _ (l : laid_out file ≡ true) where
-    pub bad_id : good_id id ≡ false → question file id ≡ Refused BadLogId
+    pub bad_id : good_id id ≡ false → question file id ≡ Err BadLogId
     unfolding last_refusal
     bad_id h = rw (l, h)
 
@@ -95,7 +94,7 @@ module _ (file : List ℕ) (id : ℕ) where
 
 -- the last packet in segments that are numbered from k on stands where it is said to stand
 abbrev There : ℕ → ℕ → List (List ℕ) → Last → Type 0
-There id k ss (at j p) = (k ≤ j) × (last_in id (get_or ss (j - k) []) ≡ some p)
+There id k ss (at j p) = (k ≤ j) × (last_in id (get_or ss (j - k) []) ≡ Some p)
 There id k ss nowhere = Unit {0}
 
 there : (id k : ℕ) (ss : List (List ℕ)) → There id k ss (last_from id k ss)
@@ -106,8 +105,8 @@ there id k (s ∷ ss) = by_case (last_from id (suc k) ss) (there id (suc k) ss) 
     by_case : (l : Last) → There id (suc k) ss l → (o : Option ℕ) → last_in id s ≡ o → There id k (s ∷ ss) (or_in l k o)
     by_case (at j p) t o e =
         let z : j - k ≡ suc (j - suc k) = omega (arith, t.0) in (omega (arith, t.0), rw z t.1)
-    by_case nowhere t (some p) e = let z : k - k ≡ 0 = omega arith in (omega arith, rw z e)
-    by_case nowhere t none e = tt
+    by_case nowhere t (Some p) e = let z : k - k ≡ 0 = omega arith in (omega arith, rw z e)
+    by_case nowhere t None e = tt
 
 -- so the segment that the index names has it
 pub named_last : (id : ℕ) (ss : List (List ℕ)) → named (index_number (last_of id ss)) id ss ≡ last_of id ss

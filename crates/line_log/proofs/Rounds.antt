@@ -1,28 +1,24 @@
 -- One round of the loops over a directory and an index, and what stands at an offset of them.
-use mathlib.Core.Path.{◌≡◌, refl, ap, ap₂, ◌∙◌}
-use mathlib.Core.Bool.{true, false, ◌&&◌}
+use mathlib.Core.Path.{◌≡◌, refl, sym, ap, ap₂}
+use mathlib.Core.Bool.{true}
 use mathlib.Core.List.{List, [], ◌∷◌}
-use mathlib.Core.Option.{Option, none, some}
 use Prim.Native.Nat.{ℕ, zero, suc, ◌+◌, ◌*◌, ◌≤◌, ◌<◌}
 use native.Mathlib.Numerals.{add-one}
 use native.Mathlib.Omega.{arith}
 use lib.Dec.{eqb, leb}
-use lib.ListN.{length, drop, get_or, drop_of_length-le}
-use lib.Seq.{drop-cons}
-use borrow.Author.Tests.{eq-eqb, ne_eqb, eqb-true, leb-true}
+use lib.ListN.{length, drop, get_or}
+use lib.Seq.{drop-drop}
+use Rattle.std.specs.List.{list_all, enumerate_from}
+use borrow.Author.Tests.{eq-eqb, eqb-true, leb-true}
 use Rattle.lists.proofs.Bools.{and_left, and_right}
 use Rattle.reading.specs.Reading.{reading}
 use Rattle.packet.specs.Verdict.{protocol2}
-use Rattle.log_layout.specs.Layout.{u32_at, numbers, entries, segment_by, segments_by, none_above}
-use Rattle.log_layout.proofs.Rounds.{numbers_turn, entries_turn}
+use Rattle.log_layout.specs.Layout.{u32_at, numbers, entries, count_in, entry_of, index_in, segment_by, segments_by, none_above}
+use Rattle.log_layout.specs.Log.{index_offset}
+use Rattle.log_layout.proofs.Rounds.{u32_here, numbers_turn, entries_turn, entries_left, left_turn, left_end}
+use Rattle.log_index.specs.Last.{index_size}
 use Rattle.log_index.specs.Marks.{marked}
 use Rattle.log_index.proofs.Marks.{marked_all}
-use Rattle.log_index.specs.declared.Offset.{Offset}
-use Rattle.log_index.specs.declared.Offset.TheVariants.{At, Nothing}
-use Rattle.log_index.specs.Marks.{offset_of}
-use Rattle.log_index.specs.Last.{at, nowhere, or_in}
-use Rattle.line_log.specs.Question.{found}
-use Rattle.line_log.specs.declared.Found.{Found}
 use Rattle.line_log.specs.Soundness.{same_numbers}
 
 -- ---- what stands at an offset
@@ -53,35 +49,29 @@ none_above_lem n (x ∷ xs) (suc i) e h = none_above_lem n xs i (and_right (leb 
 
 -- ---- the index made from a directory
 
-pub marked_turn : (file xs : List ℕ) (p i k j : ℕ) → k ≡ suc j
-    → marked_all i xs (segments_by file (entries k (drop p file)))
-    ≡ marked_all (i + 1) (marked (i + 1) xs (reading protocol2 (segment_by file (u32_at file p, u32_at file (p + 4)))))
-    (segments_by file (entries j (drop (p + 8) file)))
+pub marked_turn : (file xs : List ℕ) (n i : ℕ) → i < n
+    → marked_all i xs (segments_by file (entries_left file n i))
+    ≡ marked_all (i + 1) (marked (i + 1) xs (reading protocol2 (segment_by file (entry_of file i)))) (segments_by file (entries_left file n (i + 1)))
 unfolding marked_all
-marked_turn file xs p i k j e = rw (e, entries_turn file p j, add-one)
+marked_turn file xs n i h = rw (left_turn file n i h, add-one)
 
-pub marked_end : (file xs s : List ℕ) (i k : ℕ) → k ≡ 0 → marked_all i xs (segments_by file (entries k s)) ≡ xs
-unfolding marked_all entries
-marked_end file xs s i k e = rw e
+pub marked_end : (file xs : List ℕ) (n i : ℕ) → n ≤ i → marked_all i xs (segments_by file (entries_left file n i)) ≡ xs
+unfolding marked_all
+marked_end file xs n i h = rw (left_end file n i h)
 
--- ---- the index compared
+-- ---- the index compared, number by number
 
-module _ (s xs : List ℕ) (p i k j : ℕ) (e : k ≡ suc j) (h : i < length xs) where
-  turn : same_numbers (numbers k (drop p s)) (drop i xs)
-      ≡ (eqb (u32_at s p) (get_or xs i 0) && same_numbers (numbers j (drop (p + 4) s)) (drop (i + 1) xs))
-  unfolding same_numbers
-  turn = rw (e, numbers_turn s p j, drop-cons xs i 0 h, add-one)
-
-  pub same_apart : (u32_at s p ≡ get_or xs i 0 → ⊥) → same_numbers (numbers k (drop p s)) (drop i xs) ≡ false
-  same_apart n = turn ∙ rw (ne_eqb (u32_at s p) (get_or xs i 0) n)
-
-  pub same_next : u32_at s p ≡ get_or xs i 0
-      → same_numbers (numbers k (drop p s)) (drop i xs) ≡ same_numbers (numbers j (drop (p + 4) s)) (drop (i + 1) xs)
-  same_next n = turn ∙ rw (eq-eqb (u32_at s p) (get_or xs i 0) n)
-
-pub same_end : (s xs : List ℕ) (i k : ℕ) → k ≡ 0 → length xs ≤ i → same_numbers (numbers k s) (drop i xs) ≡ true
+all_same : (file : List ℕ) (p : ℕ) (xs : List ℕ) (k a q : ℕ) → k ≡ length xs → q ≡ p + 4 * a
+    → list_all (λ (e : ℕ × ℕ). eqb (u32_at file (p + 4 * e.0)) e.1) (enumerate_from a xs) ≡ same_numbers (numbers k (drop q file)) xs
 unfolding same_numbers numbers
-same_end s xs i k e h = rw (e, drop_of_length-le xs h)
+all_same file p [] k a q l e = rw l
+all_same file p (x ∷ xs) zero a q l e = absurd (omega arith)
+all_same file p (x ∷ xs) (suc k) a q l e =
+    rw (u32_here file q, drop-drop 4 q file, all_same file p xs k (a + 1) (q + 4) (omega arith) (omega arith), e)
+
+pub index_same : (file xs : List ℕ) → length xs ≡ index_size
+    → list_all (λ (e : ℕ × ℕ). eqb (u32_at file (index_offset (count_in file) + 4 * e.0)) e.1) (enumerate_from 0 xs) ≡ same_numbers (index_in file) xs
+index_same file xs l = let p = index_offset (count_in file) in all_same file p xs index_size 0 p (sym l) (omega arith)
 
 pub same_are : (xs ys : List ℕ) → same_numbers xs ys ≡ true → xs ≡ ys
 unfolding same_numbers
@@ -96,13 +86,3 @@ pub same_self : (xs : List ℕ) → same_numbers xs xs ≡ true
 unfolding same_numbers
 same_self [] = refl
 same_self (x ∷ xs) = rw (eq-eqb x x refl) (same_self xs)
-
--- ---- one segment's answer
-
-abbrev pub found_in : ℕ → Offset → Found
-found_in k (At p) = found (at k p)
-found_in k Nothing = found nowhere
-
-pub found_in_lem : (k : ℕ) (o : Option ℕ) → found_in k (offset_of o) ≡ found (or_in nowhere k o)
-found_in_lem k none = refl
-found_in_lem k (some p) = refl

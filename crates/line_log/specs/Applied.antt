@@ -1,6 +1,6 @@
 -- What is promised of the test and of the question, applied to a log of two Pings and to one with a damaged segment.
+use Rattle.std.specs.Prelude.{None}
 use Rattle.std.specs.Prelude.{◌≡◌, true, List, ◌⊎◌, ℕ, suc, ◌+◌, ◌≤◌, ◌<◌, replicate, set}
-use Rattle.std.proofs.Math.Option.{none}
 use Rattle.lists.specs.Write.{placed}
 use Rattle.log_index.specs.Last.{at, nowhere}
 use Rattle.log_layout.specs.Log.{segments_offset, log_of, Sound}
@@ -12,7 +12,7 @@ use Rattle.line_log.specs.Question.{found, question, index_number_of, LogPromise
 abbrev pub SoundExactlyApplied : Type 0
 SoundExactlyApplied =
     SoundExactly
-    → (check_refusal (log_of two_pings) ≡ none) × ((segments : List (List ℕ)) × (file ≡ log_of segments))
+    → (check_refusal (log_of two_pings) ≡ None) × ((segments : List (List ℕ)) × (file ≡ log_of segments))
     -- the index number of 0 is wrong
     × (¬ Sound (numbered 1 1 2))
 

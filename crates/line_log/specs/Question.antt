@@ -1,6 +1,6 @@
 -- The question for the last packet of an ID: answered from header, directory, one index number and one segment.
+use Rattle.std.specs.Prelude.{Err, None, Ok, Option, Result, Some}
 use Rattle.std.specs.Prelude.{◌≡◌, true, List, [], ◌∷◌, ℕ, zero, suc, ◌+◌, ◌*◌, get_or, take}
-use Rattle.std.proofs.Math.Option.{Option, none, some}
 use Rattle.answers.specs.Refusals.{first_failing}
 use Rattle.answers.specs.declared.Refusal.{Refusal}
 use Rattle.answers.specs.declared.Refusal.TheVariants.{BadLog, BadLogId}
@@ -8,8 +8,7 @@ use Rattle.packet_front.specs.Front.{good_id}
 use Rattle.log_index.specs.Last.{Last, at, nowhere, or_in, last_in, last_of, mark_of}
 use Rattle.log_layout.specs.Log.{index_offset, Sound}
 use Rattle.log_layout.specs.Layout.{u32_at, count_in, entry_of, index_in, segment_by, segments_in, laid_out}
-use Rattle.line_log.specs.declared.Found.{Found}
-use Rattle.line_log.specs.declared.Found.TheVariants.{At, Nowhere, Refused}
+use Rattle.line_log.specs.declared.Place.{Place}
 
 -- by an index number: in the segment that it names, and in no other [I19]
 abbrev pub named : ℕ → ℕ → List (List ℕ) → Last
@@ -25,16 +24,16 @@ unfoldable pub last_refusal : List ℕ → ℕ → Option Refusal
 last_refusal file id = first_failing ((laid_out file, BadLog) ∷ (good_id id, BadLogId) ∷ [])
 
 -- where the last packet stands, as the code says it [I18]
-abbrev pub found : Last → Found
-found (at k p) = At k p
-found nowhere = Nowhere
+abbrev pub found : Last → Result (Option Place) Refusal
+found (at k p) = Ok (Some (record { segment = k; offset = p }))
+found nowhere = Ok None
 
-abbrev pub found_unless : Option Refusal → Last → Found
-found_unless none l = found l
-found_unless (some refusal) l = Refused refusal
+abbrev pub found_unless : Option Refusal → Last → Result (Option Place) Refusal
+found_unless None l = found l
+found_unless (Some refusal) l = Err refusal
 
 -- [I18]
-abbrev pub question : List ℕ → ℕ → Found
+abbrev pub question : List ℕ → ℕ → Result (Option Place) Refusal
 question file id = found_unless (last_refusal file id) (last_answer file id)
 
 -- the index number of an ID, by its offset in the file [I5]

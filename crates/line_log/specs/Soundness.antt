@@ -1,6 +1,6 @@
 -- The test of soundness: it accepts the sound logs and no others.
+use Rattle.std.specs.Prelude.{None, Option}
 use Rattle.std.specs.Prelude.{◌≡◌, Bool, true, false, ◌&&◌, List, [], ◌∷◌, ℕ, eqb}
-use Rattle.std.proofs.Math.Option.{Option, none}
 use Rattle.answers.specs.Refusals.{first_failing}
 use Rattle.answers.specs.declared.Refusal.{Refusal}
 use Rattle.answers.specs.declared.Refusal.TheVariants.{BadLog, WrongIndex}
@@ -21,5 +21,5 @@ check_refusal file = first_failing ((laid_out file, BadLog) ∷ (same_numbers (i
 
 -- "A sound log is exactly this": of bytes, as every slice is, these are not refused, and no others [I17]
 pub record SoundExactly : Type 0 where
-  pub accepts : (file : List ℕ) → Sound file → check_refusal file ≡ none
-  pub only : (file : List ℕ) → Bytes file → check_refusal file ≡ none → Sound file
+  pub accepts : (file : List ℕ) → Sound file → check_refusal file ≡ None
+  pub only : (file : List ℕ) → Bytes file → check_refusal file ≡ None → Sound file

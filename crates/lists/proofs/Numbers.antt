@@ -5,6 +5,7 @@ use Prim.Native.Nat.{ℕ, zero, suc, ◌+◌, ◌*◌, ◌/◌, ◌%◌, ◌<◌
 use native.Mathlib.Omega.{arith}
 use lib.ListN.{length, take, drop, get_or}
 use lib.Seq.{get_or-take, get_or-drop, drop-cons}
+use Rattle.std.specs.Int.{w32, w64, from_le_bytes, to_le_bytes}
 use Rattle.lists.specs.Numbers.{Bytes, number_at, bytes_of}
 
 pub bytes_length : (n u : ℕ) → length (bytes_of n u) ≡ n
@@ -49,10 +50,21 @@ bytes_number (suc n) s a b h =
     let f : (x + 256 * m) / 256 ≡ m = omega arith in
     rw (drop-cons s a 0 (omega arith), e, f) (ap (λ (l : List ℕ). x ∷ l) (bytes_number n s (suc a) b (omega arith)))
 
--- the number of four bytes, as the code adds it up
-pub sum_is : (a b c d : ℕ) → a + b * 256 + c * 65536 + d * 16777216 ≡ number_at (a ∷ b ∷ c ∷ d ∷ []) 0 4
+-- std reads four bytes as this number
+pub read_is : (a b c d : ℕ) → from_le_bytes w32 (a ∷ b ∷ c ∷ d ∷ []) ≡ number_at (a ∷ b ∷ c ∷ d ∷ []) 0 4
 unfolding number_at
-sum_is a b c d = omega arith
+read_is a b c d = omega arith
+
+-- std writes a number of 32 bits as these four bytes, and a longer one with these four first
+pub written_is : (u : ℕ) → to_le_bytes w32 u ≡ bytes_of 4 u
+unfolding bytes_of
+written_is u =
+    let third : u / 65536 % 256 ≡ u / 256 / 256 % 256 = omega arith in
+    let fourth : u / 16777216 % 256 ≡ u / 256 / 256 / 256 % 256 = omega arith in
+    rw (third, fourth)
+
+pub written_first : (u : ℕ) → take 4 (to_le_bytes w64 u) ≡ bytes_of 4 u
+written_first u = written_is u
 
 -- four bytes of a list by themselves
 pub four_bytes : (table : List ℕ) (a : ℕ)

@@ -1,8 +1,8 @@
 -- The index that one pass over the segments makes is the index of the log.
+use Rattle.std.specs.Prelude.{None, Option, Some}
 use mathlib.Core.Path.{◌≡◌, refl, sym, ap, ◌∙◌}
 use mathlib.Core.Bool.{Bool, true, false, cond}
 use mathlib.Core.List.{List, [], ◌∷◌}
-use mathlib.Core.Option.{Option, none, some}
 use Prim.Native.Nat.{ℕ, zero, suc, ◌+◌, ◌<◌}
 use native.Mathlib.Omega.{arith}
 use lib.Dec.{ltb, leb, eqb}
@@ -51,8 +51,8 @@ position_within id = by_test (ltb id 253) refl
 
 -- a number where something was found, and else another
 abbrev pick : Option ℕ → ℕ → ℕ → ℕ
-pick none a b = b
-pick (some p) a b = a
+pick None a b = b
+pick (Some p) a b = a
 
 pub marked_length : (number : ℕ) (xs : List ℕ) (fs : List EventAt) → length (marked number xs fs) ≡ length xs
 unfolding marked
@@ -64,10 +64,10 @@ marked_length number xs ((p, bad_checksum id) ∷ fs) = marked_length number xs 
 module _ (number i : ℕ) (h : i < index_size) where
   -- a store for the ID of a packet, as the position i sees it
   stored : (xs : List ℕ) (p id : ℕ) → length xs ≡ index_size → good_id id ≡ true
-      → get_or (set xs (mark_of id) number) i 0 ≡ pick (cond (eqb id (id_at i)) (some p) none) number (get_or xs i 0)
+      → get_or (set xs (mark_of id) number) i 0 ≡ pick (cond (eqb id (id_at i)) (Some p) None) number (get_or xs i 0)
   stored xs p id l g = by_test (eqb id (id_at i)) refl
     where
-      by_test : (t : Bool) → eqb id (id_at i) ≡ t → get_or (set xs (mark_of id) number) i 0 ≡ pick (cond t (some p) none) number (get_or xs i 0)
+      by_test : (t : Bool) → eqb id (id_at i) ≡ t → get_or (set xs (mark_of id) number) i 0 ≡ pick (cond t (Some p) None) number (get_or xs i 0)
       by_test true e =
           let k : mark_of id ≡ i = ap mark_of (eqb-true id (id_at i) e) ∙ position_at i h in
           rw k (get_or-set_same xs i number 0 (omega arith))
@@ -76,9 +76,9 @@ module _ (number i : ℕ) (h : i < index_size) where
           (λ k. eqb-false id (id_at i) e (sym (at_position id g) ∙ ap id_at (sym k)))
 
   later_pick : (l f : Option ℕ) (a b : ℕ) → pick (later l f) a b ≡ pick l a (pick f a b)
-  later_pick none f a b = refl
-  later_pick (some p) none a b = refl
-  later_pick (some p) (some q) a b = refl
+  later_pick None f a b = refl
+  later_pick (Some p) None a b = refl
+  later_pick (Some p) (Some q) a b = refl
 
   marked_at : (xs : List ℕ) (fs : List EventAt) → length xs ≡ index_size → GoodIds fs
       → get_or (marked number xs fs) i 0 ≡ pick (last_packet (id_at i) fs) number (get_or xs i 0)
@@ -88,7 +88,7 @@ module _ (number i : ℕ) (h : i < index_size) where
       let id = id_of w in
       marked_at (set xs (mark_of id) number) fs (length-set xs (mark_of id) number ∙ l) g.1
       ∙ ap (pick (last_packet (id_at i) fs) number) (stored xs p id l g.0)
-      ∙ sym (later_pick (last_packet (id_at i) fs) (cond (eqb id (id_at i)) (some p) none) number (get_or xs i 0))
+      ∙ sym (later_pick (last_packet (id_at i) fs) (cond (eqb id (id_at i)) (Some p) None) number (get_or xs i 0))
   marked_at xs ((p, bad_checksum id) ∷ fs) l g = marked_at xs fs l g
 
 -- ---- all segments
@@ -109,10 +109,10 @@ all_length k xs (s ∷ ss) =
     all_length (suc k) (marked (suc k) xs (reading protocol2 s)) ss ∙ marked_length (suc k) xs (reading protocol2 s)
 
 or_pick : (l : Last) (k : ℕ) (f : Option ℕ) (d : ℕ) → number_or (or_in l k f) d ≡ number_or l (pick f (suc k) d)
-or_pick (at j p) k (some q) d = refl
-or_pick (at j p) k none d = refl
-or_pick nowhere k (some p) d = omega arith
-or_pick nowhere k none d = refl
+or_pick (at j p) k (Some q) d = refl
+or_pick (at j p) k None d = refl
+or_pick nowhere k (Some p) d = omega arith
+or_pick nowhere k None d = refl
 
 all_at : (i k : ℕ) (xs : List ℕ) (ss : List (List ℕ)) → i < index_size → length xs ≡ index_size
     → get_or (marked_all k xs ss) i 0 ≡ number_or (last_from (id_at i) k ss) (get_or xs i 0)

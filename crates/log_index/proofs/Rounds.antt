@@ -1,94 +1,87 @@
--- One round of the loops over the events of a segment, by the plain reader's answer.
+-- One event after the other: what a loop over the events of a segment has before it and behind it.
+use Rattle.std.specs.Prelude.{None, Option, Some, map}
 use mathlib.Core.Path.{◌≡◌, refl, sym, ap, subst, ◌∙◌}
-use mathlib.Core.Bool.{cond}
-use mathlib.Core.List.{List}
-use mathlib.Core.Option.{Option, none, some}
-use Prim.Native.Nat.{ℕ, ◌-◌, ◌<◌}
-use native.Mathlib.Omega.{arith}
+use mathlib.Core.Bool.{Bool, true, false, cond}
+use mathlib.Core.List.{List, [], ◌∷◌}
+use Prim.Native.Nat.{ℕ}
 use lib.Dec.{eqb}
-use lib.ListN.{length, set}
-use borrow.Author.Tests.{eq-eqb, ne_eqb}
-use Rattle.reading.specs.Reading.{EventAt, reading}
+use lib.ListN.{set}
+use Rattle.reading.specs.Reading.{EventAt, packet, bad_checksum, reading}
 use Rattle.packet_front.specs.Front.{id_of}
 use Rattle.packet.specs.Verdict.{protocol2}
-use Rattle.reader_plain.specs.declared.Next.TheVariants.{Packet, BadChecksum, Nothing}
-use Rattle.reader_plain.specs.Next.{next_event}
-use Rattle.reader_plain.specs.Plain.{Within}
-use Rattle.reader_plain.proofs.Plain.{within}
+use Rattle.reader_plain.specs.declared.Event.{Event}
+use Rattle.reader_plain.specs.declared.Event.TheVariants.{Packet, BadChecksum}
+use Rattle.reader_plain.specs.Next.{next_of, first_of, next_event}
 use Rattle.reader_plain.proofs.Left.{left, Left, left_is}
-use Rattle.log_index.specs.Last.{later, last_packet, mark_of}
-use Rattle.log_index.specs.declared.Offset.{Offset}
-use Rattle.log_index.specs.declared.Offset.TheVariants.{At, Nothing as Offset-as-Nothing}
-use Rattle.log_index.specs.Marks.{marked, offset_of}
+use Rattle.log_index.specs.Events.{events_left}
+use Rattle.log_index.specs.Last.{later, last_packet, last_in, mark_of}
+use Rattle.log_index.specs.Marks.{marked}
 
-pub all_left : (s : List ℕ) → reading protocol2 s ≡ left s 0
+-- ---- the events that are left, by the next one
+
+abbrev pub next_at : Event → ℕ
+next_at (Packet p n q id) = q
+next_at (BadChecksum p q id) = q
+
+first_is : (s : List ℕ) (from : ℕ) → next_event s from ≡ first_of (left s from)
+unfolding next_event
+first_is s from = refl
+
+pub none_left : (s : List ℕ) (from : ℕ) → next_event s from ≡ None → events_left s from ≡ []
+none_left s from e = ap (map next_of) (subst (Left s from) e (left_is s from))
+
+pub one_left : (s : List ℕ) (from : ℕ) (event : Event) → next_event s from ≡ Some event → events_left s from ≡ event ∷ events_left s (next_at event)
+one_left s from (Packet p n q id) e =
+    let l = subst (Left s from) e (left_is s from) in
+    let f : Some (next_of (p, packet l.0)) ≡ Some (Packet p n q id) = sym (first_is s from ∙ ap first_of l.2) ∙ e in
+    let k : next_of (p, packet l.0) ≡ Packet p n q id = cc in
+    ap (map next_of) l.2 ∙ ap (λ (x : Event). x ∷ events_left s q) k
+one_left s from (BadChecksum p q id) e =
+    let l = subst (Left s from) e (left_is s from) in
+    let f : Some (next_of (p, bad_checksum id)) ≡ Some (BadChecksum p q id) = sym (first_is s from ∙ ap first_of l) ∙ e in
+    let k : next_of (p, bad_checksum id) ≡ BadChecksum p q id = cc in
+    ap (map next_of) l ∙ ap (λ (x : Event). x ∷ events_left s q) k
+
+-- ---- marks and the last packet by such events
+
+abbrev pub marked_by : ℕ → List ℕ → List Event → List ℕ
+marked_by number index [] = index
+marked_by number index (Packet p n q id ∷ es) = marked_by number (set index (mark_of id) number) es
+marked_by number index (BadChecksum p q id ∷ es) = marked_by number index es
+
+by_events : (number : ℕ) (fs : List EventAt) (index : List ℕ) → marked number index fs ≡ marked_by number index (map next_of fs)
+unfolding marked
+by_events number [] index = refl
+by_events number ((p, packet w) ∷ fs) index = by_events number fs (set index (mark_of (id_of w)) number)
+by_events number ((p, bad_checksum id) ∷ fs) index = by_events number fs index
+
+pub marked_start : (number : ℕ) (index s : List ℕ) → marked number index (reading protocol2 s) ≡ marked_by number index (events_left s 0)
 unfolding reading
-all_left s = refl
+marked_start number index s = by_events number (left s 0) index
 
--- the later of what is left and what was found before
-abbrev pub or_else : Option ℕ → Offset → Offset
-or_else none last = last
-or_else (some p) last = At p
+-- the last of these packets, or what was found before
+abbrev pub last_by : ℕ → Option ℕ → List Event → Option ℕ
+last_by wanted last [] = last
+last_by wanted last (Packet p n q id ∷ es) = last_by wanted (cond (eqb id wanted) (Some p) last) es
+last_by wanted last (BadChecksum p q id ∷ es) = last_by wanted last es
 
-or_none : (l : Option ℕ) → or_else l Offset-as-Nothing ≡ offset_of l
-or_none none = refl
-or_none (some p) = refl
+later_last : (l : Option ℕ) (b : Bool) (p : ℕ) (last : Option ℕ) → later (later l (cond b (Some p) None)) last ≡ later l (cond b (Some p) last)
+later_last None true p last = refl
+later_last None false p last = refl
+later_last (Some q) true p last = refl
+later_last (Some q) false p last = refl
 
-or_later : (l f : Option ℕ) (last : Offset) → or_else (later l f) last ≡ or_else l (or_else f last)
-or_later none f last = refl
-or_later (some p) none last = refl
-or_later (some p) (some q) last = refl
+last_events : (wanted : ℕ) (fs : List EventAt) (last : Option ℕ) → later (last_packet wanted fs) last ≡ last_by wanted last (map next_of fs)
+unfolding last_packet
+last_events wanted [] last = refl
+last_events wanted ((p, packet w) ∷ fs) last =
+    let b = eqb (id_of w) wanted in later_last (last_packet wanted fs) b p last ∙ last_events wanted fs (cond b (Some p) last)
+last_events wanted ((p, bad_checksum id) ∷ fs) last = last_events wanted fs last
 
-pub last_start : (id : ℕ) (s : List ℕ) → offset_of (last_packet id (reading protocol2 s)) ≡ or_else (last_packet id (left s 0)) Offset-as-Nothing
+or_none : (l : Option ℕ) → later l None ≡ l
+or_none None = refl
+or_none (Some p) = refl
+
+pub last_start : (wanted : ℕ) (s : List ℕ) → last_in wanted s ≡ last_by wanted None (events_left s 0)
 unfolding reading
-last_start id s = sym (or_none (last_packet id (left s 0)))
-
-module _ (s : List ℕ) (from p n q id : ℕ) (e : next_event s from ≡ Packet p n q id) where
-  stated : Left s from (Packet p n q id)
-  stated = subst (Left s from) e (left_is s from)
-
-  pub packet_less : length s - q < length s - from
-  packet_less = let w = subst (Within s from) e (within s from) in omega (arith, w.0, w.1, w.2)
-
-  pub mark_packet : (number : ℕ) (index : List ℕ)
-      → marked number index (left s from) ≡ marked number (set index (mark_of id) number) (left s q)
-  unfolding marked
-  mark_packet number index =
-      ap (marked number index) stated.2 ∙ ap (λ (x : ℕ). marked number (set index (mark_of x) number) (left s q)) stated.1
-
-  at_packet : (wanted : ℕ) (last : Offset) → or_else (last_packet wanted (left s from)) last
-      ≡ or_else (last_packet wanted (left s q)) (or_else (cond (eqb id wanted) (some p) none) last)
-  unfolding last_packet
-  at_packet wanted last =
-      ap (λ (fs : List EventAt). or_else (last_packet wanted fs) last) stated.2
-      ∙ or_later (last_packet wanted (left s q)) (cond (eqb (id_of stated.0) wanted) (some p) none) last
-      ∙ ap (λ (x : ℕ). or_else (last_packet wanted (left s q)) (or_else (cond (eqb x wanted) (some p) none) last)) stated.1
-
-  pub last_here : (wanted : ℕ) (last : Offset) → id ≡ wanted
-      → or_else (last_packet wanted (left s from)) last ≡ or_else (last_packet wanted (left s q)) (At p)
-  last_here wanted last h = at_packet wanted last ∙ rw (eq-eqb id wanted h)
-
-  pub last_other : (wanted : ℕ) (last : Offset) → (id ≡ wanted → ⊥)
-      → or_else (last_packet wanted (left s from)) last ≡ or_else (last_packet wanted (left s q)) last
-  last_other wanted last h = at_packet wanted last ∙ rw (ne_eqb id wanted h)
-
-module _ (s : List ℕ) (from p q id : ℕ) (e : next_event s from ≡ BadChecksum p q id) where
-  pub bad_less : length s - q < length s - from
-  bad_less = let w = subst (Within s from) e (within s from) in omega (arith, w.0, w.1, w.2)
-
-  pub mark_bad : (number : ℕ) (index : List ℕ) → marked number index (left s from) ≡ marked number index (left s q)
-  unfolding marked
-  mark_bad number index = ap (marked number index) (subst (Left s from) e (left_is s from))
-
-  pub last_bad : (wanted : ℕ) (last : Offset) → or_else (last_packet wanted (left s from)) last ≡ or_else (last_packet wanted (left s q)) last
-  unfolding last_packet
-  last_bad wanted last = ap (λ (fs : List EventAt). or_else (last_packet wanted fs) last) (subst (Left s from) e (left_is s from))
-
-module _ (s : List ℕ) (from : ℕ) (e : next_event s from ≡ Nothing) where
-  pub mark_end : (number : ℕ) (index : List ℕ) → marked number index (left s from) ≡ index
-  unfolding marked
-  mark_end number index = ap (marked number index) (subst (Left s from) e (left_is s from))
-
-  pub last_end : (wanted : ℕ) (last : Offset) → or_else (last_packet wanted (left s from)) last ≡ last
-  unfolding last_packet
-  last_end wanted last = ap (λ (fs : List EventAt). or_else (last_packet wanted fs) last) (subst (Left s from) e (left_is s from))
+last_start wanted s = sym (or_none (last_packet wanted (left s 0))) ∙ last_events wanted (left s 0) None

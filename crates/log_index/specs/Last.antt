@@ -1,19 +1,19 @@
 -- The last packet for an ID: in a segment, in a list of segments, and by the index of a log.
+use Rattle.std.specs.Prelude.{None, Option, Some}
 use Rattle.std.specs.Prelude.{cond, List, [], ◌∷◌, ℕ, zero, suc, ◌+◌, ltb, eqb}
-use Rattle.std.proofs.Math.Option.{Option, none, some}
 use Rattle.reading.specs.Reading.{EventAt, packet, bad_checksum, reading}
 use Rattle.packet_front.specs.Front.{id_of}
 use Rattle.packet.specs.Verdict.{protocol2}
 
 -- the later of two offsets, where the first is that of later events
 abbrev pub later : Option ℕ → Option ℕ → Option ℕ
-later none p = p
-later (some q) p = some q
+later None p = p
+later (Some q) p = Some q
 
 -- the offset of the last packet with this ID among the events of a reading; a bad checksum is no packet [I6 I8]
 unfoldable pub last_packet : ℕ → List EventAt → Option ℕ
-last_packet id [] = none
-last_packet id ((p, packet w) ∷ fs) = later (last_packet id fs) (cond (eqb (id_of w) id) (some p) none)
+last_packet id [] = None
+last_packet id ((p, packet w) ∷ fs) = later (last_packet id fs) (cond (eqb (id_of w) id) (Some p) None)
 last_packet id ((p, bad_checksum x) ∷ fs) = last_packet id fs
 
 -- in a segment [I6]
@@ -29,8 +29,8 @@ pub data Last : Type 0 where
 -- in segment k, where none stands in a later one [I7]
 abbrev pub or_in : Last → ℕ → Option ℕ → Last
 or_in (at j p) k found = at j p
-or_in nowhere k (some p) = at k p
-or_in nowhere k none = nowhere
+or_in nowhere k (Some p) = at k p
+or_in nowhere k None = nowhere
 
 -- in segments that are numbered from k on [I7]
 unfoldable pub last_from : ℕ → ℕ → List (List ℕ) → Last

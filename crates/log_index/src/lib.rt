@@ -2,24 +2,19 @@
 #![tactic(auto)]
 
 ghost use Rattle.std.specs.Prelude.{◌≡◌};
+ghost use Rattle.std.specs.Iterator.{YieldsFirst, item_count};
 ghost use Rattle.reading.specs.Reading.{reading};
+ghost use Rattle.log_index.specs.Events.{events_left};
 ghost use Rattle.packet.specs.Verdict.{protocol2};
 ghost use Rattle.reader_plain.specs.Next.{next_event};
 ghost use Rattle.log_index.specs.Last.{mark_of, last_in};
-ghost use Rattle.log_index.specs.Marks.{marked, offset_of};
+ghost use Rattle.log_index.specs.Marks.{marked};
 
 use packet_protocols::Protocol;
-use reader_plain::Next;
+use reader_plain::Event;
 
 // How many numbers the index has: one for each ID that packets may have.
 pub const INDEX_COUNT: usize = 254;
-
-// Where a packet stands in its segment, if there is one.
-#[derive(Clone, Copy)]
-pub enum Offset {
-    At(usize),
-    Nothing,
-}
 
 // The position of an ID in the index. [I5]
 pub fn mark_of(id: u8) -> usize
@@ -28,71 +23,70 @@ pub fn mark_of(id: u8) -> usize
     if id < 253 { id as usize } else { 253 }
 }
 
-// The next event at the offset `from` or behind it: the plain reader's, asked only where a packet may begin, since the search for
-// that passes noise faster.
-fn next_event(segment: &[u8], from: usize) -> Next
+// The next event at the offset `from` or behind it, if there is one: the plain reader's, asked only where a packet may begin, since
+// the search for that passes noise faster.
+fn next_event(segment: &[u8], from: usize) -> Option<Event>
     ensures { result ≡ next_event segment.now from }
 {
-    let start = packet_protocols::next_start(Protocol::Two, segment, from);
+    let start = Protocol::Two.next_start(segment, from);
     reader_plain::next_event(segment, start)
+}
+
+// The events of a segment, from an offset on.
+#[derive(Drop)]
+struct Events<'a> {
+    segment: &'a [u8],
+    from: usize,
+}
+
+impl<'a> Iterator for Events<'a> {
+    type Item = Event;
+
+    ghost next_gives = { YieldsFirst (λ s. events_left s.segment.now s.from) };
+
+    ghost remaining = { item_count (λ s. events_left s.segment.now s.from) };
+
+    fn next(&mut self) -> Option<Event> {
+        let event = next_event(self.segment, self.from)?;
+        self.from = match event {
+            Event::Packet { next, .. } => next,
+            Event::BadChecksum { next, .. } => next,
+        };
+        Some(event)
+    }
+}
+
+impl<'a> Events<'a> {
+    fn of(segment: &'a [u8]) -> Events<'a>
+        ensures segment { result.segment.now ≡ segment.now }
+        ensures start { result.from ≡ 0 }
+    {
+        Events { segment, from: 0 }
+    }
 }
 
 // Writes the number of a segment for each ID that has a packet in it. A bad checksum is no packet. [I5 I8]
 pub fn mark(index: &mut [usize; INDEX_COUNT], segment: &[u8], number: usize)
     ensures { index.new ≡ marked number index.old (reading protocol2 segment.now) }
 {
-    let mut from = 0;
-    loop {
-        match next_event(segment, from) {
-            Next::Packet {
-                offset: _,
-                count: _,
-                next,
-                id,
-            } => {
-                let position = mark_of(id);
-                index[position] = number;
-                from = next;
-            }
-            Next::BadChecksum {
-                offset: _,
-                next,
-                id: _,
-            } => {
-                from = next;
-            }
-            Next::Nothing => return,
+    for event in Events::of(segment) {
+        if let Event::Packet { id, .. } = event {
+            index[mark_of(id)] = number;
         }
     }
 }
 
 // The offset of the last packet with this ID in a segment. [I6]
-pub fn last_in(segment: &[u8], wanted: u8) -> Offset
-    ensures { result ≡ offset_of (last_in wanted segment.now) }
+pub fn last_in(segment: &[u8], wanted: u8) -> Option<usize>
+    ensures { result ≡ last_in wanted segment.now }
 {
-    let mut last = Offset::Nothing;
-    let mut from = 0;
-    loop {
-        match next_event(segment, from) {
-            Next::Packet {
-                offset,
-                count: _,
-                next,
-                id,
-            } => {
-                if id == wanted {
-                    last = Offset::At(offset);
-                }
-                from = next;
-            }
-            Next::BadChecksum {
-                offset: _,
-                next,
-                id: _,
-            } => {
-                from = next;
-            }
-            Next::Nothing => return last,
+    let mut last = None;
+    for event in Events::of(segment) {
+        if let Event::Packet { offset, id, .. } = event
+            && id == wanted
+        {
+            last = Some(offset);
         }
     }
+    last
 }

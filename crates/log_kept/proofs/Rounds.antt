@@ -1,8 +1,8 @@
 -- One round of a loop over the entries of a file, by how the next one is judged.
-use mathlib.Core.Path.{◌≡◌, refl, sym, ap, ap₂, subst, ◌∙◌}
+use Rattle.std.specs.Prelude.{Err, None, Ok, Option, Result, Some}
+use mathlib.Core.Path.{◌≡◌, refl, sym, ap, subst, ◌∙◌}
 use mathlib.Core.Bool.{Bool, true, false}
 use mathlib.Core.List.{List, [], ◌∷◌}
-use mathlib.Core.Option.{Option, none, some}
 use Prim.Native.Nat.{ℕ, suc, ◌+◌, ◌*◌, ◌-◌, ◌/◌, ◌≤◌, ◌<◌}
 use native.Mathlib.Numerals.{add-one}
 use native.Mathlib.Omega.{arith}
@@ -10,102 +10,94 @@ use lib.ListN.{length, drop, set}
 use lib.Dec.{leb}
 use borrow.Author.Tests.{le-leb, lt-leb, leb-true, leb-false}
 use Rattle.answers.specs.Refusals.{first_failing}
-use Rattle.answers.specs.declared.Refusal.TheVariants.{NoRoom as Refusal-as-NoRoom}
+use Rattle.answers.specs.Answers.{answered}
+use Rattle.answers.specs.declared.Refusal.{Refusal}
+use Rattle.answers.proofs.Laws.{counted, passed}
+use Rattle.answers.specs.declared.Refusal.TheVariants.{NoRoom}
 use Rattle.lists.specs.Write.{overwritten}
 use Rattle.lists.proofs.Filling.{Filling, fill_start, fill_next, fill_done}
 use Rattle.log_layout.specs.Log.{LogEntry, numbers_of, segments_offset}
-use Rattle.log_layout.specs.Layout.{entries, entry_of}
-use Rattle.log_layout.proofs.Rounds.{entries_turn}
+use Rattle.log_layout.specs.Layout.{entries, entry_of, extent_of}
+use Rattle.log_layout.specs.declared.Extent.{Extent}
+use Rattle.log_layout.proofs.Rounds.{entries_left, left_turn, left_end}
 use Rattle.log_layout.proofs.Sound.{entries_count}
-use Rattle.log_kept.specs.Kept.{entry_count, fault, kept, Dropped, dropped, kept_of, dropped_of, dropped_in}
-use Rattle.log_kept.specs.Sorting.{judged, counts, sort_refusal, sorted, sort_answer, sort_report}
+use Rattle.log_kept.specs.Kept.{entry_count, fault, reason, kept, Dropped, dropped, kept_of, dropped_of, dropped_in}
+use Rattle.log_kept.specs.Sorting.{judged, counts, sort_refusal, sort_answer, sort_report}
 use Rattle.log_kept.specs.declared.Counts.{Counts}
-use Rattle.log_kept.specs.declared.Sorted.TheVariants.{Listed, NoRoom}
-use Rattle.log_kept.specs.declared.KeptOrDropped.{KeptOrDropped}
-use Rattle.log_kept.specs.declared.KeptOrDropped.TheVariants.{Kept, Dropped as KeptOrDropped-as-Dropped}
+use Rattle.log_kept.specs.declared.Fault.{Fault}
 use Rattle.log_kept.proofs.Kept.{fault_none, kept_here, dropped_not, kept_not, dropped_here, counts_add, bytes_by, bytes_cons, kept_fits}
 
--- the entries of n from number i on
-abbrev left : List ℕ → ℕ → ℕ → List LogEntry
-left file n i = entries (n - i) (drop (16 + 8 * i) file)
-
 abbrev pub kept_left : List ℕ → ℕ → ℕ → ℕ → List LogEntry
-kept_left file n i limit = kept (length file) limit (left file n i)
+kept_left file n i limit = kept (length file) limit (entries_left file n i)
 
 abbrev pub dropped_left : List ℕ → ℕ → ℕ → ℕ → List Dropped
-dropped_left file n i limit = dropped (length file) limit i (left file n i)
+dropped_left file n i limit = dropped (length file) limit i (entries_left file n i)
 
-abbrev pub judged_at : List ℕ → ℕ → ℕ → KeptOrDropped
+abbrev pub judged_at : List ℕ → ℕ → ℕ → Result Extent Fault
 judged_at file i limit = judged (fault (length file) limit (entry_of file i)) (entry_of file i)
 
 -- the entry that was judged
-was_kept : (o : Option ℕ) (e : LogEntry) (s m : ℕ) → judged o e ≡ Kept s m → (o ≡ none) × (e ≡ (s, m))
-was_kept none e s m q = let a : e.0 ≡ s = cc in let b : e.1 ≡ m = cc in (refl, ap₂ {C = LogEntry} (λ (x y : ℕ). (x, y)) a b)
-was_kept (some r) e s m q = let k : ◌≡◌ {A = ℕ} 0 1 = cc in absurd (omega arith)
+was_kept : (o : Option Fault) (e : LogEntry) (x : Extent) → judged o e ≡ Ok x → (o ≡ None) × (e ≡ (x.start, x.count))
+was_kept None e x q = let a : extent_of e ≡ x = cc in (refl, ap {B = LogEntry} (λ (y : Extent). (y.start, y.count)) a)
+was_kept (Some r) e x q = let k : ◌≡◌ {A = ℕ} 0 1 = cc in absurd (omega arith)
 
-was_dropped : (o : Option ℕ) (e : LogEntry) (r : ℕ) → judged o e ≡ KeptOrDropped-as-Dropped r → o ≡ some r
-was_dropped none e r q = let k : ◌≡◌ {A = ℕ} 0 1 = cc in absurd (omega arith)
-was_dropped (some t) e r q = let a : t ≡ r = cc in rw a
+was_dropped : (o : Option Fault) (e : LogEntry) (r : Fault) → judged o e ≡ Err r → o ≡ Some r
+was_dropped None e r q = let k : ◌≡◌ {A = ℕ} 0 1 = cc in absurd (omega arith)
+was_dropped (Some t) e r q = let a : t ≡ r = cc in rw a
 
 module _ (file : List ℕ) (n limit : ℕ) where
-  pub kept_start : kept_of file n ≡ kept (length file) (segments_offset n) (left file n 0)
+  pub kept_start : kept_of file n ≡ kept (length file) (segments_offset n) (entries_left file n 0)
   kept_start = let z : n - 0 ≡ n = omega arith in rw z refl
 
-  pub dropped_start : dropped_of file n ≡ dropped (length file) (segments_offset n) 0 (left file n 0)
+  pub dropped_start : dropped_of file n ≡ dropped (length file) (segments_offset n) 0 (entries_left file n 0)
   dropped_start = let z : n - 0 ≡ n = omega arith in rw z refl
 
   module _ (i : ℕ) (h : n ≤ i) where
     pub kept_end : kept_left file n i limit ≡ []
-    unfolding kept entries
-    kept_end = let z : n - i ≡ 0 = omega arith in rw z
+    unfolding kept
+    kept_end = rw (left_end file n i h)
 
     pub dropped_end : dropped_left file n i limit ≡ []
-    unfolding dropped entries
-    dropped_end = let z : n - i ≡ 0 = omega arith in rw z
+    unfolding dropped
+    dropped_end = rw (left_end file n i h)
 
   module _ (i : ℕ) (h : i < n) where
-    turn : left file n i ≡ entry_of file i ∷ left file n (i + 1)
-    turn =
-        let z : n - i ≡ suc (n - (i + 1)) = omega arith in
-        let p : 16 + 8 * i + 8 ≡ 16 + 8 * (i + 1) = omega arith in
-        rw (z, entries_turn file (16 + 8 * i) (n - (i + 1)), p)
+    module _ (x : Extent) (j : judged_at file i limit ≡ Ok x) where
+      stated : (fault (length file) limit (entry_of file i) ≡ None) × (entry_of file i ≡ (x.start, x.count))
+      stated = was_kept (fault (length file) limit (entry_of file i)) (entry_of file i) x j
 
-    module _ (s m : ℕ) (j : judged_at file i limit ≡ Kept s m) where
-      stated : (fault (length file) limit (entry_of file i) ≡ none) × (entry_of file i ≡ (s, m))
-      stated = was_kept (fault (length file) limit (entry_of file i)) (entry_of file i) s m j
+      pub kept_within : (limit ≤ x.start) × (x.start + x.count ≤ length file)
+      kept_within = fault_none (length file) limit (x.start, x.count) (ap (fault (length file) limit) (sym stated.1) ∙ stated.0)
 
-      pub kept_within : (limit ≤ s) × (s + m ≤ length file)
-      kept_within = fault_none (length file) limit (s, m) (ap (fault (length file) limit) (sym stated.1) ∙ stated.0)
-
-      pub kept_first : kept_left file n i limit ≡ (s, m) ∷ kept_left file n (i + 1) (s + m)
+      pub kept_first : kept_left file n i limit ≡ (x.start, x.count) ∷ kept_left file n (i + 1) (x.start + x.count)
       kept_first =
-          ap (kept (length file) limit) turn
-          ∙ kept_here (length file) limit (entry_of file i) (left file n (i + 1)) i stated.0
-          ∙ ap (λ (e : LogEntry). e ∷ kept (length file) (e.0 + e.1) (left file n (i + 1))) stated.1
+          ap (kept (length file) limit) (left_turn file n i h)
+          ∙ kept_here (length file) limit (entry_of file i) (entries_left file n (i + 1)) i stated.0
+          ∙ ap (λ (e : LogEntry). e ∷ kept (length file) (e.0 + e.1) (entries_left file n (i + 1))) stated.1
 
-      pub dropped_same : dropped_left file n i limit ≡ dropped_left file n (i + 1) (s + m)
+      pub dropped_same : dropped_left file n i limit ≡ dropped_left file n (i + 1) (x.start + x.count)
       dropped_same =
-          ap (dropped (length file) limit i) turn
-          ∙ dropped_not (length file) limit (entry_of file i) (left file n (i + 1)) i stated.0
-          ∙ ap (λ (e : LogEntry). dropped (length file) (e.0 + e.1) (suc i) (left file n (i + 1))) stated.1
-          ∙ ap (λ (k : ℕ). dropped (length file) (s + m) k (left file n (i + 1))) (sym (add-one i))
+          ap (dropped (length file) limit i) (left_turn file n i h)
+          ∙ dropped_not (length file) limit (entry_of file i) (entries_left file n (i + 1)) i stated.0
+          ∙ ap (λ (e : LogEntry). dropped (length file) (e.0 + e.1) (suc i) (entries_left file n (i + 1))) stated.1
+          ∙ ap (λ (k : ℕ). dropped (length file) (x.start + x.count) k (entries_left file n (i + 1))) (sym (add-one i))
 
-      pub bytes_first : bytes_by file (kept_left file n i limit) ≡ m + bytes_by file (kept_left file n (i + 1) (s + m))
-      bytes_first = ap (bytes_by file) kept_first ∙ bytes_cons file s m (kept_left file n (i + 1) (s + m)) kept_within.1
+      pub bytes_first : bytes_by file (kept_left file n i limit) ≡ x.count + bytes_by file (kept_left file n (i + 1) (x.start + x.count))
+      bytes_first = ap (bytes_by file) kept_first ∙ bytes_cons file x.start x.count (kept_left file n (i + 1) (x.start + x.count)) kept_within.1
 
-    module _ (r : ℕ) (j : judged_at file i limit ≡ KeptOrDropped-as-Dropped r) where
+    module _ (r : Fault) (j : judged_at file i limit ≡ Err r) where
       pub kept_same : kept_left file n i limit ≡ kept_left file n (i + 1) limit
       kept_same =
-          ap (kept (length file) limit) turn
-          ∙ kept_not (length file) limit (entry_of file i) (left file n (i + 1)) i r
+          ap (kept (length file) limit) (left_turn file n i h)
+          ∙ kept_not (length file) limit (entry_of file i) (entries_left file n (i + 1)) i r
           (was_dropped (fault (length file) limit (entry_of file i)) (entry_of file i) r j)
 
-      pub dropped_first : dropped_left file n i limit ≡ (i, r) ∷ dropped_left file n (i + 1) limit
+      pub dropped_first : dropped_left file n i limit ≡ (i, reason r) ∷ dropped_left file n (i + 1) limit
       dropped_first =
-          ap (dropped (length file) limit i) turn
-          ∙ dropped_here (length file) limit (entry_of file i) (left file n (i + 1)) i r
+          ap (dropped (length file) limit i) (left_turn file n i h)
+          ∙ dropped_here (length file) limit (entry_of file i) (entries_left file n (i + 1)) i r
           (was_dropped (fault (length file) limit (entry_of file i)) (entry_of file i) r j)
-          ∙ ap (λ (k : ℕ). (i, r) ∷ dropped (length file) limit k (left file n (i + 1))) (sym (add-one i))
+          ∙ ap (λ (k : ℕ). (i, reason r) ∷ dropped (length file) limit k (entries_left file n (i + 1))) (sym (add-one i))
 
 -- of n entries, how many are kept and how many dropped, and the bytes of the kept ones
 pub counts_of : (file : List ℕ) (n : ℕ) → length (kept_of file n) + length (dropped_of file n) ≡ n
@@ -134,32 +126,32 @@ listing_start file n old =
 
 module _ (file : List ℕ) (n : ℕ) (old report : List ℕ) (limit bytes count i : ℕ) (l : Listing file n old report limit bytes count i) where
   module _ (h : i < n) where
-    module _ (s m : ℕ) (j : judged_at file i limit ≡ Kept s m) where
-      pub listing_bytes : bytes + m ≤ length file
-      listing_bytes = omega (arith, l.bytes_are, bytes_first file n limit i h s m j, bytes_of_lem file n)
+    module _ (x : Extent) (j : judged_at file i limit ≡ Ok x) where
+      pub listing_bytes : bytes + x.count ≤ length file
+      listing_bytes = omega (arith, l.bytes_are, bytes_first file n limit i h x j, bytes_of_lem file n)
 
-      pub listing_kept : Listing file n old report (s + m) (bytes + m) count (i + 1)
+      pub listing_kept : Listing file n old report (x.start + x.count) (bytes + x.count) count (i + 1)
       listing_kept =
-          let d = dropped_same file n limit i h s m j in
+          let d = dropped_same file n limit i h x j in
           record {
             within = omega arith;
-            bytes_are = omega (arith, l.bytes_are, bytes_first file n limit i h s m j);
+            bytes_are = omega (arith, l.bytes_are, bytes_first file n limit i h x j);
             count_is = omega (arith, l.count_is, ap length d);
             listed = subst (λ (x : List Dropped). Filling (numbers_of (dropped_of file n)) old report (2 * count) (numbers_of x)) d l.listed;
           }
 
-    module _ (room : 2 * n ≤ length old) (r : ℕ) (j : judged_at file i limit ≡ KeptOrDropped-as-Dropped r) where
+    module _ (room : 2 * n ≤ length old) (r : Fault) (j : judged_at file i limit ≡ Err r) where
       pub listing_room : 2 * count + 1 < length old
       listing_room = omega (arith, l.count_is, ap length (dropped_first file n limit i h r j), counts_of file n)
 
-      pub listing_dropped : Listing file n old (set (set report (2 * count) i) (2 * count + 1) r) limit bytes (count + 1) (i + 1)
+      pub listing_dropped : Listing file n old (set (set report (2 * count) i) (2 * count + 1) (reason r)) limit bytes (count + 1) (i + 1)
       listing_dropped =
           let d = dropped_first file n limit i h r j in
           let k = listing_room in
           let z : 2 * count + 1 + 1 ≡ 2 * (count + 1) = omega arith in
           let f₀ = subst (λ (x : List Dropped). Filling (numbers_of (dropped_of file n)) old report (2 * count) (numbers_of x)) d l.listed in
-          let f₁ = fill_next _ _ _ (2 * count) i (r ∷ numbers_of (dropped_left file n (i + 1) limit)) f₀ (omega arith) in
-          let f₂ = fill_next _ _ _ (2 * count + 1) r (numbers_of (dropped_left file n (i + 1) limit)) f₁ (omega arith) in
+          let f₁ = fill_next _ _ _ (2 * count) i (reason r ∷ numbers_of (dropped_left file n (i + 1) limit)) f₀ (omega arith) in
+          let f₂ = fill_next _ _ _ (2 * count + 1) (reason r) (numbers_of (dropped_left file n (i + 1) limit)) f₁ (omega arith) in
           record {
             within = omega arith;
             bytes_are = ap (λ (x : List LogEntry). bytes + bytes_by file x) (sym (kept_same file n limit i h r j)) ∙ l.bytes_are;
@@ -186,39 +178,35 @@ module _ (file : List ℕ) (n : ℕ) (old report : List ℕ) (limit bytes count 
 -- ---- the room for it
 
 module _ (file report : List ℕ) (n : ℕ) (e : n ≡ entry_count file) where
-  pub sort_refused : length report / 2 < n → (NoRoom ≡ sort_answer file report) × (report ≡ sort_report file report)
+  pub sort_refused : length report / 2 < n → (Err NoRoom ≡ sort_answer file report) × (report ≡ sort_report file report)
   unfolding sort_refusal
   sort_refused h = let t = lt-leb (entry_count file) (length report / 2) (omega arith) in (rw t refl, rw t refl)
 
   pub sort_listed : (c : Counts) (after : List ℕ) → n ≤ length report / 2 → c ≡ counts file n
       → after ≡ overwritten report (numbers_of (dropped_of file n))
-      → (Listed c ≡ sort_answer file report) × (after ≡ sort_report file report)
+      → (Ok c ≡ sort_answer file report) × (after ≡ sort_report file report)
   unfolding sort_refusal
   sort_listed c after h k d =
       let t = le-leb (entry_count file) (length report / 2) (omega arith) in
-      (rw t (ap Listed (k ∙ ap (counts file) e)), rw t (d ∙ ap (λ (m : ℕ). overwritten report (numbers_of (dropped_of file m))) e))
+      (rw t (ap Ok (k ∙ ap (counts file) e)), rw t (d ∙ ap (λ (m : ℕ). overwritten report (numbers_of (dropped_of file m))) e))
 
 -- what an answer tells
 module _ (file report : List ℕ) where
-  pub was_listed : (c : Counts) → sort_answer file report ≡ Listed c
+  pub was_listed : (c : Counts) → sort_answer file report ≡ Ok c
       → (entry_count file ≤ length report / 2) × (c ≡ counts file (entry_count file))
       × (sort_report file report ≡ overwritten report (numbers_of (dropped_in file)))
   unfolding sort_refusal
-  was_listed c e = by_test (leb (entry_count file) (length report / 2)) refl e
-    where
-      by_test : (t : Bool) → leb (entry_count file) (length report / 2) ≡ t
-          → sorted (first_failing ((t, Refusal-as-NoRoom) ∷ [])) (counts file (entry_count file)) ≡ Listed c
-          → (entry_count file ≤ length report / 2) × (c ≡ counts file (entry_count file))
-          × (sort_report file report ≡ overwritten report (numbers_of (dropped_in file)))
-      by_test true t e = let k : counts file (entry_count file) ≡ c = cc in (leb-true _ _ t, sym k, rw t refl)
-      by_test false t e = let k : ◌≡◌ {A = ℕ} 0 1 = cc in absurd (omega arith)
+  was_listed c e =
+      let k = counted (sort_refusal file report) (counts file (entry_count file)) c e in
+      (leb-true _ _ (passed (leb (entry_count file) (length report / 2)) NoRoom None k.0).0, sym k.1, rw k.0)
 
-  pub was_refused : sort_answer file report ≡ NoRoom → (length report / 2 < entry_count file) × (sort_report file report ≡ report)
+  pub was_refused : (r : Refusal) → sort_answer file report ≡ Err r
+      → (length report / 2 < entry_count file) × (r ≡ NoRoom) × (sort_report file report ≡ report)
   unfolding sort_refusal
-  was_refused e = by_test (leb (entry_count file) (length report / 2)) refl e
+  was_refused r e = by_test (leb (entry_count file) (length report / 2)) refl e
     where
       by_test : (t : Bool) → leb (entry_count file) (length report / 2) ≡ t
-          → sorted (first_failing ((t, Refusal-as-NoRoom) ∷ [])) (counts file (entry_count file)) ≡ NoRoom
-          → (length report / 2 < entry_count file) × (sort_report file report ≡ report)
+          → answered (first_failing ((t, NoRoom) ∷ [])) (counts file (entry_count file)) ≡ Err r
+          → (length report / 2 < entry_count file) × (r ≡ NoRoom) × (sort_report file report ≡ report)
       by_test true t e = let k : ◌≡◌ {A = ℕ} 0 1 = cc in absurd (omega arith)
-      by_test false t e = (leb-false _ _ t, rw t refl)
+      by_test false t e = (leb-false _ _ t, cc, rw t refl)

@@ -5,22 +5,26 @@ ghost use Rattle.std.specs.Prelude.{◌≡◌, ◌*◌, ◌≤◌, length};
 ghost use Rattle.lists.specs.Write.{overwritten};
 ghost use Rattle.log_layout.specs.Log.{numbers_of};
 ghost use Rattle.log_layout.specs.Layout.{entry_of};
-ghost use Rattle.log_kept.specs.Kept.{entry_count, fault, dropped_of};
+ghost use Rattle.log_kept.specs.Kept.{entry_count, fault, reason, dropped_of};
 ghost use Rattle.log_kept.specs.Sorting.{judged, counts, sort_answer, sort_report};
 
-use log_layout::{DIRECTORY, LOG_ENTRY, LOG_FRONT};
+use answers::Refusal;
+use log_layout::{Extent, LOG_ENTRY, LOG_FRONT};
 
-// Why an entry is dropped.
-pub const BAD_START: u32 = 1;
+// Why an entry is dropped, and the number of that in the report.
+#[derive(Clone, Copy, PartialEq, Eq, Debug)]
+pub enum Fault {
+    BadStart = 1,
+    BadEnd = 2,
+}
 
-pub const BAD_END: u32 = 2;
+// [I23]
+impl From<Fault> for u32 {
+    ghost from_gives = { λ fault number. number ≡ reason fault };
 
-#[derive(Clone, Copy)]
-pub enum KeptOrDropped {
-    // Start and length.
-    Kept(usize, usize),
-    // The reason.
-    Dropped(u32),
+    fn from(fault: Fault) -> u32 {
+        fault as u32
+    }
 }
 
 // How many entries are kept, the bytes of their segments, and how many are dropped.
@@ -31,43 +35,29 @@ pub struct Counts {
     pub dropped: usize,
 }
 
-#[derive(Clone, Copy)]
-pub enum Sorted {
-    Listed(Counts),
-    // The report has fewer rows than there are entries.
-    NoRoom,
-}
-
 // The segment count: the header's, or less where the file has no room for as many. [I21]
 pub fn entry_count(file: &[u8]) -> u32
     ensures { result ≡ entry_count file.now }
 {
-    if file.len() < LOG_FRONT {
+    let Some(behind) = file.len().checked_sub(LOG_FRONT) else {
         return 0;
-    }
-    let stated = log_layout::number_at(file, 0);
-    let room = (file.len() - LOG_FRONT) / LOG_ENTRY;
-    if room < (stated as usize) {
-        room as u32
-    } else {
-        stated
-    }
+    };
+    let stated = log_layout::number_at(file, 0) as usize;
+    stated.min(behind / LOG_ENTRY) as u32
 }
 
-// Whether an entry is kept that may start at `limit` or behind it. Its end is a sum of 64 bits. [I22 I23]
-pub fn judge(file: &[u8], number: u32, limit: usize) -> KeptOrDropped
+// Whether an entry is kept that may start at `limit` or behind it. [I22 I23]
+pub fn judge(file: &[u8], number: u32, limit: usize) -> Result<Extent, Fault>
     ensures { result ≡ judged (fault (length file.now) limit (entry_of file.now number)) (entry_of file.now number) }
 {
-    let offset = DIRECTORY + LOG_ENTRY * (number as usize);
-    let start = log_layout::number_at(file, offset) as usize;
-    let n = log_layout::number_at(file, offset + 4) as usize;
-    if start < limit {
-        return KeptOrDropped::Dropped(BAD_START);
+    let entry = log_layout::entry(file, number);
+    if (entry.start as usize) < limit {
+        return Err(Fault::BadStart);
     }
-    if file.len() < start + n {
-        return KeptOrDropped::Dropped(BAD_END);
+    if file.len() < entry.end() {
+        return Err(Fault::BadEnd);
     }
-    KeptOrDropped::Kept(start, n)
+    Ok(entry)
 }
 
 fn list_dropped(file: &[u8], count: u32, report: &mut [u32]) -> Counts
@@ -75,40 +65,38 @@ fn list_dropped(file: &[u8], count: u32, report: &mut [u32]) -> Counts
     ensures value { result ≡ counts file.now count }
     ensures report_after { report.new ≡ overwritten report.old (numbers_of (dropped_of file.now count)) }
 {
-    let mut limit = LOG_FRONT + LOG_ENTRY * (count as usize);
+    let mut limit = log_layout::segments_offset(count);
     let mut bytes = 0;
     let mut dropped = 0;
-    let mut i = 0u32;
-    while i < count {
-        let number = i;
-        i += 1;
+    for number in 0..count {
         match judge(file, number, limit) {
-            KeptOrDropped::Kept(start, n) => {
-                bytes += n;
-                limit = start + n;
+            Ok(kept) => {
+                bytes += kept.count as usize;
+                limit = kept.end();
             }
-            KeptOrDropped::Dropped(reason) => {
+            Err(fault) => {
                 report[2 * dropped] = number;
-                report[2 * dropped + 1] = reason;
+                report[2 * dropped + 1] = u32::from(fault);
                 dropped += 1;
             }
         }
     }
     Counts {
-        kept: (count as usize) - dropped,
+        kept: count as usize - dropped,
         bytes,
         dropped,
     }
 }
 
 // Lists the dropped entries in the report, number and reason, where it has a row for every entry. [I21-I23 I25]
-pub fn sort(file: &[u8], report: &mut [u32]) -> Sorted
+#[tactic(auto, unfolding(crate::specs::Sorting::sort_refusal))]
+pub fn sort(file: &[u8], report: &mut [u32]) -> Result<Counts, Refusal>
     ensures value { result ≡ sort_answer file.now report.old }
     ensures report_after { report.new ≡ sort_report file.now report.old }
 {
     let count = entry_count(file);
-    if report.len() / 2 < (count as usize) {
-        return Sorted::NoRoom;
+    if report.len() / 2 < count as usize {
+        return Err(Refusal::NoRoom);
     }
-    Sorted::Listed(list_dropped(file, count, report))
+    Ok(list_dropped(file, count, report))
 }

@@ -1,5 +1,4 @@
 pub mod Laid
 pub mod Sound
 pub mod Rounds
-pub mod Tests
 pub mod Samples

@@ -3,6 +3,7 @@ use Rattle.std.specs.Prelude.{Bool, true, ◌&&◌, List, [], ◌∷◌, ℕ, ze
 use Rattle.lists.specs.Numbers.{number_at}
 use Rattle.log_index.specs.Last.{index_size}
 use Rattle.log_layout.specs.Log.{LogEntry, directory_offset, index_offset, segments_offset, longest_file}
+use Rattle.log_layout.specs.declared.Extent.{Extent}
 
 -- the number of 32 bits at an offset [I1]
 abbrev pub u32_at : List ℕ → ℕ → ℕ
@@ -28,6 +29,10 @@ directory_in file = entries (count_in file) (drop directory_offset file)
 -- the entry of a segment, by its offset in the file [I3]
 abbrev pub entry_of : List ℕ → ℕ → LogEntry
 entry_of file k = (u32_at file (16 + 8 * k), u32_at file (16 + 8 * k + 4))
+
+-- an entry as the code has it [I3]
+abbrev pub extent_of : LogEntry → Extent
+extent_of e = record { start = e.0; count = e.1 }
 
 -- [I5]
 abbrev pub index_in : List ℕ → List ℕ

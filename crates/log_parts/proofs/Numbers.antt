@@ -6,30 +6,16 @@ use Prim.Native.Nat.{ℕ, ◌+◌, ◌*◌, ◌-◌, ◌/◌, ◌≤◌, ◌<◌
 use native.Mathlib.Numerals.{add-one}
 use native.Mathlib.Omega.{arith}
 use lib.Dec.{leb}
-use lib.ListN.{length, take, drop, get_or, set, drop_of_length-le}
+use lib.ListN.{length, take, drop, get_or, drop_of_length-le}
 use lib.Seq.{drop-cons}
 use borrow.Author.Tests.{leb-true, leb-false, le-leb, lt-leb}
 use Rattle.lists.specs.Numbers.{bytes_of}
 use Rattle.lists.specs.Write.{placed}
-use Rattle.lists.proofs.Filling.{Filling, fill_from, fill_next, fill_part, fill_placed}
+use Rattle.lists.proofs.Filling.{Filling, fill_from, fill_part, fill_placed}
 use Rattle.log_layout.specs.Log.{laid, header}
 use Rattle.log_parts.specs.Parts.{put}
 
 -- ---- numbers in a buffer
-
-pub four_sets : (out bytes : List ℕ) (at v : ℕ) → bytes ≡ bytes_of 4 v → at + 4 ≤ length out
-    → set (set (set (set out at (get_or bytes 0 0)) (at + 1) (get_or bytes 1 0)) (at + 2) (get_or bytes 2 0)) (at + 3) (get_or bytes 3 0)
-    ≡ placed out at (bytes_of 4 v)
-unfolding bytes_of
-four_sets out bytes at v e h =
-    let two : at + 2 ≡ at + 1 + 1 = omega arith in
-    let three : at + 3 ≡ at + 1 + 1 + 1 = omega arith in
-    let f₀ = fill_from out (bytes_of 4 v) at (omega arith) in
-    let f₁ = fill_next _ _ _ at _ _ f₀ (omega arith) in
-    let f₂ = fill_next _ _ _ (at + 1) _ _ f₁ (omega arith) in
-    let f₃ = fill_next _ _ _ (at + 1 + 1) _ _ f₂ (omega arith) in
-    let f₄ = fill_next _ _ _ (at + 1 + 1 + 1) _ _ f₃ (omega arith) in
-    rw (e, two, three) (fill_placed out (bytes_of 4 v) at (omega arith) _ _ f₄)
 
 -- the next number of those that are left
 pub fill_number : (new old buffer : List ℕ) (j v : ℕ) (vs rest : List ℕ) → Filling new old buffer j (laid (v ∷ vs) rest)

@@ -14,10 +14,7 @@ use log_layout::{DIRECTORY, LOG_ENTRY, LOG_FRONT};
 fn has_room(size: usize, front: usize, entries: usize) -> bool
     ensures { result ≡ leb (front + 8 * entries) size }
 {
-    if size < front {
-        return false;
-    }
-    entries <= (size - front) / LOG_ENTRY
+    front <= size && entries <= (size - front) / LOG_ENTRY
 }
 
 // A number of 32 bits, low byte first.
@@ -25,11 +22,7 @@ fn put_number(out: &mut [u8], at: usize, value: usize)
     requires { at + 4 ≤ length out.old }
     ensures { out.new ≡ placed out.old at (bytes_of 4 value) }
 {
-    let bytes = buffers::bytes_of(value);
-    out[at] = bytes[0];
-    out[at + 1] = bytes[1];
-    out[at + 2] = bytes[2];
-    out[at + 3] = bytes[3];
+    out[at..at + 4].copy_from_slice(&value.to_le_bytes()[..4]);
 }
 
 fn header_in(out: &mut [u8], segments: usize)
@@ -77,9 +70,7 @@ pub fn put_index(out: &mut [u8], segments: usize, index: [usize; INDEX_COUNT])
         return;
     }
     let offset = DIRECTORY + LOG_ENTRY * segments;
-    let mut i = 0;
-    while i < INDEX_COUNT {
-        put_number(out, offset + 4 * i, index[i]);
-        i += 1;
+    for (i, &number) in index.iter().enumerate() {
+        put_number(out, offset + 4 * i, number);
     }
 }

@@ -1,8 +1,8 @@
 -- The refusals in their order, and what a call that is not refused has written and reported.
+use Rattle.std.specs.Prelude.{Err, None, Ok, Some}
 use mathlib.Core.Path.{◌≡◌, refl, sym, ap, ap₂, ◌∙◌}
 use mathlib.Core.Bool.{Bool, not}
 use mathlib.Core.List.{List}
-use mathlib.Core.Option.{none, some}
 use Prim.Native.Nat.{ℕ, ◌+◌, ◌*◌, ◌-◌, ◌/◌, ◌≤◌, ◌<◌}
 use native.Mathlib.Omega.{arith}
 use lib.Dec.{leb}
@@ -26,7 +26,6 @@ use Rattle.log_kept.proofs.Rounds.{counts_of, bytes_of_lem}
 use Rattle.log_salvage.specs.Report.{salvaged, differing, report_of}
 use Rattle.log_salvage.specs.Salvage.{salvage_refusal, figures, salvage_answer, salvage_out, salvage_report}
 use Rattle.log_salvage.specs.declared.Figures.{Figures}
-use Rattle.log_salvage.specs.declared.Salvaged.TheVariants.{Written, Refused}
 
 -- ---- sizes
 
@@ -46,47 +45,47 @@ module _ (file : List ℕ) where
 -- ---- the refusals
 
 module _ (file out report : List ℕ) where
-  pub too_small : length file < 1032 → salvage_refusal file out report ≡ some BadLogSize
+  pub too_small : length file < 1032 → salvage_refusal file out report ≡ Some BadLogSize
   unfolding salvage_refusal
   too_small h = rw (lt-leb 1032 (length file) h)
 
   module _ (h₁ : 1032 ≤ length file) where
-    pub too_large : longest_file < length file → salvage_refusal file out report ≡ some BadLogSize
+    pub too_large : longest_file < length file → salvage_refusal file out report ≡ Some BadLogSize
     unfolding salvage_refusal
     too_large h = rw (le-leb 1032 (length file) h₁, lt-leb (length file) longest_file h)
 
     module _ (h₂ : length file ≤ longest_file) where
-      pub no_room : length out < length file → salvage_refusal file out report ≡ some NoRoom
+      pub no_room : length out < length file → salvage_refusal file out report ≡ Some NoRoom
       unfolding salvage_refusal
       no_room h = rw (le-leb 1032 (length file) h₁, le-leb (length file) longest_file h₂, lt-leb (length file) (length out) h)
 
       module _ (h₃ : length file ≤ length out) where
-        pub no_places : length report / 2 < entry_count file → salvage_refusal file out report ≡ some NoRoom
+        pub no_places : length report / 2 < entry_count file → salvage_refusal file out report ≡ Some NoRoom
         unfolding salvage_refusal
         no_places h =
             rw (le-leb 1032 (length file) h₁, le-leb (length file) longest_file h₂, le-leb (length file) (length out) h₃, lt-leb (entry_count file) (length report / 2) h)
 
-        pub passes : entry_count file ≤ length report / 2 → salvage_refusal file out report ≡ none
+        pub passes : entry_count file ≤ length report / 2 → salvage_refusal file out report ≡ None
         unfolding salvage_refusal
         passes h =
             rw (le-leb 1032 (length file) h₁, le-leb (length file) longest_file h₂, le-leb (length file) (length out) h₃, le-leb (entry_count file) (length report / 2) h)
 
   -- what a call that is not refused has passed
-  pub sized : salvage_refusal file out report ≡ none → (1032 ≤ length file) × (length file ≤ longest_file)
+  pub sized : salvage_refusal file out report ≡ None → (1032 ≤ length file) × (length file ≤ longest_file)
   unfolding salvage_refusal
   sized r =
       let s = passed (leb 1032 (length file)) BadLogSize _ r in
       (leb-true _ _ s.0, leb-true _ _ (passed (leb (length file) longest_file) BadLogSize _ s.1).0)
 
-  pub refusing : (refusal : Refusal) → salvage_refusal file out report ≡ some refusal
-      → (Refused refusal ≡ salvage_answer file out report)
+  pub refusing : (refusal : Refusal) → salvage_refusal file out report ≡ Some refusal
+      → (Err refusal ≡ salvage_answer file out report)
       × ((out ≡ salvage_out file out report) × (report ≡ salvage_report file out report))
   refusing refusal r = (rw r refl, (rw r refl, rw r refl))
 
-  pub writing : (f : Figures) (o t : List ℕ) → salvage_refusal file out report ≡ none → f ≡ figures (length (salvaged file)) (report_of file)
+  pub writing : (f : Figures) (o t : List ℕ) → salvage_refusal file out report ≡ None → f ≡ figures (length (salvaged file)) (report_of file)
       → o ≡ overwritten out (salvaged file) → t ≡ overwritten report (numbers_of (dropped_in file))
-      → (Written f ≡ salvage_answer file out report) × ((o ≡ salvage_out file out report) × (t ≡ salvage_report file out report))
-  writing f o t r a b d = (rw r (ap Written a), (rw r b, rw r d))
+      → (Ok f ≡ salvage_answer file out report) × ((o ≡ salvage_out file out report) × (t ≡ salvage_report file out report))
+  writing f o t r a b d = (rw r (ap Ok a), (rw r b, rw r d))
 
 -- ---- the figures
 

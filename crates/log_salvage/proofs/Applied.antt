@@ -1,6 +1,6 @@
+use Rattle.std.specs.Prelude.{None}
 use mathlib.Core.Path.{◌≡◌, refl}
 use mathlib.Core.List.{[], ◌∷◌}
-use mathlib.Core.Option.{none}
 use borrow.Author.Tests.{leb-true}
 use Rattle.lists.specs.Numbers.{number_at, bytes_of}
 use Rattle.crc.specs.Crc.{reduce_if, shift, shifts, crc_byte, crc_from}
@@ -19,7 +19,7 @@ use Rattle.log_kept.specs.Kept.{kept, dropped}
 use Rattle.log_salvage.specs.Salvage.{salvage_refusal, bytes_in_none}
 use Rattle.log_salvage.specs.Applied.{cut_file, output, SalvageApplied}
 
-salvage_passes : salvage_refusal cut_file output (0 ∷ 0 ∷ 0 ∷ 0 ∷ []) ≡ none
+salvage_passes : salvage_refusal cut_file output (0 ∷ 0 ∷ 0 ∷ 0 ∷ []) ≡ None
 unfolding number_at bytes_of reduce_if shift shifts crc_byte crc_from well_after read_fuel read_from reading length_of front_agrees length_agrees body_of checksum_right shapeVerdict last_packet last_from index_from laid directory log_of salvage_refusal
 salvage_passes = refl
 

@@ -1,4 +1,5 @@
 -- The loop that packs the kept segments: what is still to be written, and the index of those that are left.
+use Rattle.std.specs.Prelude.{Err, Ok}
 use mathlib.Core.Path.{◌≡◌, refl, sym, ap, ◌∙◌}
 use mathlib.Core.List.{List, [], ◌∷◌, ◌++◌}
 use Prim.Native.Nat.{ℕ, suc, ◌+◌, ◌*◌, ◌≤◌, ◌<◌}
@@ -19,7 +20,8 @@ use Rattle.log_layout.proofs.Sound.{directory_length, segments_count}
 use Rattle.log_parts.proofs.Parts.{laid_append, laid_alone, parts_put}
 use Rattle.log_parts.proofs.Placed.{placed_none, placed_length, placed_both, placed_swap}
 use Rattle.log_kept.specs.Kept.{kept_of}
-use Rattle.log_kept.specs.declared.KeptOrDropped.TheVariants.{Kept, Dropped}
+use Rattle.log_layout.specs.declared.Extent.{Extent}
+use Rattle.log_kept.specs.declared.Fault.{Fault}
 use Rattle.log_kept.proofs.Kept.{bytes_by, whole_segment}
 use Rattle.log_kept.proofs.Rounds.{kept_left, judged_at, kept_start, kept_end, kept_within, kept_first, kept_same, bytes_first}
 
@@ -62,7 +64,13 @@ packing_start file n kept old e h =
 
 module _ (file : List ℕ) (n kept : ℕ) (old out marks : List ℕ) (limit at done i : ℕ) (p : Packing file n kept old out marks limit at done i) where
   module _ (h : i < n) where
-    module _ (s m : ℕ) (j : judged_at file i limit ≡ Kept s m) where
+    module _ (x : Extent) (j : judged_at file i limit ≡ Ok x) where
+      abbrev s : ℕ
+      s = x.start
+
+      abbrev m : ℕ
+      m = x.count
+
       abbrev segment : List ℕ
       segment = segment_by file (s, m)
 
@@ -73,14 +81,14 @@ module _ (file : List ℕ) (n kept : ℕ) (old out marks : List ℕ) (limit at d
       ss = segments_by file left
 
       first : kept_left file n i limit ≡ (s, m) ∷ left
-      first = kept_first file n limit i h s m j
+      first = kept_first file n limit i h x j
 
       pub whole : length segment ≡ m
-      whole = whole_segment file s m (kept_within file n limit i h s m j).1
+      whole = whole_segment file s m (kept_within file n limit i h x j).1
 
       pub packing_room : (24 + 8 * done ≤ length old) × (at + m ≤ length old) × (done < kept)
       packing_room =
-          let b = bytes_first file n limit i h s m j in
+          let b = bytes_first file n limit i h x j in
           let l = ap length first in
           let c = p.count_is in
           let f = p.fits in
@@ -100,7 +108,7 @@ module _ (file : List ℕ) (n kept : ℕ) (old out marks : List ℕ) (limit at d
             let l = ap length first in
             let q = segments_count file left in
             let d = directory_size (at + m) ss in
-            let f = bytes_first file n limit i h s m j in
+            let f = bytes_first file n limit i h x j in
             let t = p.fits in
             let u = laid_alone (at ∷ m ∷ []) in
             ap (λ (es : List LogEntry). packed out done at (segments_by file es)) first
@@ -122,7 +130,7 @@ module _ (file : List ℕ) (n kept : ℕ) (old out marks : List ℕ) (limit at d
             let k : suc done ≡ done + 1 = omega arith in
             let g = p.behind in
             let c = p.count_is in
-            let f = bytes_first file n limit i h s m j in
+            let f = bytes_first file n limit i h x j in
             let t = p.fits in
             let l₁ = placed_length out (16 + 8 * done) (laid (at ∷ m ∷ []) []) (omega (arith, r.0, z, u)) in
             let w = whole in
@@ -141,7 +149,7 @@ module _ (file : List ℕ) (n kept : ℕ) (old out marks : List ℕ) (limit at d
               packed_is = sym step ∙ p.packed_is;
             }
 
-    module _ (r : ℕ) (j : judged_at file i limit ≡ Dropped r) where
+    module _ (r : Fault) (j : judged_at file i limit ≡ Err r) where
       pub packing_dropped : Packing file n kept old out marks limit at done (i + 1)
       packing_dropped =
           let e = kept_same file n limit i h r j in

@@ -1,8 +1,8 @@
 -- What is written is sound and no longer than the file; a sound log comes out as it was, with an empty report.
+use Rattle.std.specs.Prelude.{None, Option, Some}
 use mathlib.Core.Path.{◌≡◌, refl, sym, ap, ap₂, subst, ◌∙◌}
 use mathlib.Core.Bool.{false, not}
 use mathlib.Core.List.{List, [], ◌∷◌}
-use mathlib.Core.Option.{Option, none, some}
 use Prim.Native.Nat.{ℕ, ◌+◌, ◌-◌, ◌≤◌}
 use native.Mathlib.Omega.{arith}
 use lib.ListN.{length, take, drop}
@@ -16,6 +16,7 @@ use Rattle.log_layout.proofs.Sound.{log_length, count_log, directory_log, index_
 use Rattle.line_log.specs.Soundness.{same_numbers}
 use Rattle.line_log.proofs.Rounds.{same_self}
 use Rattle.log_kept.specs.Kept.{entry_count, fault, kept, dropped, kept_of, dropped_in, kept_segments}
+use Rattle.log_kept.specs.declared.Fault.{Fault}
 use Rattle.log_kept.proofs.Kept.{fault_none, kept_here, kept_not, all_kept}
 use Rattle.log_kept.proofs.Rounds.{counts_of}
 use Rattle.log_salvage.specs.Report.{salvaged, differing, report_of, empty_report}
@@ -29,11 +30,11 @@ unfolding kept
 kept_apart size limit [] = tt
 kept_apart size limit (e ∷ es) = by_fault (λ l. kept_apart size l es) (fault size limit e) refl
   where
-    by_fault : ((l : ℕ) → Apart l size (kept size l es)) → (o : Option ℕ) → fault size limit e ≡ o → Apart limit size (kept size limit (e ∷ es))
-    by_fault rest none f =
+    by_fault : ((l : ℕ) → Apart l size (kept size l es)) → (o : Option Fault) → fault size limit e ≡ o → Apart limit size (kept size limit (e ∷ es))
+    by_fault rest None f =
         let w = fault_none size limit e f in
         subst (Apart limit size) (sym (kept_here size limit e es 0 f)) (w.0, w.1, rest (e.0 + e.1))
-    by_fault rest (some r) f = subst (Apart limit size) (sym (kept_not size limit e es 0 r f)) (rest limit)
+    by_fault rest (Some r) f = subst (Apart limit size) (sym (kept_not size limit e es 0 r f)) (rest limit)
 
 apart_in : (file : List ℕ) → Apart (segments_offset (entry_count file)) (length file) (kept_of file (entry_count file))
 apart_in file = kept_apart (length file) (segments_offset (entry_count file)) (entries (entry_count file) (drop directory_offset file))
@@ -109,7 +110,7 @@ module _ (file : List ℕ) (s : Sound file) where
 
 -- ---- what is written
 
-module _ (file out report : List ℕ) (r : salvage_refusal file out report ≡ none) where
+module _ (file out report : List ℕ) (r : salvage_refusal file out report ≡ None) where
   short : length (salvaged file) ≤ length file
   short = no_longer file (sized file out report r).0
 

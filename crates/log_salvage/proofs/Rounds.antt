@@ -1,58 +1,47 @@
--- One round of the loops that compare the indexes and the headers.
-use mathlib.Core.Path.{◌≡◌, ◌∙◌}
-use mathlib.Core.Bool.{Bool, true, false, cond, ◌&&◌}
-use mathlib.Core.List.{List, ◌∷◌}
-use Prim.Native.Nat.{ℕ, suc, ◌+◌, ◌-◌, ◌≤◌, ◌<◌}
-use native.Mathlib.Numerals.{add-one}
+-- The index and the header compared with what was written.
+use mathlib.Core.Path.{◌≡◌, refl, sym, ap, ◌∙◌}
+use mathlib.Core.Bool.{Bool, true, false, not, cond, ◌&&◌}
+use mathlib.Core.List.{List, [], ◌∷◌}
+use Prim.Native.Nat.{ℕ, zero, suc, ◌+◌, ◌*◌}
 use native.Mathlib.Omega.{arith}
 use lib.Dec.{eqb}
-use lib.ListN.{length, take, drop, get_or}
-use lib.Seq.{drop-cons}
-use borrow.Author.Tests.{eq-eqb, ne_eqb}
+use lib.ListN.{length, drop}
+use lib.Seq.{drop-drop}
+use Rattle.std.specs.Cmp.Lexicographic.{pointwise}
+use Rattle.std.specs.List.{count_by, enumerate_from}
+use Rattle.std.proofs.lemmas.List.Sums.{sum_by-cons}
+use Rattle.log_index.specs.Last.{index_size}
+use Rattle.log_layout.specs.Log.{index_offset}
 use Rattle.log_layout.specs.Layout.{u32_at, numbers}
-use Rattle.log_layout.proofs.Rounds.{numbers_turn}
+use Rattle.log_layout.proofs.Rounds.{u32_here}
 use Rattle.line_log.specs.Soundness.{same_numbers}
 use Rattle.log_salvage.specs.Report.{differing}
 
-here : (xs : List ℕ) (i : ℕ) → i < length xs → drop i xs ≡ get_or xs i 0 ∷ drop (i + 1) xs
-here xs i h = rw add-one (drop-cons xs i 0 h)
+not_cond : (b : Bool) → ◌≡◌ {A = ℕ} (cond (not b) 1 0) (cond b 0 1)
+not_cond true = refl
+not_cond false = refl
 
--- the first of the numbers that are left
-module _ (s xs : List ℕ) (p i k j : ℕ) (e : k ≡ suc j) (h : i < length xs) where
-  differing_turn : differing (numbers k (drop p s)) (drop i xs)
-      ≡ cond (eqb (u32_at s p) (get_or xs i 0)) 0 1 + differing (numbers j (drop (p + 4) s)) (drop (i + 1) xs)
-  unfolding differing
-  differing_turn = rw (e, numbers_turn s p j, here xs i h)
-
-  pub differing_same : u32_at s p ≡ get_or xs i 0 → differing (numbers k (drop p s)) (drop i xs) ≡ differing (numbers j (drop (p + 4) s)) (drop (i + 1) xs)
-  differing_same q = differing_turn ∙ rw (eq-eqb (u32_at s p) (get_or xs i 0) q) (omega arith)
-
-  pub differing_one : (u32_at s p ≡ get_or xs i 0 → ⊥)
-      → differing (numbers k (drop p s)) (drop i xs) ≡ 1 + differing (numbers j (drop (p + 4) s)) (drop (i + 1) xs)
-  differing_one q = differing_turn ∙ rw (ne_eqb (u32_at s p) (get_or xs i 0) q)
-
-pub differing_end : (s xs : List ℕ) (k : ℕ) → k ≡ 0 → differing (numbers k s) xs ≡ 0
+all_differ : (file : List ℕ) (p : ℕ) (xs : List ℕ) (k a q : ℕ) → k ≡ length xs → q ≡ p + 4 * a
+    → count_by (λ (e : ℕ × ℕ). not (eqb (u32_at file (p + 4 * e.0)) e.1)) (enumerate_from a xs) ≡ differing (numbers k (drop q file)) xs
 unfolding differing numbers
-differing_end s xs k e = rw e
+all_differ file p [] zero a q l e = refl
+all_differ file p [] (suc k) a q l e = absurd (omega arith)
+all_differ file p (x ∷ xs) zero a q l e = absurd (omega arith)
+all_differ file p (x ∷ xs) (suc k) a q l e =
+    sum_by-cons (λ (d : ℕ × ℕ). cond (not (eqb (u32_at file (p + 4 * d.0)) d.1)) 1 0) (a, x) (enumerate_from (a + 1) xs)
+    ∙ rw (u32_here file q, drop-drop 4 q file, ← e, not_cond (eqb (u32_at file q) x))
+    (ap (λ (n : ℕ). cond (eqb (u32_at file q) x) 0 1 + n) (all_differ file p xs k (a + 1) (q + 4) (omega arith) (omega arith)))
 
--- bytes that are the same, and the first that are not
-module _ (xs ys : List ℕ) (k i : ℕ) where
-  abbrev pub left_same : Bool
-  left_same = same_numbers (take (k - i) (drop i xs)) (take (k - i) (drop i ys))
+-- the index compared, number by number
+pub index_differs : (file xs : List ℕ) (n : ℕ) → length xs ≡ index_size
+    → count_by (λ (e : ℕ × ℕ). not (eqb (u32_at file (index_offset n + 4 * e.0)) e.1)) (enumerate_from 0 xs)
+    ≡ differing (numbers index_size (drop (index_offset n) file)) xs
+index_differs file xs n l = let p = index_offset n in all_differ file p xs index_size 0 p (sym l) (omega arith)
 
-  module _ (h : i < k) (a : k ≤ length xs) (b : k ≤ length ys) where
-    same_turn : left_same ≡ eqb (get_or xs i 0) (get_or ys i 0) && same_numbers (take (k - (i + 1)) (drop (i + 1) xs)) (take (k - (i + 1)) (drop (i + 1) ys))
-    unfolding same_numbers
-    same_turn =
-        let z : k - i ≡ suc (k - (i + 1)) = omega arith in
-        rw (z, here xs i (omega arith), here ys i (omega arith))
-
-    pub same_next : get_or xs i 0 ≡ get_or ys i 0 → left_same ≡ same_numbers (take (k - (i + 1)) (drop (i + 1) xs)) (take (k - (i + 1)) (drop (i + 1) ys))
-    same_next q = same_turn ∙ rw (eq-eqb (get_or xs i 0) (get_or ys i 0) q)
-
-    pub same_not : (get_or xs i 0 ≡ get_or ys i 0 → ⊥) → left_same ≡ false
-    same_not q = same_turn ∙ rw (ne_eqb (get_or xs i 0) (get_or ys i 0) q)
-
-  pub same_end : k ≤ i → left_same ≡ true
-  unfolding same_numbers
-  same_end h = let z : k - i ≡ 0 = omega arith in rw z
+-- as slices are compared
+pub pointwise_same : (xs ys : List ℕ) → pointwise eqb xs ys ≡ same_numbers xs ys
+unfolding same_numbers
+pointwise_same [] [] = refl
+pointwise_same [] (y ∷ ys) = refl
+pointwise_same (x ∷ xs) [] = refl
+pointwise_same (x ∷ xs) (y ∷ ys) = ap (λ (b : Bool). eqb x y && b) (pointwise_same xs ys)

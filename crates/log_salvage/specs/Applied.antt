@@ -1,6 +1,6 @@
 -- What is promised of the salvage, applied to a log of two Pings, whole and without its last byte.
+use Rattle.std.specs.Prelude.{None}
 use Rattle.std.specs.Prelude.{◌≡◌, List, [], ◌∷◌, ℕ, ◌+◌, ◌≤◌, length, take, replicate}
-use Rattle.std.proofs.Math.Option.{none}
 use Rattle.log_layout.specs.Log.{log_of, Sound}
 use Rattle.log_layout.specs.Layout.{segments_in}
 use Rattle.log_layout.specs.Samples.{ping_to_1, two_pings, file}
@@ -25,7 +25,7 @@ pub record Salvaged : Type 0 where
   pub each : length (kept_segments cut_file) + length (dropped_in cut_file) ≡ 2
   pub apart : (1048 ≤ 1048) × (1058 ≤ 1067)
   pub left : (report_of cut_file).leftover ≡ 9
-  pub accepted : salvage_refusal (log_of two_pings) output (0 ∷ 0 ∷ 0 ∷ 0 ∷ []) ≡ none
+  pub accepted : salvage_refusal (log_of two_pings) output (0 ∷ 0 ∷ 0 ∷ 0 ∷ []) ≡ None
   pub same : salvaged (log_of two_pings) ≡ log_of two_pings
   pub nothing_reported : report_of (log_of two_pings) ≡ empty_report
   pub written_again : salvaged (salvaged cut_file) ≡ salvaged cut_file

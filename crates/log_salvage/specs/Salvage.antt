@@ -1,7 +1,8 @@
 -- The call that salvages a log, and what is promised of it over all files.
+use Rattle.std.specs.Prelude.{None, Option, Result}
 use Rattle.std.specs.Prelude.{◌≡◌, Bool, true, cond, ◌&&◌, ◌||◌, List, [], ◌∷◌, ℕ, zero, suc, ◌+◌, ◌*◌, ◌-◌, ◌/◌, ◌≤◌, leb, ltb, length, take}
-use Rattle.std.proofs.Math.Option.{Option, none, some}
 use Rattle.answers.specs.Refusals.{first_failing, unless_refused}
+use Rattle.answers.specs.Answers.{answered}
 use Rattle.answers.specs.declared.Refusal.{Refusal}
 use Rattle.answers.specs.declared.Refusal.TheVariants.{NoRoom, BadLogSize}
 use Rattle.lists.specs.Write.{overwritten}
@@ -10,8 +11,6 @@ use Rattle.log_layout.specs.Layout.{count_in, segments_in}
 use Rattle.log_kept.specs.Kept.{entry_count, kept_of, dropped_in, kept_segments}
 use Rattle.log_salvage.specs.Report.{salvaged, Report, report_of, empty_report}
 use Rattle.log_salvage.specs.declared.Figures.{Figures}
-use Rattle.log_salvage.specs.declared.Salvaged.{Salvaged}
-use Rattle.log_salvage.specs.declared.Salvaged.TheVariants.{Written, Refused}
 
 -- a file of no size that a log may have; an output shorter than the file; a report with fewer rows, of two numbers each, than the
 -- segment count: in this order [I31 N4 N10 N18]
@@ -34,13 +33,9 @@ figures count r =
       header = r.header_changed;
     }
 
-abbrev pub written_unless : Option Refusal → Figures → Salvaged
-written_unless none f = Written f
-written_unless (some refusal) f = Refused refusal
-
 -- the bytes written and the figures of the report, or a refusal [I24-I28 I31]
-abbrev pub salvage_answer : List ℕ → List ℕ → List ℕ → Salvaged
-salvage_answer file out report = written_unless (salvage_refusal file out report) (figures (length (salvaged file)) (report_of file))
+abbrev pub salvage_answer : List ℕ → List ℕ → List ℕ → Result Figures Refusal
+salvage_answer file out report = answered (salvage_refusal file out report) (figures (length (salvaged file)) (report_of file))
 
 -- what the output holds; its bytes behind the log stay [I24 I31]
 abbrev pub salvage_out : List ℕ → List ℕ → List ℕ → List ℕ
@@ -68,10 +63,10 @@ bytes_in_none (suc n) i es = cond (in_none i es) 1 0 + bytes_in_none n (suc i) e
 -- What is promised of the call over all files.
 pub record Salvage : Type 0 where
   -- where it is not refused, what is written is a sound log, and no longer than the file [I24 I30]
-  pub sound : (file out report : List ℕ) → salvage_refusal file out report ≡ none
+  pub sound : (file out report : List ℕ) → salvage_refusal file out report ≡ None
       → Sound (take (length (salvaged file)) (salvage_out file out report)) × (length (salvaged file) ≤ length file)
   -- its segments are the kept ones, byte for byte as they stand in the file [I24]
-  pub unaltered : (file out report : List ℕ) → salvage_refusal file out report ≡ none → segments_in (salvaged file) ≡ kept_segments file
+  pub unaltered : (file out report : List ℕ) → salvage_refusal file out report ≡ None → segments_in (salvaged file) ≡ kept_segments file
   -- of the entries each is kept or dropped; the kept ones lie in the file behind the old index and do not overlap [I22 I23]
   pub each : (file : List ℕ) → length (kept_segments file) + length (dropped_in file) ≡ entry_count file
   -- [I22]
@@ -82,9 +77,9 @@ pub record Salvage : Type 0 where
       ≡ bytes_in_none (length file - segments_offset (entry_count file)) (segments_offset (entry_count file)) (kept_of file (entry_count file))
   -- a sound log is refused only for want of room; the same bytes are written, and there is nothing to report [I29]
   pub accepted : (file out report : List ℕ) → Sound file → length file ≤ length out → 2 * count_in file ≤ length report
-      → salvage_refusal file out report ≡ none
+      → salvage_refusal file out report ≡ None
   -- [I29]
   pub same : (file : List ℕ) → Sound file → (salvaged file ≡ file) × (report_of file ≡ empty_report)
   -- and so does whatever was written [I29]
-  pub again : (file out report : List ℕ) → salvage_refusal file out report ≡ none
+  pub again : (file out report : List ℕ) → salvage_refusal file out report ≡ None
       → (salvaged (salvaged file) ≡ salvaged file) × (report_of (salvaged file) ≡ empty_report)

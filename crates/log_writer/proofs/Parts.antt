@@ -1,8 +1,8 @@
 -- A log by the lengths of its segments: its parts in a buffer, how long it is; what is written is sound.
+use Rattle.std.specs.Prelude.{Err, None, Ok, Some}
 use mathlib.Core.Path.{◌≡◌, refl, sym, ap, ap₂, ◌∙◌}
 use mathlib.Core.Bool.{true, false}
 use mathlib.Core.List.{List, [], ◌∷◌, ◌++◌}
-use mathlib.Core.Option.{none, some}
 use Prim.Native.Nat.{ℕ, suc, ◌+◌, ◌≤◌, ◌<◌}
 use native.Mathlib.Omega.{arith}
 use lib.Dec.{eqb}
@@ -11,7 +11,6 @@ use lib.Seq.{length-take-le}
 use borrow.Author.Tests.{leb-true, eqb-true, le-leb, lt-leb}
 use Rattle.answers.specs.declared.Refusal.{Refusal}
 use Rattle.answers.specs.declared.Refusal.TheVariants.{BadLog, NoRoom}
-use Rattle.answers.specs.declared.Answer.TheVariants.{Count, Refused}
 use Rattle.answers.proofs.Laws.{passed}
 use Rattle.lists.specs.Write.{overwritten, placed}
 use Rattle.lists.proofs.Write.{overwritten_take}
@@ -80,7 +79,7 @@ module _ (out bytes lengths : List ℕ) (e : sum lengths ≡ length bytes) (h : 
 -- ---- the answer
 
 module _ (bytes lengths out : List ℕ) where
-  pub refused_sum : eqb (sum lengths) (length bytes) ≡ false → write_refusal bytes lengths out ≡ some BadLog
+  pub refused_sum : eqb (sum lengths) (length bytes) ≡ false → write_refusal bytes lengths out ≡ Some BadLog
   unfolding write_refusal
   refused_sum h = rw h
 
@@ -88,32 +87,32 @@ module _ (bytes lengths out : List ℕ) where
     size : length (written bytes lengths) ≡ segments_offset (length lengths) + length bytes
     size = written_length bytes lengths (eqb-true (sum lengths) (length bytes) e)
 
-    pub refused_long : longest_file < segments_offset (length lengths) + length bytes → write_refusal bytes lengths out ≡ some BadLog
+    pub refused_long : longest_file < segments_offset (length lengths) + length bytes → write_refusal bytes lengths out ≡ Some BadLog
     unfolding write_refusal
     refused_long h = rw (e, lt-leb (length (written bytes lengths)) longest_file (omega (arith, size, h)))
 
     module _ (l : segments_offset (length lengths) + length bytes ≤ longest_file) where
-      pub refused_room : length out < segments_offset (length lengths) + length bytes → write_refusal bytes lengths out ≡ some NoRoom
+      pub refused_room : length out < segments_offset (length lengths) + length bytes → write_refusal bytes lengths out ≡ Some NoRoom
       unfolding write_refusal
       refused_room h =
           rw (e, le-leb (length (written bytes lengths)) longest_file (omega (arith, size, l)), lt-leb (length (written bytes lengths)) (length out) (omega (arith, size, h)))
 
-      pub not_refused : segments_offset (length lengths) + length bytes ≤ length out → write_refusal bytes lengths out ≡ none
+      pub not_refused : segments_offset (length lengths) + length bytes ≤ length out → write_refusal bytes lengths out ≡ None
       unfolding write_refusal
       not_refused h =
           rw (e, le-leb (length (written bytes lengths)) longest_file (omega (arith, size, l)), le-leb (length (written bytes lengths)) (length out) (omega (arith, size, h)))
 
-  pub refusing : (refusal : Refusal) → write_refusal bytes lengths out ≡ some refusal
-      → (Refused refusal ≡ write_answer bytes lengths out) × (out ≡ write_out bytes lengths out)
+  pub refusing : (refusal : Refusal) → write_refusal bytes lengths out ≡ Some refusal
+      → (Err refusal ≡ write_answer bytes lengths out) × (out ≡ write_out bytes lengths out)
   refusing refusal r = (rw r refl, rw r refl)
 
-  pub writing : (m : ℕ) (buffer : List ℕ) → write_refusal bytes lengths out ≡ none → length (written bytes lengths) ≡ m
+  pub writing : (m : ℕ) (buffer : List ℕ) → write_refusal bytes lengths out ≡ None → length (written bytes lengths) ≡ m
       → buffer ≡ overwritten out (written bytes lengths)
-      → (Count m ≡ write_answer bytes lengths out) × (buffer ≡ write_out bytes lengths out)
+      → (Ok m ≡ write_answer bytes lengths out) × (buffer ≡ write_out bytes lengths out)
   writing m buffer r l b = (rw (r, l) refl, rw r b)
 
   -- what a call that is not refused has passed
-  fits : write_refusal bytes lengths out ≡ none → length (written bytes lengths) ≤ longest_file
+  fits : write_refusal bytes lengths out ≡ None → length (written bytes lengths) ≤ longest_file
   unfolding write_refusal
   fits r = leb-true _ _ (passed _ BadLog _ (passed (eqb (sum lengths) (length bytes)) BadLog _ r).1).0
 

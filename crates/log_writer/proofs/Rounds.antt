@@ -1,14 +1,13 @@
 -- One round of the writer's loops.
-use mathlib.Core.Path.{◌≡◌, refl, sym, ap, subst, ◌∙◌}
-use mathlib.Core.Bool.{Bool, true, false}
+use mathlib.Core.Path.{◌≡◌, sym, ap, subst, ◌∙◌}
 use mathlib.Core.List.{List, [], ◌∷◌}
-use Prim.Native.Nat.{ℕ, zero, suc, ◌+◌, ◌*◌, ◌-◌, ◌≤◌, ◌<◌}
+use Prim.Native.Nat.{ℕ, zero, suc, ◌+◌, ◌*◌, ◌≤◌, ◌<◌}
 use native.Mathlib.Numerals.{add-one}
 use native.Mathlib.Omega.{arith}
-use lib.Dec.{eqb, eqb-zero-suc, eqb-suc-zero}
+use lib.Dec.{eqb, eqb-suc-zero}
 use lib.ListN.{length, take, drop, get_or, drop_of_length-le}
-use lib.Seq.{drop-cons, drop-drop}
-use borrow.Author.Tests.{eqb-true, eqb-false, eq-eqb, ne_eqb}
+use lib.Seq.{drop-cons}
+use borrow.Author.Tests.{eq-eqb, ne_eqb}
 use Rattle.lists.specs.Write.{placed}
 use Rattle.lists.proofs.Filling.{Filling}
 use Rattle.reading.specs.Reading.{reading}
@@ -43,31 +42,20 @@ module _ (ns : List ℕ) (i : ℕ) where
   directory_end start h = ap (λ (l : List ℕ). laid (numbers_of (directory_by start l)) []) (drop_of_length-le ns h)
 
   -- the segments that are left, in the index
-  pub marked_turn : (bytes xs : List ℕ) (start k : ℕ) → i < length ns
-      → marked_all k xs (cut (drop i ns) (drop start bytes))
-      ≡ marked_all (suc k) (marked (suc k) xs (reading protocol2 (take (get_or ns i 0) (drop start bytes))))
-      (cut (drop (i + 1) ns) (drop (start + get_or ns i 0) bytes))
+  pub marked_turn : (bytes xs : List ℕ) → i < length ns
+      → marked_all i xs (cut (drop i ns) bytes)
+      ≡ marked_all (i + 1) (marked (i + 1) xs (reading protocol2 (take (get_or ns i 0) bytes))) (cut (drop (i + 1) ns) (drop (get_or ns i 0) bytes))
   unfolding cut marked_all
-  marked_turn bytes xs start k h =
-      ap (λ (l : List ℕ). marked_all k xs (cut l (drop start bytes))) (here h)
-      ∙ ap (λ (l : List ℕ). marked_all (suc k) (marked (suc k) xs (reading protocol2 (take (get_or ns i 0) (drop start bytes)))) (cut (drop (i + 1) ns) l))
-      (drop-drop (get_or ns i 0) start bytes)
+  marked_turn bytes xs h = ap (λ (l : List ℕ). marked_all i xs (cut l bytes)) (here h) ∙ rw add-one
 
-  pub marked_end : (bytes xs : List ℕ) (k : ℕ) → length ns ≤ i → marked_all k xs (cut (drop i ns) bytes) ≡ xs
+  pub marked_end : (bytes xs : List ℕ) → length ns ≤ i → marked_all i xs (cut (drop i ns) bytes) ≡ xs
   unfolding cut marked_all
-  marked_end bytes xs k h = ap (λ (l : List ℕ). marked_all k xs (cut l bytes)) (drop_of_length-le ns h)
+  marked_end bytes xs h = ap (λ (l : List ℕ). marked_all i xs (cut l bytes)) (drop_of_length-le ns h)
 
--- a length taken from both sides of the equation
-pub less_both : (n m left : ℕ) → n ≤ left → eqb (n + m) left ≡ eqb m (left - n)
-less_both n m left h = by_test (eqb m (left - n)) refl
-  where
-    by_test : (t : Bool) → eqb m (left - n) ≡ t → eqb (n + m) left ≡ t
-    by_test true e = let k = eqb-true m (left - n) e in eq-eqb (n + m) left (omega arith)
-    by_test false e = ne_eqb (n + m) left (λ z. eqb-false m (left - n) e (omega arith))
-
-pub zero_left : (left : ℕ) → eqb 0 left ≡ eqb left 0
-zero_left zero = refl
-zero_left (suc left) = eqb-zero-suc left ∙ sym (eqb-suc-zero left)
+-- what is left of the count is 0 where the sum is the count
+pub none_left : (s left count : ℕ) → s + left ≡ count → eqb left 0 ≡ eqb s count
+none_left s zero count e = sym (eq-eqb s count (omega arith))
+none_left s (suc left) count e = eqb-suc-zero left ∙ sym (ne_eqb s count (λ z. omega arith))
 
 -- ---- the directory in a buffer
 

@@ -1,11 +1,10 @@
 -- Writing a log of segments, whose bytes are given joined together with their lengths.
+use Rattle.std.specs.Prelude.{None, Option, Result}
 use Rattle.std.specs.Prelude.{◌≡◌, List, [], ◌∷◌, ℕ, ◌+◌, leb, eqb, length, take, drop}
-use Rattle.std.proofs.Math.Option.{Option, none}
 use Rattle.answers.specs.Refusals.{first_failing, unless_refused}
 use Rattle.answers.specs.Answers.{answered}
 use Rattle.answers.specs.declared.Refusal.{Refusal}
 use Rattle.answers.specs.declared.Refusal.TheVariants.{BadLog, NoRoom}
-use Rattle.answers.specs.declared.Answer.{Answer}
 use Rattle.lists.specs.Write.{overwritten}
 use Rattle.log_layout.specs.Log.{LogEntry, log_of, longest_file, Sound}
 
@@ -37,7 +36,7 @@ write_refusal bytes lengths out =
     ∷ [])
 
 -- [I11-I13]
-abbrev pub write_answer : List ℕ → List ℕ → List ℕ → Answer
+abbrev pub write_answer : List ℕ → List ℕ → List ℕ → Result ℕ Refusal
 write_answer bytes lengths out = answered (write_refusal bytes lengths out) (length (written bytes lengths))
 
 -- [I11 I14]
@@ -47,5 +46,5 @@ write_out bytes lengths out = unless_refused (write_refusal bytes lengths out) o
 -- what is written is sound [I15]
 abbrev pub WritesSound : Type 0
 WritesSound =
-    (bytes lengths out : List ℕ) → write_refusal bytes lengths out ≡ none
+    (bytes lengths out : List ℕ) → write_refusal bytes lengths out ≡ None
     → Sound (take (length (written bytes lengths)) (write_out bytes lengths out))

@@ -7,7 +7,7 @@ ghost use Rattle.log_index.specs.Last.{index};
 ghost use Rattle.log_layout.specs.Log.{laid, numbers_of, segments_offset};
 ghost use Rattle.log_writer.specs.Writing.{sum, cut, directory_by, written, write_answer, write_out};
 
-use answers::{Answer, Refusal};
+use answers::Refusal;
 use log_index::INDEX_COUNT;
 use log_layout::{DIRECTORY, LOG_ENTRY, LOG_FRONT, LONGEST_FILE};
 
@@ -16,14 +16,12 @@ fn adds_up(lengths: &[u32], count: usize) -> bool
     ensures { result ≡ eqb (sum lengths.now) count }
 {
     let mut left = count;
-    let mut i = 0;
-    while i < lengths.len() {
-        let n = lengths[i] as usize;
+    for &length in lengths {
+        let n = length as usize;
         if left < n {
             return false;
         }
         left -= n;
-        i += 1;
     }
     left == 0
 }
@@ -34,12 +32,10 @@ fn put_directory(out: &mut [u8], lengths: &[u32])
         (laid (numbers_of (directory_by (segments_offset (length lengths.now)) lengths.now)) []) }
 {
     let mut start = LOG_FRONT + LOG_ENTRY * lengths.len();
-    let mut i = 0;
-    while i < lengths.len() {
-        let n = lengths[i] as usize;
+    for (i, &length) in lengths.iter().enumerate() {
+        let n = length as usize;
         log_parts::put_entry(out, i, start, n);
         start += n;
-        i += 1;
     }
 }
 
@@ -48,14 +44,12 @@ fn index_of(bytes: &[u8], lengths: &[u32]) -> [usize; INDEX_COUNT]
     requires { sum lengths.now ≤ length bytes.now }
     ensures { result ≡ index (cut lengths.now bytes.now) }
 {
-    let mut index = [0usize; INDEX_COUNT];
-    let mut start = 0;
-    let mut i = 0;
-    while i < lengths.len() {
-        let n = lengths[i] as usize;
-        i += 1;
-        log_index::mark(&mut index, &bytes[start..start + n], i);
-        start += n;
+    let mut index = [0; INDEX_COUNT];
+    let mut rest = bytes;
+    for (i, &length) in lengths.iter().enumerate() {
+        let (segment, behind) = rest.split_at(length as usize);
+        log_index::mark(&mut index, segment, i + 1);
+        rest = behind;
     }
     index
 }
@@ -76,23 +70,20 @@ const MOST_SEGMENTS: usize = 536870782;
 
 // Writes the log of the segments whose bytes are joined in `bytes` and whose lengths are `lengths`. Refused, in this order: lengths
 // that do not add up to the bytes given, a file that would be too long, no room. A refusal writes nothing. [I11-I14 N15]
-pub fn write(bytes: &[u8], lengths: &[u32], out: &mut [u8]) -> Answer
+pub fn write(bytes: &[u8], lengths: &[u32], out: &mut [u8]) -> Result<usize, Refusal>
     ensures value { result ≡ write_answer bytes.now lengths.now out.old }
     ensures out_after { out.new ≡ write_out bytes.now lengths.now out.old }
 {
-    if !adds_up(lengths, bytes.len()) {
-        return Answer::Refused(Refusal::BadLog);
-    }
-    if MOST_SEGMENTS < lengths.len() {
-        return Answer::Refused(Refusal::BadLog);
+    if !adds_up(lengths, bytes.len()) || MOST_SEGMENTS < lengths.len() {
+        return Err(Refusal::BadLog);
     }
     let first = LOG_FRONT + LOG_ENTRY * lengths.len();
     if LONGEST_FILE - first < bytes.len() {
-        return Answer::Refused(Refusal::BadLog);
+        return Err(Refusal::BadLog);
     }
     if out.len() < first + bytes.len() {
-        return Answer::Refused(Refusal::NoRoom);
+        return Err(Refusal::NoRoom);
     }
     put_log(out, bytes, lengths);
-    Answer::Count(first + bytes.len())
+    Ok(first + bytes.len())
 }

@@ -1,20 +1,20 @@
-// Results as C gets them: each result of a crate below becomes a number or a record of numbers. A function has the name of what
-// it converts.
+// Results as C gets them: each result of a crate below becomes a number or a record of numbers.
 #![tactic(auto)]
 
-ghost use Rattle.std.specs.Prelude.{◌≡◌, cond};
-ghost use Rattle.log_salvage.specs.declared.Salvaged.TheVariants.{Written as Salvaged-as-Written};
-ghost use Rattle.numbers.specs.Exported.{step_numbers, next_numbers, device_numbers, refusal_number, carried_numbers, found_numbers, salvaged_numbers, tested_number};
+ghost use Rattle.std.specs.Prelude.{◌≡◌};
+ghost use Rattle.std.specs.Result.{result_unwrap_or};
+ghost use Rattle.device_status.specs.Status.{silence};
+ghost use Rattle.device.specs.Results.{nothing_sent};
+ghost use Rattle.numbers.specs.Exported.{step_numbers, next_numbers, device_numbers, carried_numbers, found_numbers, salvaged_numbers, tested_number};
 
-use device::{CarriedOut, Replied, Response};
+use answers::Refusal;
+use device::Sent;
 use device_instructions::RegisteredWrite;
-use device_packet::CarriedPacket;
 use device_status::Reply;
-use line_log::Found;
-use log_salvage::{Figures, Salvaged};
-use plan_check::Tested;
-use reader_core::{Step, StepEvent};
-use reader_plain::Next;
+use line_log::Place;
+use log_salvage::Figures;
+use reader_core::{Event, Step};
+use reader_plain::Event as SegmentEvent;
 
 // What a feeding or gap call returns. kind 0: no event, from a gap call: nothing is left; 1: a packet of `count` bytes; 2: a bad
 // checksum; else the number of a refusal. `id` is that of the packet or of the bad checksum.
@@ -83,70 +83,78 @@ pub struct SalvagedNumbers {
 }
 
 // The packet's bytes are in the caller's buffer.
-pub fn step(answer: Step) -> StepNumbers
-    ensures { result ≡ step_numbers answer }
-{
-    let taken = answer.taken;
-    let event = answer.event;
-    match event {
-        StepEvent::Packet { id, size } => StepNumbers {
-            taken,
-            count: size,
-            kind: 1,
-            id,
-        },
-        StepEvent::BadChecksum { id } => StepNumbers {
-            taken,
-            count: 0,
-            kind: 2,
-            id,
-        },
-        StepEvent::Silent => StepNumbers {
-            taken,
-            count: 0,
-            kind: 0,
-            id: 0,
-        },
-        StepEvent::Refused(refusal) => StepNumbers {
-            taken,
-            count: 0,
-            kind: answers::number(refusal),
-            id: 0,
-        },
+impl From<Result<Step, Refusal>> for StepNumbers {
+    ghost from_gives = { λ answer numbers. numbers ≡ step_numbers answer };
+
+    fn from(answer: Result<Step, Refusal>) -> StepNumbers {
+        let step = match answer {
+            Ok(step) => step,
+            Err(refusal) => return StepNumbers {
+                taken: 0,
+                count: 0,
+                kind: u8::from(refusal),
+                id: 0,
+            },
+        };
+        let taken = step.taken;
+        match step.event {
+            Some(Event::Packet { id, size }) => StepNumbers {
+                taken,
+                count: size,
+                kind: 1,
+                id,
+            },
+            Some(Event::BadChecksum { id }) => StepNumbers {
+                taken,
+                count: 0,
+                kind: 2,
+                id,
+            },
+            None => StepNumbers {
+                taken,
+                count: 0,
+                kind: 0,
+                id: 0,
+            },
+        }
     }
 }
 
 // The packet's bytes are in the caller's segment.
-pub fn next(answer: Next) -> EventNumbers
-    ensures { result ≡ next_numbers answer }
-{
-    match answer {
-        Next::Packet {
-            offset,
-            count,
-            next,
-            id,
-        } => EventNumbers {
-            offset,
-            count,
-            next,
-            kind: 1,
-            id,
-        },
-        Next::BadChecksum { offset, next, id } => EventNumbers {
-            offset,
-            count: 0,
-            next,
-            kind: 2,
-            id,
-        },
-        Next::Nothing => EventNumbers {
-            offset: 0,
-            count: 0,
-            next: 0,
-            kind: 0,
-            id: 0,
-        },
+impl From<Option<SegmentEvent>> for EventNumbers {
+    ghost from_gives = { λ answer numbers. numbers ≡ next_numbers answer };
+
+    fn from(answer: Option<SegmentEvent>) -> EventNumbers {
+        let Some(event) = answer else {
+            return EventNumbers {
+                offset: 0,
+                count: 0,
+                next: 0,
+                kind: 0,
+                id: 0,
+            };
+        };
+        match event {
+            SegmentEvent::Packet {
+                offset,
+                count,
+                next,
+                id,
+            } => EventNumbers {
+                offset,
+                count,
+                next,
+                kind: 1,
+                id,
+            },
+            SegmentEvent::BadChecksum { offset, next, id } => EventNumbers {
+                offset,
+                count: 0,
+                next,
+                kind: 2,
+                id,
+            },
+        }
     }
 }
 
@@ -165,18 +173,18 @@ fn moved(registered: RegisteredWrite) -> RegisteredWrite
     }
 }
 
-pub fn response(answer: Response) -> DeviceNumbers
-    ensures { result ≡ device_numbers answer.replied answer.registered }
+// The status is in the caller's buffer.
+pub fn response(answer: Result<Sent, Refusal>, kept: RegisteredWrite) -> DeviceNumbers
+    ensures { result ≡ device_numbers answer kept }
 {
-    let registered = moved(answer.registered);
-    let replied = answer.replied;
-    match replied {
-        Replied::Sent(n, slot) => DeviceNumbers {
-            count: answers::exported_count(n),
-            slot,
+    let registered = moved(kept);
+    match answer {
+        Ok(sent) => DeviceNumbers {
+            count: answers::exported_count(sent.count),
+            slot: sent.slot,
             registered,
         },
-        Replied::Refused(refusal) => DeviceNumbers {
+        Err(refusal) => DeviceNumbers {
             count: answers::exported_refusal(refusal),
             slot: 0,
             registered,
@@ -184,103 +192,77 @@ pub fn response(answer: Response) -> DeviceNumbers
     }
 }
 
-// The refusal alone: 0 where nothing is refused.
-fn replied_refusal(replied: Replied) -> i64
-    ensures { result ≡ refusal_number replied }
-{
-    match replied {
-        Replied::Sent(_, _) => 0,
-        Replied::Refused(refusal) => answers::exported_refusal(refusal),
-    }
-}
-
-pub fn carried(answer: CarriedOut) -> CarriedNumbers
-    ensures { result ≡ carried_numbers answer.refused answer.reply answer.registered }
-{
-    let refused = answer.refused;
-    let reply = answer.reply;
-    let registered = answer.registered;
-    CarriedNumbers {
-        refusal: replied_refusal(refused),
-        reply,
-        registered,
-    }
-}
-
-pub fn carried_packet(answer: CarriedPacket) -> CarriedNumbers
-    ensures { result ≡ carried_numbers answer.refused answer.reply answer.registered }
-{
-    let refused = answer.refused;
-    let reply = answer.reply;
-    let registered = answer.registered;
-    CarriedNumbers {
-        refusal: replied_refusal(refused),
-        reply,
-        registered,
-    }
-}
-
-pub fn found(answer: Found) -> FoundNumbers
-    ensures { result ≡ found_numbers answer }
+// The reply that waits, which is silence beside a refusal.
+pub fn carried(answer: Result<Reply, Refusal>, registered: RegisteredWrite) -> CarriedNumbers
+    ensures { result ≡ carried_numbers (nothing_sent answer) (result_unwrap_or answer silence) registered }
 {
     match answer {
-        Found::At(segment, offset) => FoundNumbers {
-            found: 1,
-            segment,
-            offset,
+        Ok(reply) => CarriedNumbers {
+            refusal: 0,
+            reply,
+            registered,
         },
-        Found::Nowhere => FoundNumbers {
-            found: 0,
-            segment: 0,
-            offset: 0,
-        },
-        Found::Refused(refusal) => FoundNumbers {
-            found: answers::exported_refusal(refusal),
-            segment: 0,
-            offset: 0,
+        Err(refusal) => CarriedNumbers {
+            refusal: answers::exported_refusal(refusal),
+            reply: device_status::silence(),
+            registered,
         },
     }
 }
 
-fn flag(set: bool) -> u8
-    ensures { result ≡ cond set 1 0 }
-{
-    if set { 1 } else { 0 }
-}
+impl From<Result<Option<Place>, Refusal>> for FoundNumbers {
+    ghost from_gives = { λ answer numbers. numbers ≡ found_numbers answer };
 
-fn figures(f: Figures) -> SalvagedNumbers
-    ensures { result ≡ salvaged_numbers (Salvaged-as-Written f) }
-{
-    SalvagedNumbers {
-        count: answers::exported_count(f.count),
-        dropped: f.dropped,
-        index: f.index,
-        leftover: f.leftover,
-        header: flag(f.header),
+    fn from(answer: Result<Option<Place>, Refusal>) -> FoundNumbers {
+        match answer {
+            Ok(Some(Place { segment, offset })) => FoundNumbers {
+                found: 1,
+                segment,
+                offset,
+            },
+            Ok(None) => FoundNumbers {
+                found: 0,
+                segment: 0,
+                offset: 0,
+            },
+            Err(refusal) => FoundNumbers {
+                found: answers::exported_refusal(refusal),
+                segment: 0,
+                offset: 0,
+            },
+        }
     }
 }
 
-pub fn salvaged(answer: Salvaged) -> SalvagedNumbers
-    ensures { result ≡ salvaged_numbers answer }
-{
-    match answer {
-        Salvaged::Written(f) => figures(f),
-        Salvaged::Refused(refusal) => SalvagedNumbers {
-            count: answers::exported_refusal(refusal),
-            dropped: 0,
-            index: 0,
-            leftover: 0,
-            header: 0,
-        },
+impl From<Result<Figures, Refusal>> for SalvagedNumbers {
+    ghost from_gives = { λ answer numbers. numbers ≡ salvaged_numbers answer };
+
+    fn from(answer: Result<Figures, Refusal>) -> SalvagedNumbers {
+        match answer {
+            Ok(figures) => SalvagedNumbers {
+                count: answers::exported_count(figures.count),
+                dropped: figures.dropped,
+                index: figures.index,
+                leftover: figures.leftover,
+                header: u8::from(figures.header),
+            },
+            Err(refusal) => SalvagedNumbers {
+                count: answers::exported_refusal(refusal),
+                dropped: 0,
+                index: 0,
+                leftover: 0,
+                header: 0,
+            },
+        }
     }
 }
 
-pub fn tested(answer: Tested) -> i64
+// 1 for a plan of the wanted goals, 0 for other bytes.
+pub fn tested(answer: Result<bool, Refusal>) -> i64
     ensures { result ≡ tested_number answer }
 {
     match answer {
-        Tested::Accepted => 1,
-        Tested::NotPlan => 0,
-        Tested::Refused(refusal) => answers::exported_refusal(refusal),
+        Ok(is_plan) => i64::from(is_plan),
+        Err(refusal) => answers::exported_refusal(refusal),
     }
 }

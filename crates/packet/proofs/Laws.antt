@@ -1,18 +1,18 @@
 -- Protocol 2.0 keeps the laws of packet rules.
 use mathlib.Core.Path.{◌≡◌, refl, sym, ap, ◌∙◌}
 use mathlib.Core.Bool.{Bool, true, false, ◌&&◌}
-use mathlib.Core.List.{List, [], ◌++◌}
-use Prim.Native.Nat.{ℕ, ◌+◌, ◌≤◌}
+use mathlib.Core.List.{List, ◌++◌}
+use Prim.Native.Nat.{ℕ, ◌≤◌}
 use native.Mathlib.Omega.{arith}
 use lib.Dec.{eqb}
 use lib.ListN.{length, take, get_or}
 use lib.Seq.{take-length}
 use borrow.Author.Tests.{eq-eqb}
 use Rattle.lists.proofs.Bools.{and_left, and_right}
-use Rattle.reading.specs.Rules.{Verdict, Laws, is_packet, is_waiting}
+use Rattle.reading.specs.Rules.{Laws, is_packet, is_waiting}
 use Rattle.reading.specs.Progress.{Settles}
 use Rattle.stuffing.specs.Stuffing.{well_stuffed}
-use Rattle.packet_rules.specs.Shape.{lacks, verdict}
+use Rattle.packet_rules.specs.Shape.{verdict}
 use Rattle.packet_rules.specs.Answers.{settled_by}
 use Rattle.packet_rules.proofs.Asked.{ShapeLaws}
 use Rattle.packet_rules.proofs.Bytes.{passes, passed}

@@ -1,15 +1,14 @@
 -- Where all bytes of a packet are there, by header, ID and length field, what is said of them is the verdict.
-use mathlib.Core.Path.{◌≡◌, sym, ap, ◌∙◌}
-use mathlib.Core.List.{List, ◌++◌}
-use Prim.Native.Nat.{ℕ, ◌+◌, ◌-◌, ◌≤◌}
+use mathlib.Core.Path.{◌≡◌, ◌∙◌}
+use mathlib.Core.List.{List}
+use Prim.Native.Nat.{ℕ, ◌≤◌}
 use native.Mathlib.Omega.{arith}
-use lib.ListN.{length, take, drop}
+use lib.ListN.{length, take}
 use lib.Seq.{take-take}
 use borrow.Author.Tests.{le-ltb}
 use Rattle.lists.proofs.Bools.{and_left}
 use Rattle.packet_rules.specs.Answers.{front_by, answer_for, answer_by}
 use Rattle.packet_rules.specs.declared.Front.TheVariants.{Whole}
-use Rattle.packet_rules.specs.declared.Verdict.{Verdict}
 use Rattle.packet_rules.proofs.Peeks.{peek_agrees, peek_front, peek_long}
 use Rattle.packet_rules.proofs.Peeks.{peek_length, peek_whole as whole-judged}
 use Rattle.packet_front.specs.Front.{header}

@@ -8,23 +8,22 @@ ghost use Rattle.packet_front.specs.Front.{header};
 ghost use Rattle.packet.specs.Packet.{body_of};
 ghost use Rattle.packet.specs.Verdict.{whole_answer};
 
-use answers::Answer;
+use answers::Refusal;
 use packet_rules::Verdict;
-use stuffing::Checked;
 
 // The body as a part of the packet, between length field and checksum; empty if there is no room for both. [S2 S7]
 pub fn body(packet: &[u8]) -> &[u8]
     ensures { result.now ≡ body_of packet.now }
 {
     if packet.len() < 9 {
-        &packet[..0]
+        &[]
     } else {
         &packet[7..packet.len() - 2]
     }
 }
 
 // Writes the packet's body without its stuffing to the start of out; refused as `unstuff_into` is. [N3 N4 S7]
-pub fn unstuff(packet: &[u8], out: &mut [u8]) -> Answer
+pub fn unstuff(packet: &[u8], out: &mut [u8]) -> Result<usize, Refusal>
     ensures value { result ≡ removal_answer (body_of packet.now) out.old }
     ensures out_after { out.new ≡ removal_out (body_of packet.now) out.old }
 {
@@ -52,10 +51,10 @@ pub fn judge_whole(packet: &[u8]) -> Verdict
     }
     let end = n - 2;
     let crc = checksum(&packet[4..end]);
-    if (crc as usize) != packet_front::word(packet[end], packet[end + 1]) {
+    if crc != packet_front::word(packet[end], packet[end + 1]) {
         return Verdict::BadChecksum(packet[4]);
     }
-    let Checked::Good(_) = stuffing::check(body(packet)) else {
+    let Some(_) = stuffing::check(body(packet)) else {
         return Verdict::Nothing;
     };
     Verdict::Packet(n)

@@ -1,10 +1,11 @@
 -- Laws on lists that only this crate needs.
-use mathlib.Core.Path.{◌≡◌, refl, sym, ap, ◌∙◌}
+use mathlib.Core.Path.{◌≡◌, refl, sym, ap}
 use mathlib.Core.List.{List, [], ◌∷◌, ◌++◌}
 use Prim.Native.Nat.{ℕ, zero, suc, ◌+◌, ◌-◌, ◌≤◌, ◌<◌}
 use native.Mathlib.Omega.{arith}
-use lib.ListN.{length, take, drop, set, get_or}
-use lib.Seq.{take_all, drop-set-lt}
+use lib.ListN.{length, take, drop, set, get_or, length-append, length-take}
+use lib.Seq.{take_all, drop-set-lt, paste}
+use Rattle.std.proofs.Common.{append_assoc}
 use Rattle.lists.specs.Write.{overwritten, placed}
 
 -- the byte that was stored, and those behind it
@@ -12,13 +13,6 @@ pub set_here : (o : List ℕ) (i a : ℕ) → i < length o → drop i (set o i a
 set_here [] i a h = absurd (omega arith)
 set_here (x ∷ o) zero a h = refl
 set_here (x ∷ o) (suc i) a h = set_here o i a (omega arith)
-
--- eight bytes copied to the start
-pub eight_placed : (o : List ℕ) (a b c d e f g h : ℕ) → 8 ≤ length o
-    → placed o 0 (take (length o - 0) (a ∷ b ∷ c ∷ d ∷ e ∷ f ∷ g ∷ h ∷ [])) ≡ overwritten (set o 7 h) (a ∷ b ∷ c ∷ d ∷ e ∷ f ∷ g ∷ [])
-eight_placed o a b c d e f g h l =
-    ap (placed o 0) (take_all (length o - 0) (a ∷ b ∷ c ∷ d ∷ e ∷ f ∷ g ∷ h ∷ []) (omega arith))
-    ∙ ap (λ (t : List ℕ). a ∷ b ∷ c ∷ d ∷ e ∷ f ∷ g ∷ t) (sym (set_here o 7 h (omega arith)))
 
 -- a byte that stands there first, and others copied after it
 pub first_placed : (o : List ℕ) (a : ℕ) (s : List ℕ) → suc (length s) ≤ length o → get_or o 0 0 ≡ a
@@ -30,12 +24,11 @@ first_placed (x ∷ o) a s h e = rw (sym e, take_all (suc (length o) - 1) s (ome
 pub set_under : (o : List ℕ) (i a : ℕ) (s : List ℕ) → i < length s → overwritten (set o i a) s ≡ overwritten o s
 set_under o i a s h = ap (λ (t : List ℕ). s ++ t) (drop-set-lt (length s) o i a h)
 
--- two bytes stored after the first i
-pub set_two : (o : List ℕ) (i a b : ℕ) → i + 2 ≤ length o → set (set o i a) (suc i) b ≡ overwritten o (take i o ++ a ∷ b ∷ [])
-set_two [] i a b h = absurd (omega arith)
-set_two (x ∷ []) i a b h = absurd (omega arith)
-set_two (x ∷ y ∷ o) zero a b h = refl
-set_two (x ∷ y ∷ o) (suc i) a b h = ap (λ (l : List ℕ). x ∷ l) (set_two (y ∷ o) i a b (omega arith))
+-- bytes copied behind the first i
+pub pasted : (o s : List ℕ) (i n : ℕ) → n ≡ length s → i + n ≤ length o → paste o i s n ≡ overwritten o (take i o ++ s)
+pasted o s i n e h =
+    let k : length (take i o ++ s) ≡ i + n = simp (length-append, length-take) (omega arith) in
+    rw (k, take_all n s (omega arith)) (simp append_assoc)
 
 -- the first four bytes, the three after them and the rest
 pub seven_apart : (w : List ℕ) → 7 ≤ length w

@@ -1,11 +1,10 @@
 -- What the encoder answers and leaves. The body is the instruction byte followed by the parameters.
+use Rattle.std.specs.Prelude.{Option, Result}
 use Rattle.std.specs.Prelude.{List, [], ◌∷◌, ℕ, ◌+◌, leb, length}
-use Rattle.std.proofs.Math.Option.{Option}
 use Rattle.answers.specs.Refusals.{first_failing, unless_refused}
 use Rattle.answers.specs.Answers.{answered}
 use Rattle.answers.specs.declared.Refusal.{Refusal}
 use Rattle.answers.specs.declared.Refusal.TheVariants.{BadId, TooLong, NoRoom}
-use Rattle.answers.specs.declared.Answer.{Answer}
 use Rattle.lists.specs.Write.{placed}
 use Rattle.stuffing.specs.Stuffing.{stuff}
 use Rattle.packet_front.specs.Front.{good_id}
@@ -21,7 +20,7 @@ encode_refusal id body out at =
     ∷ [])
 
 -- [E1 E3]
-abbrev pub encode_answer : ℕ → List ℕ → List ℕ → ℕ → Answer
+abbrev pub encode_answer : ℕ → List ℕ → List ℕ → ℕ → Result ℕ Refusal
 encode_answer id body out at = answered (encode_refusal id body out at) (length (packet_of id body))
 
 -- the bytes before `at` and after the packet stay [E2 E4 E8 E9]

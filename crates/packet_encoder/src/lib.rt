@@ -8,8 +8,7 @@ ghost use Rattle.packet_front.specs.Front.{header};
 ghost use Rattle.packet_encoder.specs.Writing.{front, with_checksum, packet_of};
 ghost use Rattle.packet_encoder.specs.Encoding.{encode_answer, encode_out};
 
-use answers::{Answer, Refusal};
-use stuffing_writer::Length;
+use answers::Refusal;
 
 // Writes header, ID, length field and instruction, for a stuffed body of n bytes, to the start of out: as one array, so that the
 // compiler makes one store of it, and the checksum does not wait for several.
@@ -17,10 +16,8 @@ fn write_front(id: u8, n: usize, instruction: u8, out: &mut [u8])
     requires { (n ≤ 1022) × (8 ≤ length out.old) }
     ensures { out.new ≡ overwritten (set out.old 7 instruction) (front id n) }
 {
-    let low = ((n + 2) % 256) as u8;
-    let high = ((n + 2) / 256 % 256) as u8;
-    let front = [0xFF, 0xFF, 0xFD, 0x00, id, low, high, instruction];
-    buffers::place(out, 0, &front);
+    let [low, high] = ((n + 2) as u16).to_le_bytes();
+    out[..8].copy_from_slice(&[0xFF, 0xFF, 0xFD, 0x00, id, low, high, instruction]);
 }
 
 // Writes the checksum of the first `end` bytes, which begin with the header, right after them.
@@ -29,8 +26,7 @@ fn write_checksum(out: &mut [u8], end: usize)
     ensures { out.new ≡ overwritten out.old (with_checksum (take end out.old)) }
 {
     let crc = packet::checksum(&out[4..end]);
-    out[end] = (crc % 256) as u8;
-    out[end + 1] = (crc / 256 % 256) as u8;
+    out[end..end + 2].copy_from_slice(&crc.to_le_bytes());
 }
 
 // Writes the stuffed body of n bytes to the start of out, which has room for it and begins with the instruction. Where nothing is
@@ -59,26 +55,25 @@ fn write_packet(id: u8, instruction: u8, params: &[u8], n: usize, out: &mut [u8]
 // Writes the packet with this ID, instruction and parameters to out from `at` on. Refused, in this order: an ID that is not
 // allowed, a length field past 1,024, no room from `at` on (`at` may lie past the end). A refusal writes nothing.
 // [C4 N1 N2 N4 N10-N12 N14 P1-P9 S2]
-pub fn encode(id: u8, instruction: u8, params: &[u8], out: &mut [u8], at: usize) -> Answer
+pub fn encode(
+    id: u8,
+    instruction: u8,
+    params: &[u8],
+    out: &mut [u8],
+    at: usize,
+) -> Result<usize, Refusal>
     ensures value { result ≡ encode_answer id (instruction ∷ params.now) out.old at }
     ensures out_after { out.new ≡ encode_out id (instruction ∷ params.now) out.old at }
 {
     if !packet_front::good_id(id) {
-        return Answer::Refused(Refusal::BadId);
+        return Err(Refusal::BadId);
     }
-    let Length::Within(n) = stuffing_writer::stuffed_len(
-        instruction,
-        params,
-        packet_front::MAX_BODY,
-    ) else {
-        return Answer::Refused(Refusal::TooLong);
+    let Some(n) = stuffing_writer::stuffed_len(instruction, params, packet_front::MAX_BODY) else {
+        return Err(Refusal::TooLong);
     };
-    if out.len() < at {
-        return Answer::Refused(Refusal::NoRoom);
-    }
-    if out.len() - at < n + 9 {
-        return Answer::Refused(Refusal::NoRoom);
+    if out.len().saturating_sub(at) < n + 9 {
+        return Err(Refusal::NoRoom);
     }
     write_packet(id, instruction, params, n, &mut out[at..]);
-    Answer::Count(n + 9)
+    Ok(n + 9)
 }

@@ -8,7 +8,7 @@ use Rattle.reading.specs.Rules.{is_packet}
 use Rattle.reading.proofs.Decided.{well}
 use Rattle.packet_rules.specs.Shape.{rules}
 use Rattle.packet_rules.specs.Shape.{verdict as shapeVerdict}
-use Rattle.packet_v1.specs.Packet.{up_to, last_of_p1, last_of_mercury, sum, body_of, checksum_right, WellFormed}
+use Rattle.packet_v1.specs.Packet.{up_to, last_of_p1, last_of_mercury, sum, body_of, checksum_right}
 use Rattle.packet_v1.specs.Verdict.{shape_up_to, front_agrees, length_agrees}
 use Rattle.packet_v1.proofs.Kept.{rules_kept}
 use Rattle.packet_encoder_v1.specs.Writing.{packet_of}

@@ -6,16 +6,6 @@ use native.Mathlib.Omega.{arith}
 use lib.ListN.{length, take, drop, set, get_or}
 use Rattle.lists.specs.Write.{overwritten}
 
--- the first five bytes stored one by one
-pub set_five : (o : List ℕ) (a b c d e : ℕ) → 5 ≤ length o
-    → set (set (set (set (set o 0 a) 1 b) 2 c) 3 d) 4 e ≡ a ∷ b ∷ c ∷ d ∷ e ∷ drop 5 o
-set_five [] a b c d e h = absurd (omega arith)
-set_five (x0 ∷ []) a b c d e h = absurd (omega arith)
-set_five (x0 ∷ x1 ∷ []) a b c d e h = absurd (omega arith)
-set_five (x0 ∷ x1 ∷ x2 ∷ []) a b c d e h = absurd (omega arith)
-set_five (x0 ∷ x1 ∷ x2 ∷ x3 ∷ []) a b c d e h = absurd (omega arith)
-set_five (x0 ∷ x1 ∷ x2 ∷ x3 ∷ x4 ∷ o) a b c d e h = refl
-
 -- one byte more, right behind what was written
 pub set_next : (o x : List ℕ) (a : ℕ) → length x < length o → set (overwritten o x) (length x) a ≡ overwritten o (x ++ a ∷ [])
 set_next [] x a h = absurd (omega arith)

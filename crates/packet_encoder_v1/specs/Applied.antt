@@ -1,5 +1,5 @@
 -- What is promised of writing and reading back, applied to the published Read, in both protocols.
-use Rattle.std.specs.Prelude.{◌≡◌, true, List, [], ◌∷◌, ◌++◌, ℕ, ◌+◌, ◌≤◌, ◌<◌, length, replicate}
+use Rattle.std.specs.Prelude.{◌≡◌, true, List, [], ◌∷◌, ◌++◌, ℕ, ◌+◌, ◌≤◌, ◌<◌, replicate}
 use Rattle.reading.specs.Rules.{is_packet}
 use Rattle.packet_rules.specs.Shape.{verdict}
 use Rattle.packet_v1.specs.Packet.{up_to, last_of_p1, last_of_mercury, WellFormed, id_of, body_of}

@@ -1,12 +1,11 @@
 -- What the encoder answers and leaves, by the IDs that are allowed. The body is the instruction or error byte followed by the
 -- parameters.
+use Rattle.std.specs.Prelude.{Option, Result}
 use Rattle.std.specs.Prelude.{Bool, List, [], ◌∷◌, ℕ, ◌+◌, leb, length}
-use Rattle.std.proofs.Math.Option.{Option}
 use Rattle.answers.specs.Refusals.{first_failing, unless_refused}
 use Rattle.answers.specs.Answers.{answered}
 use Rattle.answers.specs.declared.Refusal.{Refusal}
 use Rattle.answers.specs.declared.Refusal.TheVariants.{BadId, TooLong, NoRoom}
-use Rattle.answers.specs.declared.Answer.{Answer}
 use Rattle.lists.specs.Write.{placed}
 use Rattle.packet_encoder_v1.specs.Writing.{packet_of}
 
@@ -20,7 +19,7 @@ module _ (good : ℕ → Bool) where
       ∷ [])
 
   -- [O9]
-  abbrev pub encode_answer : ℕ → List ℕ → List ℕ → ℕ → Answer
+  abbrev pub encode_answer : ℕ → List ℕ → List ℕ → ℕ → Result ℕ Refusal
   encode_answer id body out at = answered (encode_refusal id body out at) (length (packet_of id body))
 
   -- the bytes before `at` and after the packet stay [N12 N14 O9 O10]

@@ -8,26 +8,25 @@ ghost use Rattle.packet_v1.specs.Packet.{up_to, checksum_of};
 ghost use Rattle.packet_encoder_v1.specs.Writing.{packet_of};
 ghost use Rattle.packet_encoder_v1.specs.Encoding.{encode_answer, encode_out};
 
-use answers::{Answer, Refusal};
+use answers::Refusal;
+
+// As many as a length of 255 counts, with the instruction and the checksum.
+const MOST_PARAMETERS: usize = 253;
 
 // Writes header, ID, length and instruction to the start of out.
 fn write_front(id: u8, count: u8, instruction: u8, out: &mut [u8])
     requires { 5 ≤ length out.old }
     ensures { out.new ≡ overwritten out.old (0xFF ∷ 0xFF ∷ id ∷ count ∷ instruction ∷ []) }
 {
-    out[0] = 0xFF;
-    out[1] = 0xFF;
-    out[2] = id;
-    out[3] = count;
-    out[4] = instruction;
+    out[..5].copy_from_slice(&[0xFF, 0xFF, id, count, instruction]);
 }
 
 // The checksum, computed from what is written and not from the buffer, which has just been stored to.
 fn checksum(id: u8, count: u8, instruction: u8, params: &[u8]) -> u8
     ensures { result ≡ checksum_of (id ∷ count ∷ instruction ∷ params.now) }
 {
-    let front = ((id as usize) + (count as usize) + (instruction as usize)) % 256;
-    255 - packet_v1::sum_from(front as u8, params)
+    let front = id.wrapping_add(count).wrapping_add(instruction);
+    255 - packet_v1::sum_from(front, params)
 }
 
 // Writes the packet to the start of out, which has room for it.
@@ -44,23 +43,27 @@ fn write_packet(id: u8, instruction: u8, params: &[u8], out: &mut [u8])
 // Writes the packet with this ID, instruction or error byte and parameters to out from `at` on; the IDs of devices end with
 // `last`. Refused, in this order: an ID that is not allowed, a length past 255, no room from `at` on (`at` may lie past the end).
 // A refusal writes nothing. [N1 N2 N4 N10-N12 N14 O1-O5]
-pub fn encode(last: u8, id: u8, instruction: u8, params: &[u8], out: &mut [u8], at: usize) -> Answer
+pub fn encode(
+    last: u8,
+    id: u8,
+    instruction: u8,
+    params: &[u8],
+    out: &mut [u8],
+    at: usize,
+) -> Result<usize, Refusal>
     ensures value { result ≡ encode_answer (up_to last) id (instruction ∷ params.now) out.old at }
     ensures out_after { out.new ≡ encode_out (up_to last) id (instruction ∷ params.now) out.old at }
 {
     if !packet_v1::good_id(last, id) {
-        return Answer::Refused(Refusal::BadId);
+        return Err(Refusal::BadId);
     }
     let n = params.len();
-    if 253 < n {
-        return Answer::Refused(Refusal::TooLong);
+    if MOST_PARAMETERS < n {
+        return Err(Refusal::TooLong);
     }
-    if out.len() < at {
-        return Answer::Refused(Refusal::NoRoom);
-    }
-    if out.len() - at < n + 6 {
-        return Answer::Refused(Refusal::NoRoom);
+    if out.len().saturating_sub(at) < n + 6 {
+        return Err(Refusal::NoRoom);
     }
     write_packet(id, instruction, params, &mut out[at..]);
-    Answer::Count(n + 6)
+    Ok(n + 6)
 }

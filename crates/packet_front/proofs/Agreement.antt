@@ -1,12 +1,12 @@
 -- Agreement with header, ID and length field: what a beginning says of the whole, and the whole of its beginning.
 use mathlib.Core.Path.{◌≡◌, refl, sym, ap, ◌∙◌}
-use mathlib.Core.Bool.{Bool, true, false, ◌&&◌, ◌||◌}
+use mathlib.Core.Bool.{Bool, true, false, ◌&&◌}
 use mathlib.Core.List.{List, ◌++◌}
-use Prim.Native.Nat.{ℕ, ◌+◌, ◌≤◌, ◌<◌}
+use Prim.Native.Nat.{ℕ, ◌+◌, ◌≤◌}
 use native.Mathlib.Omega.{arith}
 use lib.Dec.{leb, ltb, eqb}
 use lib.ListN.{length, take, get_or, length-append, get_or-append}
-use borrow.Author.Tests.{eqb-true, leb-true, leb-false, ltb-false, lt-leb, le-ltb}
+use borrow.Author.Tests.{eqb-true, leb-true, ltb-false, le-ltb}
 use Rattle.lists.proofs.Bools.{and_left, and_right, or_right}
 use Rattle.packet_rules.specs.Shape.{so_far}
 use Rattle.packet_rules.proofs.Bytes.{passes, same_test, passes_before}

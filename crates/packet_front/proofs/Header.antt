@@ -1,16 +1,14 @@
 -- The header as a number, and what a packet's first bytes say: all of the header, or as much of it as is there.
 use mathlib.Core.Path.{◌≡◌, refl, sym, ap, ◌∙◌}
-use mathlib.Core.Bool.{Bool, true, false, ◌&&◌, ◌||◌, and-false}
+use mathlib.Core.Bool.{Bool, true, false, ◌&&◌}
 use mathlib.Core.List.{List, [], ◌∷◌}
-use Prim.Native.Nat.{ℕ, ◌+◌, ◌*◌, ◌≤◌, ◌<◌}
+use Prim.Native.Nat.{ℕ, ◌+◌, ◌*◌, ◌≤◌}
 use native.Mathlib.Omega.{arith}
-use lib.Dec.{leb, ltb, eqb}
-use lib.ListN.{length, get_or}
-use borrow.Author.Tests.{eqb-true, eqb-false, eq-eqb, ne_eqb, le-leb, lt-leb, lt-ltb, le-ltb}
-use Rattle.lists.specs.Numbers.{number_at}
-use Rattle.lists.proofs.Numbers.{sum_is}
-use Rattle.packet_rules.specs.Shape.{so_far}
-use Rattle.packet_front.specs.Header.{header_agrees, headed, may_begin}
+use lib.Dec.{eqb}
+use lib.ListN.{length}
+use borrow.Author.Tests.{eqb-true, eqb-false, eq-eqb, ne_eqb, le-leb, lt-leb}
+use Rattle.std.specs.Int.{w32, from_le_bytes}
+use Rattle.packet_front.specs.Header.{header_agrees, headed}
 
 module _ (a b c d : ℕ) where
   abbrev number : ℕ
@@ -18,10 +16,9 @@ module _ (a b c d : ℕ) where
 
   -- four bytes are the header's where their number is
   pub as_number : a ≤ 255 → b ≤ 255 → c ≤ 255 → d ≤ 255
-      → eqb (number_at (a ∷ b ∷ c ∷ d ∷ []) 0 4) 0x00FDFFFF ≡ (eqb 0xFF a && (eqb 0xFF b && (eqb 0xFD c && eqb 0x00 d)))
+      → eqb (from_le_bytes w32 (a ∷ b ∷ c ∷ d ∷ [])) 0x00FDFFFF ≡ (eqb 0xFF a && (eqb 0xFF b && (eqb 0xFD c && eqb 0x00 d)))
   as_number h i j k =
-      ap (λ (n : ℕ). eqb n 0x00FDFFFF) (sym (sum_is a b c d))
-      ∙ go (eqb 0xFF a) (eqb 0xFF b) (eqb 0xFD c) (eqb 0x00 d) refl refl refl refl
+      go (eqb 0xFF a) (eqb 0xFF b) (eqb 0xFD c) (eqb 0x00 d) refl refl refl refl
     where
       go : (p q r s : Bool) → eqb 0xFF a ≡ p → eqb 0xFF b ≡ q → eqb 0xFD c ≡ r → eqb 0x00 d ≡ s
           → eqb number 0x00FDFFFF ≡ (p && (q && (r && s)))
@@ -34,15 +31,6 @@ module _ (a b c d : ℕ) where
           (omega (arith, eqb-true 0xFF a e, eqb-true 0xFF b f, eqb-true 0xFD c g, eqb-true 0x00 d t))
 
 module _ (s : List ℕ) where
-  pub headed_short : length s < 4 → headed s ≡ false
-  unfolding headed
-  headed_short h = rw (lt-leb 4 (length s) h)
-
-  pub headed_by : 4 ≤ length s
-      → headed s ≡ (eqb 0xFF (get_or s 0 0) && (eqb 0xFF (get_or s 1 0) && (eqb 0xFD (get_or s 2 0) && eqb 0x00 (get_or s 3 0))))
-  unfolding headed
-  headed_by h = rw (le-leb 4 (length s) h)
-
   -- where four bytes are there, all of the header is, or they disagree
   pub agrees_whole : 4 ≤ length s → header_agrees s ≡ headed s
   unfolding headed
@@ -54,25 +42,3 @@ module _ (s : List ℕ) where
         lt-leb (length s) 2 (omega arith),
         lt-leb (length s) 3 (omega arith),
       )
-
-  -- the fourth byte is not there
-  pub fourth_later : length s < 4 → so_far s 3 (eqb 0x00) ≡ true
-  fourth_later h = rw (le-leb (length s) 3 (omega arith))
-
-  -- whether a packet may begin here, test by test
-  pub begin_none : length s ≡ 0 → may_begin s ≡ false
-  unfolding may_begin
-  begin_none h = rw (le-ltb 0 (length s) (omega (arith, h)))
-
-  pub begin_other : (get_or s 0 0 ≡ 0xFF → ⊥) → may_begin s ≡ false
-  unfolding may_begin
-  begin_other n = simp (ne_eqb 0xFF (get_or s 0 0) (λ e. n (sym e)), and-false)
-
-  module _ (h : 0 < length s) (e : get_or s 0 0 ≡ 0xFF) where
-    pub begin_cut : length s < 4 → may_begin s ≡ true
-    unfolding may_begin
-    begin_cut k = rw (lt-ltb 0 (length s) h, eq-eqb 0xFF (get_or s 0 0) (sym e), lt-ltb (length s) 4 k)
-
-    pub begin_by : 4 ≤ length s → may_begin s ≡ headed s
-    unfolding may_begin
-    begin_by k = rw (lt-ltb 0 (length s) h, eq-eqb 0xFF (get_or s 0 0) (sym e), le-ltb (length s) 4 k)

@@ -22,35 +22,16 @@ pub const MAX_BODY: usize = 1022;
 pub const MAX_LENGTH: usize = 1024;
 
 // A 16-bit number, low byte first.
-pub fn word(low: u8, high: u8) -> usize
+pub fn word(low: u8, high: u8) -> u16
     ensures { result ≡ front_word low high }
 {
-    (low as usize) + (high as usize) * 256
+    u16::from_le_bytes([low, high])
 }
 
 pub fn good_id(id: u8) -> bool
     ensures { result ≡ good_id id }
 {
     id <= MAX_ID || id == BROADCAST_ID
-}
-
-// Whether byte i is `value`, or is not there yet.
-fn byte_agrees(s: &[u8], i: usize, value: u8) -> bool
-    ensures { result ≡ so_far s.now i (eqb value) }
-{
-    if s.len() <= i {
-        return true;
-    }
-    value == s[i]
-}
-
-fn id_agrees(s: &[u8]) -> bool
-    ensures { result ≡ so_far s.now 4 good_id }
-{
-    if s.len() <= 4 {
-        return true;
-    }
-    good_id(s[4])
 }
 
 // The header as a number, low byte first.
@@ -60,10 +41,7 @@ const HEADER: u32 = 0x00FDFFFF;
 fn has_header(s: &[u8]) -> bool
     ensures { result ≡ headed s.now }
 {
-    if s.len() < 4 {
-        return false;
-    }
-    buffers::number_of(s[0], s[1], s[2], s[3]) == HEADER
+    4 <= s.len() && u32::from_le_bytes([s[0], s[1], s[2], s[3]]) == HEADER
 }
 
 // Whether the bytes that are there agree with the header.
@@ -71,39 +49,22 @@ fn header_agrees(s: &[u8]) -> bool
     ensures { result ≡ header_agrees s.now }
 {
     if 4 <= s.len() {
-        return has_header(s);
+        has_header(s)
+    } else {
+        [0xFF, 0xFF, 0xFD].starts_with(s)
     }
-    if !byte_agrees(s, 0, 0xFF) {
-        return false;
-    }
-    if !byte_agrees(s, 1, 0xFF) {
-        return false;
-    }
-    byte_agrees(s, 2, 0xFD)
 }
 
 // And with the ID. [V8]
 pub fn front_agrees(s: &[u8]) -> bool
     ensures { result ≡ front_agrees s.now }
 {
-    if !header_agrees(s) {
-        return false;
-    }
-    id_agrees(s)
+    header_agrees(s) && s.get(4).is_none_or(|&id| good_id(id))
 }
 
 // Whether a packet may begin with these bytes. [V8]
 pub fn may_begin(s: &[u8]) -> bool
     ensures { result ≡ may_begin s.now }
 {
-    if s.len() == 0 {
-        return false;
-    }
-    if s[0] != 0xFF {
-        return false;
-    }
-    if s.len() < 4 {
-        return true;
-    }
-    has_header(s)
+    !s.is_empty() && s[0] == 0xFF && (s.len() < 4 || has_header(s))
 }

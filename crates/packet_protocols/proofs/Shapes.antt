@@ -1,18 +1,17 @@
 -- The shape of each protocol's packets: what the code asks of the front is agreement with it, and the laws hold.
 use mathlib.Core.Path.{◌≡◌, refl, sym, ap, ◌∙◌}
-use mathlib.Core.Bool.{Bool, true, false, ◌&&◌, and-false}
+use mathlib.Core.Bool.{true, false, ◌&&◌}
 use mathlib.Core.List.{List, [], ◌∷◌}
 use Prim.Native.Nat.{ℕ, ◌+◌, ◌-◌, ◌≤◌, ◌<◌}
 use native.Mathlib.Omega.{arith}
 use lib.Dec.{leb}
 use lib.ListN.{length, take, drop, get_or}
-use borrow.Author.Tests.{le-leb, lt-leb, lt-ltb, le-ltb}
+use borrow.Author.Tests.{lt-ltb, le-ltb}
 use Rattle.lists.proofs.Bools.{and_left}
 use Rattle.reading.specs.Rules.{Laws}
 use Rattle.reading.specs.Progress.{Settles}
 use Rattle.reading.proofs.Ahead.{NoneBegins}
-use Rattle.packet_rules.specs.Shape.{lacks}
-use Rattle.packet_rules.specs.Answers.{front_by, settled_by, answer_for, answer_by}
+use Rattle.packet_rules.specs.Answers.{front_by, settled_by, answer_by}
 use Rattle.packet_rules.specs.Starts.{before_start}
 use Rattle.packet_rules.specs.declared.Front.TheVariants.{Whole}
 use Rattle.packet_rules.specs.declared.Verdict.{Verdict}
@@ -26,13 +25,12 @@ use Rattle.packet_front.proofs.Starts.{front_begins as begins2}
 use Rattle.packet.proofs.Laws.{shape_laws as laws2}
 use Rattle.packet.proofs.Peeks.{peek_whole as whole2}
 use Rattle.packet_v1.specs.Packet.{up_to, last_of_p1, last_of_mercury}
-use Rattle.packet_v1.specs.Packet.{length_of as lengthOf1}
-use Rattle.packet_v1.specs.Verdict.{judged, shape_up_to}
-use Rattle.packet_v1.specs.Verdict.{length_agrees as lengthAgrees1, front_agrees as frontAgrees1, may_begin as mayBegin1}
+use Rattle.packet_v1.specs.Verdict.{shape_up_to}
+use Rattle.packet_v1.specs.Verdict.{length_agrees as lengthAgrees1}
 use Rattle.packet_v1.proofs.Laws.{shape_laws as laws1, front_begins as begins1}
 use Rattle.packet_protocols.specs.declared.Protocol.{Protocol}
 use Rattle.packet_protocols.specs.declared.Protocol.TheVariants.{Two, One, Mercury}
-use Rattle.packet_protocols.specs.Protocols.{shape_of, rules_of, id_in, id_offset, last_of, front_agrees_of, length_in, least_length, greatest_length, may_begin_of, whole_of}
+use Rattle.packet_protocols.specs.Protocols.{shape_of, rules_of, id_in, id_offset, front_agrees_of, length_in, least_length, greatest_length, may_begin_of, whole_of}
 
 -- ---- the laws
 
@@ -74,7 +72,7 @@ module _ (s : List ℕ) where
 
   -- and where it is
   module _ (p : Protocol) (e : front_agrees_of p s ≡ true) (h : (shape_of p).front ≤ length s) where
-    by_length : (shape_of p).agrees s ≡ (leb (least_length p) (length_in p s) && leb (length_in p s) (greatest_length p))
+    pub by_length : (shape_of p).agrees s ≡ (leb (least_length p) (length_in p s) && leb (length_in p s) (greatest_length p))
     unfolding length_agrees lengthAgrees1
     by_length = by p e h
       where
@@ -84,68 +82,10 @@ module _ (s : List ℕ) where
         by One e h = rw (e, le-ltb (length s) 4 h)
         by Mercury e h = rw (e, le-ltb (length s) 4 h)
 
-    pub length_short : length_in p s < least_length p → (shape_of p).agrees s ≡ false
-    length_short k = by_length ∙ rw (lt-leb (least_length p) (length_in p s) k)
-
-    pub length_long : greatest_length p < length_in p s → (shape_of p).agrees s ≡ false
-    length_long k = by_length ∙ simp (lt-leb (length_in p s) (greatest_length p) k, and-false)
-
-    pub length_good : least_length p ≤ length_in p s → length_in p s ≤ greatest_length p → (shape_of p).agrees s ≡ true
-    length_good k l = by_length ∙ rw (le-leb (least_length p) (length_in p s) k, le-leb (length_in p s) (greatest_length p) l)
-
   pub size_is : (p : Protocol) → (shape_of p).size s ≡ (shape_of p).front + length_in p s
   size_is Two = refl
   size_is One = refl
   size_is Mercury = refl
-
--- they are small numbers
-pub small : (p : Protocol) → ((shape_of p).front ≤ 7) × ((shape_of p).front ≤ (shape_of p).shortest) × (greatest_length p ≤ 1024)
-small Two = (omega arith, omega arith, omega arith)
-small One = (omega arith, omega arith, omega arith)
-small Mercury = (omega arith, omega arith, omega arith)
-
--- ---- the old boards have one arm
-
-module _ (p : Protocol) (old : p ≡ Two → ⊥) (s : List ℕ) where
-  pub old_front : frontAgrees1 (up_to (last_of p)) s ≡ front_agrees_of p s
-  old_front = by p old
-    where
-      by : (p : Protocol) → (p ≡ Two → ⊥) → frontAgrees1 (up_to (last_of p)) s ≡ front_agrees_of p s
-      by Two n = absurd (n refl)
-      by One n = refl
-      by Mercury n = refl
-
-  pub old_long : (shape_of p).front ≤ length s → 4 ≤ length s
-  old_long h = by p old h
-    where
-      by : (p : Protocol) → (p ≡ Two → ⊥) → (shape_of p).front ≤ length s → 4 ≤ length s
-      by Two n h = absurd (n refl)
-      by One n h = h
-      by Mercury n h = h
-
-  pub old_length : lengthOf1 s ≡ length_in p s
-  old_length = by p old
-    where
-      by : (p : Protocol) → (p ≡ Two → ⊥) → lengthOf1 s ≡ length_in p s
-      by Two n = absurd (n refl)
-      by One n = refl
-      by Mercury n = refl
-
-  pub old_begins : mayBegin1 s ≡ may_begin_of p s
-  old_begins = by p old
-    where
-      by : (p : Protocol) → (p ≡ Two → ⊥) → mayBegin1 s ≡ may_begin_of p s
-      by Two n = absurd (n refl)
-      by One n = refl
-      by Mercury n = refl
-
-  pub old_whole : answer_for (judged s) 0 ≡ whole_of p s
-  old_whole = by p old
-    where
-      by : (p : Protocol) → (p ≡ Two → ⊥) → answer_for (judged s) 0 ≡ whole_of p s
-      by Two n = absurd (n refl)
-      by One n = refl
-      by Mercury n = refl
 
 -- ---- all bytes of a packet
 

@@ -37,12 +37,6 @@ id_offset Two = 4
 id_offset One = 2
 id_offset Mercury = 2
 
--- the largest ID of a device [O2 P2]
-abbrev pub last_of : Protocol → ℕ
-last_of Two = 252
-last_of One = last_of_p1
-last_of Mercury = last_of_mercury
-
 -- what the code asks of the front: header and ID, the length field and its bounds [O1-O3 P1-P5]
 abbrev pub front_agrees_of : Protocol → List ℕ → Bool
 front_agrees_of Two s = front_agrees s

@@ -4,7 +4,7 @@
 
 // By header, ID and length field, the bytes begin no packet; they begin one and surely lack so many bytes; or all its bytes are
 // there, so many.
-#[derive(Clone, Copy)]
+#[derive(Clone, Copy, PartialEq, Eq, Debug)]
 pub enum Front {
     Nothing,
     Waiting(usize),
@@ -12,7 +12,7 @@ pub enum Front {
 }
 
 // What the bytes from an offset on are, while the segment is open.
-#[derive(Clone, Copy)]
+#[derive(Clone, Copy, PartialEq, Eq, Debug)]
 pub enum Verdict {
     // a well-formed packet of so many bytes
     Packet(usize),

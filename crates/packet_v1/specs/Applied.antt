@@ -1,5 +1,5 @@
 -- What the rules of Protocol 1.0 and Mercury keep, applied: 258 bytes are enough, and 257 are not.
-use Rattle.std.specs.Prelude.{List, ℕ, replicate}
+use Rattle.std.specs.Prelude.{replicate}
 use Rattle.reading.specs.Promise.{Followed}
 use Rattle.packet_v1.specs.Packet.{last_of_p1, last_of_mercury}
 use Rattle.packet_v1.specs.Verdict.{protocol1, mercury}

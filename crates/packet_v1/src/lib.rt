@@ -29,59 +29,27 @@ pub fn good_id(last: u8, id: u8) -> bool
     id <= last || id == packet_front::BROADCAST_ID
 }
 
-// Whether byte i is FF, or is not there yet.
-fn ff_agrees(s: &[u8], i: usize) -> bool
-    ensures { result ≡ so_far s.now i (eqb 0xFF) }
-{
-    if s.len() <= i {
-        return true;
-    }
-    0xFF == s[i]
-}
-
-fn id_agrees(last: u8, s: &[u8]) -> bool
-    ensures { result ≡ so_far s.now 2 (up_to last) }
-{
-    if s.len() <= 2 {
-        return true;
-    }
-    good_id(last, s[2])
-}
-
 // Whether the bytes that are there agree with header and ID. [O1 O2 O6]
 pub fn front_agrees(last: u8, s: &[u8]) -> bool
     ensures { result ≡ front_agrees (up_to last) s.now }
 {
-    if !ff_agrees(s, 0) {
-        return false;
-    }
-    if !ff_agrees(s, 1) {
-        return false;
-    }
-    id_agrees(last, s)
+    s.get(0).is_none_or(|&b| b == 0xFF)
+        && s.get(1).is_none_or(|&b| b == 0xFF)
+        && s.get(2).is_none_or(|&id| good_id(last, id))
 }
 
 // Whether a packet may begin with these bytes. [O1 O6]
 pub fn may_begin(s: &[u8]) -> bool
     ensures { result ≡ may_begin s.now }
 {
-    if s.len() == 0 {
-        return false;
-    }
-    s[0] == 0xFF
+    !s.is_empty() && s[0] == 0xFF
 }
 
 // The low byte of a sum that goes on over these bytes.
 pub fn sum_from(start: u8, bytes: &[u8]) -> u8
     ensures { result ≡ (start + sum bytes.now) % 256 }
 {
-    let mut total = start as usize;
-    let mut i = 0;
-    while i < bytes.len() {
-        total = (total + (bytes[i] as usize)) % 256;
-        i += 1;
-    }
-    total as u8
+    bytes.iter().fold(start, |total, &b| total.wrapping_add(b))
 }
 
 // The verdict if all bytes of a packet are there and header, ID and length are right: its checksum decides. [O5 O6]

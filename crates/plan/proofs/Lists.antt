@@ -1,4 +1,5 @@
 -- A list that devices carry out, entry by entry, for all IDs at once: what each finds in it is the entry with its ID.
+use Rattle.std.specs.Prelude.{None, Option}
 use mathlib.Core.Path.{◌≡◌, refl, sym, subst, ◌∙◌}
 use mathlib.Core.Bool.{Bool, true, false, cond, not, ◌||◌, or-true}
 use mathlib.Core.List.{List, [], ◌∷◌}
@@ -8,9 +9,8 @@ use lib.Dec.{leb, eqb}
 use lib.ListN.{length, drop, get_or}
 use borrow.Author.Tests.{leb-true, le-leb, lt-leb, eq-eqb, eqb-false, ne_eqb}
 use Rattle.lists.proofs.Bools.{and_left, and_right, both_ways}
-use Rattle.device_parameters.specs.Entries.{EntryShape, occurs, entry_good, search_from, search}
+use Rattle.device_parameters.specs.Entries.{EntryShape, occurs, entry_good, search_from, search, entry_at}
 use Rattle.device_parameters.specs.declared.OwnEntry.{OwnEntry}
-use Rattle.device_parameters.specs.declared.OwnEntry.TheVariants.{At, Nothing}
 
 module _ (e : EntryShape) (params : List ℕ) where
   -- the entries from `at` on are good to the end, where those before it have the IDs `passed`
@@ -21,8 +21,8 @@ module _ (e : EntryShape) (params : List ℕ) where
       (cond (entry_good e params at passed) (list_good steps (at + e.size (drop at params)) (get_or params at 0 ∷ passed)) false)
 
   -- else no device finds anything
-  pub not_list : (own steps at : ℕ) (passed : List ℕ) (found : OwnEntry) → list_good steps at passed ≡ false
-      → search_from e own params steps at passed found ≡ Nothing
+  pub not_list : (own steps at : ℕ) (passed : List ℕ) (found : Option OwnEntry) → list_good steps at passed ≡ false
+      → search_from e own params steps at passed found ≡ None
   unfolding list_good search_from
   not_list own zero at passed found g = rw g
   not_list own (suc steps) at passed found g =
@@ -32,8 +32,8 @@ module _ (e : EntryShape) (params : List ℕ) where
       by_tests : (a b : Bool)
           → cond a true (cond b (list_good steps (at + e.size (drop at params)) (get_or params at 0 ∷ passed)) false) ≡ false
           → (list_good steps (at + e.size (drop at params)) (get_or params at 0 ∷ passed) ≡ false
-          → search_from e own params steps (at + e.size (drop at params)) (get_or params at 0 ∷ passed) (cond (eqb (get_or params at 0) own) (At (length passed) at) found) ≡ Nothing)
-          → cond a found (cond b (search_from e own params steps (at + e.size (drop at params)) (get_or params at 0 ∷ passed) (cond (eqb (get_or params at 0) own) (At (length passed) at) found)) Nothing) ≡ Nothing
+          → search_from e own params steps (at + e.size (drop at params)) (get_or params at 0 ∷ passed) (cond (eqb (get_or params at 0) own) (entry_at (length passed) at) found) ≡ None)
+          → cond a found (cond b (search_from e own params steps (at + e.size (drop at params)) (get_or params at 0 ∷ passed) (cond (eqb (get_or params at 0) own) (entry_at (length passed) at) found)) None) ≡ None
       by_tests true b h later = both_ways true refl h
       by_tests false true h later = later h
       by_tests false false h later = refl
@@ -76,9 +76,9 @@ module _ (e : EntryShape) (params : List ℕ) where
       by_test false t r = both_ways false r refl
 
   -- one round of the search
-  turn : (own steps left at : ℕ) (passed : List ℕ) (found : OwnEntry) → at < length params → steps ≡ suc left → entry_good e params at passed ≡ true
+  turn : (own steps left at : ℕ) (passed : List ℕ) (found : Option OwnEntry) → at < length params → steps ≡ suc left → entry_good e params at passed ≡ true
       → search_from e own params steps at passed found
-      ≡ search_from e own params left (at + e.size (drop at params)) (get_or params at 0 ∷ passed) (cond (eqb (get_or params at 0) own) (At (length passed) at) found)
+      ≡ search_from e own params left (at + e.size (drop at params)) (get_or params at 0 ∷ passed) (cond (eqb (get_or params at 0) own) (entry_at (length passed) at) found)
   unfolding search_from
   turn own zero left at passed found h s g = absurd (omega arith)
   turn own (suc steps) left at passed found h s g =
@@ -86,7 +86,7 @@ module _ (e : EntryShape) (params : List ℕ) where
       rw (lt-leb (length params) at h, g, k)
 
   -- a device whose entry has passed finds no other
-  kept : (own steps at : ℕ) (passed : List ℕ) (found : OwnEntry) → occurs own passed ≡ true → list_good steps at passed ≡ true
+  kept : (own steps at : ℕ) (passed : List ℕ) (found : Option OwnEntry) → occurs own passed ≡ true → list_good steps at passed ≡ true
       → search_from e own params steps at passed found ≡ found
   unfolding list_good search_from occurs
   kept own zero at passed found o g = rw g
@@ -101,7 +101,7 @@ module _ (e : EntryShape) (params : List ℕ) where
           → cond a true (cond b (list_good steps (at + e.size (drop at params)) (get_or params at 0 ∷ passed)) false) ≡ true
           → (list_good steps (at + e.size (drop at params)) (get_or params at 0 ∷ passed) ≡ true
           → search_from e own params steps (at + e.size (drop at params)) (get_or params at 0 ∷ passed) found ≡ found)
-          → cond a found (cond b (search_from e own params steps (at + e.size (drop at params)) (get_or params at 0 ∷ passed) (cond (eqb (get_or params at 0) own) (At (length passed) at) found)) Nothing) ≡ found
+          → cond a found (cond b (search_from e own params steps (at + e.size (drop at params)) (get_or params at 0 ∷ passed) (cond (eqb (get_or params at 0) own) (entry_at (length passed) at) found)) None) ≡ found
       by_end true b t g later = refl
       by_end false true t g later = rw (other t) (later g)
       by_end false false t g later = both_ways false g refl
@@ -110,25 +110,25 @@ module _ (e : EntryShape) (params : List ℕ) where
 
   module _ (from : ℕ) where
     -- before `at` each device has found what `found` says, and the rest of the list decides
-    pub record Walk (at : ℕ) (found : ℕ → OwnEntry) : Type 0 where
+    pub record Walk (at : ℕ) (found : ℕ → Option OwnEntry) : Type 0 where
       pub passed : List ℕ
       pub steps : ℕ
       pub left_good : list_good steps at passed ≡ true
       pub same : (own : ℕ) → search e own params from ≡ search_from e own params steps at passed (found own)
-      pub none_yet : (own : ℕ) → occurs own passed ≡ false → found own ≡ Nothing
+      pub none_yet : (own : ℕ) → occurs own passed ≡ false → found own ≡ None
 
-    pub walk_start : list_good (length params) from [] ≡ true → Walk from (λ own. Nothing)
+    pub walk_start : list_good (length params) from [] ≡ true → Walk from (λ own. None)
     walk_start g = record { passed = []; steps = length params; left_good = g; same = λ own. refl; none_yet = λ own h. refl }
 
-    module _ (at : ℕ) (found : ℕ → OwnEntry) (w : Walk at found) (h : at < length params) where
+    module _ (at : ℕ) (found : ℕ → Option OwnEntry) (w : Walk at found) (h : at < length params) where
       here : First w.steps at w.passed
       here = first w.steps at w.passed h w.left_good
 
       pub entry_good_lem : Good at w.passed
       entry_good_lem = good at w.passed here.tested
 
-      abbrev pub found_next : ℕ → OwnEntry
-      found_next own = cond (eqb (get_or params at 0) own) (At (length w.passed) at) (found own)
+      abbrev pub found_next : ℕ → Option OwnEntry
+      found_next own = cond (eqb (get_or params at 0) own) (entry_at (length w.passed) at) (found own)
 
       goes : (own : ℕ) → search e own params from
           ≡ search_from e own params here.left (at + e.size (drop at params)) (get_or params at 0 ∷ w.passed) (found_next own)
@@ -145,20 +145,20 @@ module _ (e : EntryShape) (params : List ℕ) where
             none_yet = λ own n. by_id own (eqb own (get_or params at 0)) refl n;
           }
         where
-          by_id : (own : ℕ) (b : Bool) → eqb own (get_or params at 0) ≡ b → (b || occurs own w.passed) ≡ false → found_next own ≡ Nothing
+          by_id : (own : ℕ) (b : Bool) → eqb own (get_or params at 0) ≡ b → (b || occurs own w.passed) ≡ false → found_next own ≡ None
           by_id own true i n = both_ways true refl n
           by_id own false i n = rw (ne_eqb (get_or params at 0) own (λ q. eqb-false own (get_or params at 0) i (sym q))) (w.none_yet own n)
 
       -- the device of this entry finds it
-      pub found_here : search e (get_or params at 0) params from ≡ At (length w.passed) at
+      pub found_here : search e (get_or params at 0) params from ≡ entry_at (length w.passed) at
       unfolding occurs
       found_here =
           goes (get_or params at 0)
           ∙ rw (eq-eqb (get_or params at 0) (get_or params at 0) refl)
-          (kept (get_or params at 0) here.left (at + e.size (drop at params)) (get_or params at 0 ∷ w.passed) (At (length w.passed) at)
+          (kept (get_or params at 0) here.left (at + e.size (drop at params)) (get_or params at 0 ∷ w.passed) (entry_at (length w.passed) at)
           (rw (eq-eqb (get_or params at 0) (get_or params at 0) refl) refl) here.rest)
 
-    pub walk_end : (at : ℕ) (found : ℕ → OwnEntry) → Walk at found → length params ≤ at → (own : ℕ) → search e own params from ≡ found own
+    pub walk_end : (at : ℕ) (found : ℕ → Option OwnEntry) → Walk at found → length params ≤ at → (own : ℕ) → search e own params from ≡ found own
     unfolding search_from
     walk_end at found w h own = w.same own ∙ by_steps w.steps
       where
@@ -167,9 +167,9 @@ module _ (e : EntryShape) (params : List ℕ) where
         by_steps (suc steps) = rw (le-leb (length params) at h)
 
     -- where any device finds its entry, the list is good
-    pub any_found : (own slot at : ℕ) → search e own params from ≡ At slot at → list_good (length params) from [] ≡ true
+    pub any_found : (own slot at : ℕ) → search e own params from ≡ entry_at slot at → list_good (length params) from [] ≡ true
     any_found own slot at s = by_list (list_good (length params) from []) refl
       where
         by_list : (b : Bool) → list_good (length params) from [] ≡ b → b ≡ true
         by_list true g = refl
-        by_list false g = let n = not_list own (length params) from [] Nothing g in let z : ◌≡◌ {A = ℕ} 0 1 = cc in absurd (omega arith)
+        by_list false g = let n = not_list own (length params) from [] None g in let z : ◌≡◌ {A = ℕ} 0 1 = cc in absurd (omega arith)

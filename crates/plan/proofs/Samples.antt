@@ -1,10 +1,10 @@
 -- The worked plans are plans of their goals, which are not refused.
+use Rattle.std.specs.Prelude.{None}
 use mathlib.Core.Path.{◌≡◌, refl, sym, subst}
 use mathlib.Core.Bool.{Bool, true, false}
 use mathlib.Core.List.Memᴰ
 use mathlib.Core.List.{List, [], ◌∷◌, Memᴰ}
 use mathlib.Core.Logic.{⊎_elim}
-use mathlib.Core.Option.{none}
 use Prim.Native.Nat.{ℕ, ◌<◌}
 use lib.Dec.{T}
 use borrow.Author.Tests.{ltb-true}
@@ -93,6 +93,6 @@ plan_in_two_lem =
       stands = stands (goal_of_3 ∷ goal_of_9 ∷ []) both_stand_all;
     }
 
-pub two_goals_good : goals_refusal two_goals ≡ none
+pub two_goals_good : goals_refusal two_goals ≡ None
 unfolding goals_refusal goals_within
 two_goals_good = refl

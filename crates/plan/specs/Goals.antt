@@ -1,6 +1,6 @@
 -- The wanted goals: 253 signed numbers, one for each ID, in which -1 says that none is wanted.
+use Rattle.std.specs.Prelude.{Option}
 use Rattle.std.specs.Prelude.{Bool, true, ◌&&◌, List, [], ◌∷◌, ℕ, eqb, ℤ, pos, negsuc, length, get_or}
-use Rattle.std.proofs.Math.Option.{Option}
 use Rattle.std.specs.Int.Signed.{le_z}
 use Rattle.answers.specs.Refusals.{first_failing}
 use Rattle.answers.specs.declared.Refusal.{Refusal}

@@ -1,4 +1,5 @@
 -- What a plan of goals is: Sync Writes end to end, in which every wanted ID stands once with its goal, and no other.
+use Rattle.std.specs.Prelude.{None, Option, Some}
 use Rattle.std.specs.Prelude.{◌≡◌, ℕ, ◌+◌, ◌<◌, ℤ, length, take, drop}
 use mathlib.Core.List.{List, [], ◌∷◌, ◌++◌, Memᴰ}
 use Rattle.lists.specs.Numbers.{number_at}
@@ -8,7 +9,6 @@ use Rattle.packet_front.specs.Front.{id_of}
 use Rattle.packet.specs.Packet.{body_of, WellFormed}
 use Rattle.device_parameters.specs.Parameters.{sync_search}
 use Rattle.device_parameters.specs.declared.OwnEntry.{OwnEntry}
-use Rattle.device_parameters.specs.declared.OwnEntry.TheVariants.{At, Nothing}
 use Rattle.plan.specs.Goals.{wanted}
 
 -- Sync Write, address 116, length 4 [W3]
@@ -16,9 +16,9 @@ abbrev pub plan_head : List ℕ
 plan_head = 0x83 ∷ 116 ∷ 0 ∷ 4 ∷ 0 ∷ []
 
 -- the four bytes behind the ID of the entry that was found; a goal is never negative, so that they are read as a plain number
-abbrev pub goal_at : List ℕ → OwnEntry → List ℕ
-goal_at params (At slot at) = number_at params (at + 1) 4 ∷ []
-goal_at params Nothing = []
+abbrev pub goal_at : List ℕ → Option OwnEntry → List ℕ
+goal_at params (Some entry) = number_at params (entry.offset + 1) 4 ∷ []
+goal_at params None = []
 
 -- the goal that a device finds in the parameters, by its own search: none in a list that it would not carry out [W4]
 abbrev pub goal_found : ℕ → List ℕ → List ℕ

@@ -1,11 +1,10 @@
 -- Our planner's plan: IDs rising, 203 devices to each packet but the last.
+use Rattle.std.specs.Prelude.{Option, Result}
 use Rattle.std.specs.Prelude.{List, [], ◌∷◌, ◌++◌, ℕ, zero, suc, leb, ℤ, pos, negsuc, length, take, drop}
-use Rattle.std.proofs.Math.Option.{Option}
 use Rattle.answers.specs.Refusals.{first_failing, or_else, unless_refused}
 use Rattle.answers.specs.Answers.{answered}
 use Rattle.answers.specs.declared.Refusal.{Refusal}
 use Rattle.answers.specs.declared.Refusal.TheVariants.{NoRoom}
-use Rattle.answers.specs.declared.Answer.{Answer}
 use Rattle.lists.specs.Numbers.{bytes_of}
 use Rattle.lists.specs.Write.{overwritten}
 use Rattle.reading.specs.Promise.{joined}
@@ -56,7 +55,7 @@ unfoldable pub plan_refusal : List ℤ → List ℕ → Option Refusal
 plan_refusal goals out = or_else (goals_refusal goals) (first_failing ((leb (length (plan_of goals)) (length out), NoRoom) ∷ []))
 
 -- the plan's byte count, or a refusal [W7]
-abbrev pub plan_answer : List ℤ → List ℕ → Answer
+abbrev pub plan_answer : List ℤ → List ℕ → Result ℕ Refusal
 plan_answer goals out = answered (plan_refusal goals out) (length (plan_of goals))
 
 -- the bytes after the plan stay [N12 N14 W7]

@@ -3,9 +3,10 @@
 
 ghost use Rattle.std.specs.Prelude.{◌≡◌};
 ghost use Rattle.answers.specs.Answers.{answered};
-ghost use Rattle.plan.specs.Goals.{goals_within, goals_refusal};
+ghost use Rattle.std.specs.List.{list_all};
+ghost use Rattle.plan.specs.Goals.{goal_within, goals_refusal};
 
-use answers::{Answer, Refusal};
+use answers::Refusal;
 use packet_front::MAX_ID;
 use table_registers::{LAST_POSITION, REG_GOAL_POSITION, SIZE_GOAL_POSITION};
 
@@ -21,27 +22,22 @@ pub const ADDRESS: u8 = REG_GOAL_POSITION as u8;
 pub const LENGTH: u8 = SIZE_GOAL_POSITION as u8;
 
 fn goals_within(goals: &[i32]) -> bool
-    ensures { result ≡ goals_within goals.now }
+    ensures { result ≡ list_all goal_within goals.now }
 {
-    let mut i = 0;
-    while i < goals.len() {
-        if !table_items::within(goals[i], UNWANTED, LAST_POSITION) {
-            return false;
-        }
-        i += 1;
-    }
-    true
+    goals
+        .iter()
+        .all(|goal| table_items::within(*goal, UNWANTED, LAST_POSITION))
 }
 
 // The refusals that the planner and the test of plans share, in this order. [W2]
-pub fn test_goals(goals: &[i32]) -> Answer
-    ensures { result ≡ answered (goals_refusal goals.now) 0 }
+pub fn test_goals(goals: &[i32]) -> Result<(), Refusal>
+    ensures { result ≡ answered (goals_refusal goals.now) tt }
 {
     if goals.len() != IDS {
-        return Answer::Refused(Refusal::NotGoals);
+        return Err(Refusal::NotGoals);
     }
     if !goals_within(goals) {
-        return Answer::Refused(Refusal::BadGoal);
+        return Err(Refusal::BadGoal);
     }
-    Answer::Count(0)
+    Ok(())
 }

@@ -19,7 +19,7 @@ use Rattle.plan_check.specs.Tested.{SaysWhether}
 use Rattle.plan_check.specs.Checking.{past, Marked, Clash}
 
 -- with what has stood, the bytes complete the plan
-pub record Rest (goals : List ℤ) (stood : List ℕ) (bytes : List ℕ) : Type 0 where
+pub record Rest (goals : List ℤ) (stood : List Bool) (bytes : List ℕ) : Type 0 where
   pub packets : List (List ℕ)
   pub end_to_end : joined packets ≡ bytes
   pub each : (w : List ℕ) → Memᴰ w packets → GoalWrite w
@@ -48,7 +48,7 @@ module _ (s : List ℕ) where
   found : (packets : List (List ℕ)) (x : First packets) → verdict s ≡ is_packet (length x.w)
   found packets x = ap verdict (sym x.joins) ∙ laws.whole x.w (joined x.ws) x.writes.well
 
-module _ (goals : List ℤ) (stood s : List ℕ) (h : 0 < length s) where
+module _ (goals : List ℤ) (stood : List Bool) (s : List ℕ) (h : 0 < length s) where
   first : (r : Rest goals stood s) → First s r.packets
   first r = first_of s r.packets r.end_to_end r.each h
 
@@ -84,7 +84,7 @@ module _ (goals : List ℤ) (stood s : List ℕ) (h : 0 < length s) where
         ap (λ (w : List ℕ). past goals stood id ++ (goal_found id (params_of w) ++ goals_in id x.ws)) (taken r)
         ∙ ap (λ (ws : List (List ℕ)). past goals stood id ++ goals_in id ws) (sym x.are) ∙ r.stands id l
 
-    pub goes_on : (new : List ℕ) → Marked goals stood (params_of (take n s)) new → Rest goals stood s → Rest goals new (drop n s)
+    pub goes_on : (new : List Bool) → Marked goals stood (params_of (take n s)) new → Rest goals stood s → Rest goals new (drop n s)
     goes_on new m r =
         record {
           packets = (first r).ws;
@@ -95,7 +95,7 @@ module _ (goals : List ℤ) (stood s : List ℕ) (h : 0 < length s) where
               ∙ append_assoc (past goals stood id) (goal_found id (params_of (take n s))) (goals_in id (first r).ws) ∙ stands r id l;
         }
 
-    pub goes_back : (new : List ℕ) → GoalWrite (take n s) → Marked goals stood (params_of (take n s)) new → Rest goals new (drop n s)
+    pub goes_back : (new : List Bool) → GoalWrite (take n s) → Marked goals stood (params_of (take n s)) new → Rest goals new (drop n s)
         → Rest goals stood s
     unfolding goals_in
     goes_back new g m r =
@@ -115,7 +115,7 @@ module _ (goals : List ℤ) (stood s : List ℕ) (h : 0 < length s) where
 
 -- ---- the beginning and the end
 
-module _ (goals : List ℤ) (stood : List ℕ) where
+module _ (goals : List ℤ) (stood : List Bool) where
   abbrev pub AllStood : Type 0
   AllStood = (id : ℕ) → id < 253 → past goals stood id ≡ wanted goals id
 
@@ -135,7 +135,7 @@ module _ (goals : List ℤ) (stood : List ℕ) where
   at_end f =
       record { packets = []; end_to_end = refl; each = λ w m. absurd (Memᴰ.not-nil m); stands = λ id h. append-nil (past goals stood id) ∙ f id h }
 
-  module _ (zeros : (id : ℕ) → id < 253 → get_or stood id 0 ≡ 0) (bytes : List ℕ) where
+  module _ (zeros : (id : ℕ) → id < 253 → get_or stood id false ≡ false) (bytes : List ℕ) where
     nothing_past : (id : ℕ) → id < 253 → past goals stood id ≡ []
     nothing_past id h = rw (zeros id h)
 
@@ -160,13 +160,13 @@ module _ (goals : List ℤ) (stood : List ℕ) where
 -- ---- the loop over the packets
 
 module _ (goals : List ℤ) (plan : List ℕ) where
-  pub record Halfway (stood : List ℕ) (at : ℕ) : Type 0 where
+  pub record Halfway (stood : List Bool) (at : ℕ) : Type 0 where
     pub long : length stood ≡ 253
     pub within : at ≤ length plan
     pub back : Rest goals stood (drop at plan) → Plan goals plan
     pub on : Plan goals plan → Rest goals stood (drop at plan)
 
-  pub halfway_next : (stood new : List ℕ) (at n : ℕ) → Halfway stood at → at < length plan → verdict (drop at plan) ≡ is_packet n
+  pub halfway_next : (stood new : List Bool) (at n : ℕ) → Halfway stood at → at < length plan → verdict (drop at plan) ≡ is_packet n
       → GoalWrite (take n (drop at plan)) → Marked goals stood (params_of (take n (drop at plan))) new → Halfway new (at + n)
   halfway_next stood new at n x h v g m =
       let l = length-drop at plan in
@@ -179,12 +179,12 @@ module _ (goals : List ℤ) (plan : List ℕ) where
         on = λ p. subst (Rest goals new) d (goes_on goals stood (drop at plan) (omega arith) n v new m (x.on p));
       }
 
-  pub halfway_start : Halfway (replicate 253 0) 0
+  pub halfway_start : Halfway (replicate 253 false) 0
   halfway_start =
-      let z : (id : ℕ) → id < 253 → ◌≡◌ {A = ℕ} (get_or (replicate 253 0) id 0) 0 = λ id h. get_or-replicate 253 id 0 0 h in
-      record { long = length-replicate {A = ℕ} 253 0; within = omega arith; back = to_plan goals (replicate 253 0) z plan; on = of_plan goals (replicate 253 0) z plan }
+      let z : (id : ℕ) → id < 253 → get_or (replicate 253 false) id false ≡ false = λ id h. get_or-replicate 253 id false false h in
+      record { long = length-replicate {A = Bool} 253 false; within = omega arith; back = to_plan goals (replicate 253 false) z plan; on = of_plan goals (replicate 253 false) z plan }
 
-  module _ (stood : List ℕ) (at : ℕ) (x : Halfway stood at) where
+  module _ (stood : List Bool) (at : ℕ) (x : Halfway stood at) where
     pub halfway_none : at < length plan → ((n : ℕ) → verdict (drop at plan) ≡ is_packet n → ⊥) → ¬ Plan goals plan
     halfway_none h f p = let l = length-drop at plan in begins goals stood (drop at plan) (omega arith) (x.on p) f
 

@@ -1,123 +1,37 @@
--- One ID: what its entry says, and what has stood of it afterwards.
-use mathlib.Core.Path.{◌≡◌, refl, sym, ap, subst, ◌∙◌}
-use mathlib.Core.Bool.{Bool, true, false, cond, ◌&&◌}
+-- What the entry of one ID says.
+use mathlib.Core.Path.{◌≡◌, refl, ap}
+use mathlib.Core.Bool.{Bool, true, false, not, cond, ◌&&◌}
 use mathlib.Core.List.{List, [], ◌∷◌, ◌++◌}
-use mathlib.Core.Logic.{⊎_elim}
-use Prim.Native.Nat.{ℕ, ◌+◌, ◌<◌, ◌≤◌, ◌-◌, ◌^◌}
-use native.Mathlib.Nat.{le_of_suc-le-suc, eq-or-lt_of_le}
-use native.Mathlib.Numerals.{add-one}
+use Prim.Native.Nat.{ℕ}
 use native.Mathlib.Omega.{arith}
-use lib.Dec.{eqb, ltb}
-use lib.IntN.{ℤ, pos, negsuc, pos-ne-negsuc}
-use lib.ListN.{length, take, get_or}
-use lib.Seq.{get_or-take}
-use lib.Signed.{le_z, lt_z, mag}
-use borrow.Author.Tests.{eqb-true, eqb-false, eq-eqb, ne_eqb, leb-false, ltb-true, lt-ltb}
+use lib.Dec.{eqb}
+use lib.IntN.{ℤ, pos, negsuc}
+use lib.ListN.{length, get_or}
+use borrow.Author.Tests.{eqb-true, eqb-false}
 use Rattle.lists.proofs.Bools.{both_ways}
-use Rattle.table_items.specs.Items.{signed}
-use Rattle.plan.specs.Goals.{unwanted, goal_of, wanted}
-use Rattle.plan.specs.Plan.{plan_head}
-use Rattle.plan.proofs.Wanted.{goal_there}
-use Rattle.plan_check.specs.Checking.{fits, past_by, past}
-
--- what holds below k and at k
-pub below_next : (P : ℕ → Type 0) (k : ℕ) → ((id : ℕ) → id < k → P id) → P k → (id : ℕ) → id < k + 1 → P id
-below_next P k f here id h =
-    ⊎_elim (λ e. subst P (sym e) here) (λ l. f id l) (eq-or-lt_of_le (le_of_suc-le-suc (rw add-one at h)))
-
--- a number that is read as a goal is the goal's
-pub signed_pos : (u n : ℕ) → signed u ≡ pos n → u ≡ n
-signed_pos u n e = by_size (ltb u (2 ^ 31)) refl
-  where
-    by_size : (b : Bool) → ltb u (2 ^ 31) ≡ b → u ≡ n
-    by_size true t = cc
-    by_size false t = absurd (pos-ne-negsuc n (2 ^ 32 - 1 - u) (sym (rw t at e)))
-
--- and a goal is read as itself
-pub pos_signed : (n : ℕ) → n < 2 ^ 31 → signed n ≡ pos n
-pos_signed n h = rw (lt-ltb n (2 ^ 31) h)
-
--- the tests of an entry, in the order of the code
-module _ (stood u : ℕ) where
-  pub other_unwanted : (g : ℤ) → lt_z g (pos 0) ≡ true → fits g stood u ≡ false
-  other_unwanted (pos n) e = absurd (omega (arith, ltb-true n 0 e))
-  other_unwanted (negsuc n) e = refl
-
-  pub other_again : (g : ℤ) → ¬ (stood ≡ 0) → fits g stood u ≡ false
-  other_again (pos n) e = rw (ne_eqb stood 0 e)
-  other_again (negsuc n) e = refl
-
-  pub other_goal : (g : ℤ) → stood ≡ 0 → mag g < 2 ^ 31 → ¬ (signed u ≡ g) → fits g stood u ≡ false
-  other_goal (pos n) s h e = rw (eq-eqb stood 0 s, ne_eqb u n (λ d. e (ap signed d ∙ pos_signed n h)))
-  other_goal (negsuc n) s h e = refl
-
-  pub new_goal : (g : ℤ) → lt_z g (pos 0) ≡ false → stood ≡ 0 → signed u ≡ g → fits g stood u ≡ true
-  new_goal (pos n) l s e = rw (eq-eqb stood 0 s, eq-eqb u n (signed_pos u n e))
-  new_goal (negsuc n) l s e = let z : ◌≡◌ {A = ℕ} 0 1 = cc in absurd (omega arith)
-
--- ---- what an entry says
+use Rattle.plan.specs.Goals.{goal_of}
+use Rattle.plan_check.specs.Checking.{fits, past_by}
 
 -- one that may stand completes what is wanted
-pub completes : (g : ℤ) (mark u : ℕ) → fits g mark u ≡ true → past_by g mark ++ (u ∷ []) ≡ goal_of g
-completes (negsuc n) mark u e = both_ways false e refl
-completes (pos n) mark u e = by_tests (eqb mark 0) (eqb u n) refl e
+pub completes : (g : ℤ) (stood : Bool) (u : ℕ) → fits g stood u ≡ true → past_by g stood ++ (u ∷ []) ≡ goal_of g
+completes (negsuc n) stood u e = both_ways false e refl
+completes (pos n) stood u e = by_tests stood (eqb u n) refl e
   where
-    by_tests : (a b : Bool) → eqb u n ≡ b → (a && b) ≡ true → cond a [] (n ∷ []) ++ (u ∷ []) ≡ n ∷ []
-    by_tests true true j e = ap (λ (k : ℕ). k ∷ []) (eqb-true u n j)
-    by_tests true false j e = both_ways false e refl
-    by_tests false b j e = both_ways false e refl
+    by_tests : (a b : Bool) → eqb u n ≡ b → (not a && b) ≡ true → cond a (n ∷ []) [] ++ (u ∷ []) ≡ n ∷ []
+    by_tests false true j e = ap (λ (k : ℕ). k ∷ []) (eqb-true u n j)
+    by_tests false false j e = both_ways false e refl
+    by_tests true b j e = both_ways false e refl
 
 -- and any other one never does, whatever follows
-pub clashes : (g : ℤ) (mark u : ℕ) (more : List ℕ) → fits g mark u ≡ false → ¬ (past_by g mark ++ (u ∷ more) ≡ goal_of g)
-clashes (negsuc n) mark u more e = by_mark (eqb mark 0)
+pub clashes : (g : ℤ) (stood : Bool) (u : ℕ) (more : List ℕ) → fits g stood u ≡ false → ¬ (past_by g stood ++ (u ∷ more) ≡ goal_of g)
+clashes (negsuc n) stood u more e = by_mark stood
   where
     by_mark : (b : Bool) → ¬ (cond b [] [] ++ (u ∷ more) ≡ [])
     by_mark true d = absurd (omega (arith, ap length d))
     by_mark false d = absurd (omega (arith, ap length d))
-clashes (pos n) mark u more e = by_tests (eqb mark 0) (eqb u n) refl e
+clashes (pos n) stood u more e = by_tests stood (eqb u n) refl e
   where
-    by_tests : (a b : Bool) → eqb u n ≡ b → (a && b) ≡ false → ¬ (cond a [] (n ∷ []) ++ (u ∷ more) ≡ n ∷ [])
-    by_tests true true j e d = both_ways true refl e
-    by_tests true false j e d = eqb-false u n j (ap (λ (l : List ℕ). get_or l 0 0) d)
-    by_tests false b j e d = absurd (omega (arith, ap length d))
-
--- ---- at the end
-
--- of an ID that the list has
-module _ (goals : List ℤ) (stood : List ℕ) (id : ℕ) (h : id < length goals) where
-  by_goal : (P : ℤ → Type 0) → P (get_or goals id (pos 0)) → P (get_or goals id unwanted)
-  by_goal P p = subst P (goal_there goals id (pos 0) unwanted h) p
-
-  pub none_needed : le_z (pos 0) (get_or goals id (pos 0)) ≡ false → past goals stood id ≡ wanted goals id
-  none_needed e = by_goal (λ g. past_by g (get_or stood id 0) ≡ goal_of g) (by_sign (get_or goals id (pos 0)) e)
-    where
-      by_mark : (b : Bool) → cond {A = List ℕ} b [] [] ≡ []
-      by_mark true = refl
-      by_mark false = refl
-
-      by_sign : (g : ℤ) → le_z (pos 0) g ≡ false → past_by g (get_or stood id 0) ≡ goal_of g
-      by_sign (pos n) e = absurd (omega (arith, leb-false 0 n e))
-      by_sign (negsuc n) e = by_mark (eqb (get_or stood id 0) 0)
-
-  pub needed_stood : ¬ (get_or stood id 0 ≡ 0) → past goals stood id ≡ wanted goals id
-  needed_stood e = rw (ne_eqb (get_or stood id 0) 0 e)
-
-  pub lacking : le_z (pos 0) (get_or goals id (pos 0)) ≡ true → get_or stood id 0 ≡ 0 → ¬ (past goals stood id ≡ wanted goals id)
-  lacking e m = by_goal (λ g. ¬ (past_by g (get_or stood id 0) ≡ goal_of g)) (by_sign (get_or goals id (pos 0)) e)
-    where
-      by_sign : (g : ℤ) → le_z (pos 0) g ≡ true → ¬ (past_by g (get_or stood id 0) ≡ goal_of g)
-      by_sign (pos n) e d = absurd (omega (arith, ap length (sym (rw (eq-eqb (get_or stood id 0) 0 m) at d))))
-      by_sign (negsuc n) e d = let z : ◌≡◌ {A = ℕ} 0 1 = cc in absurd (omega arith)
-
--- ---- the first five bytes of a body
-
-pub five : (b : List ℕ) → 5 ≤ length b → take 5 b ≡ get_or b 0 0 ∷ get_or b 1 0 ∷ get_or b 2 0 ∷ get_or b 3 0 ∷ get_or b 4 0 ∷ []
-five [] h = absurd (omega arith)
-five (a ∷ []) h = absurd (omega arith)
-five (a ∷ b ∷ []) h = absurd (omega arith)
-five (a ∷ b ∷ c ∷ []) h = absurd (omega arith)
-five (a ∷ b ∷ c ∷ d ∷ []) h = absurd (omega arith)
-five (a ∷ b ∷ c ∷ d ∷ e ∷ l) h = refl
-
-pub head_at : (b : List ℕ) (i : ℕ) → i < 5 → take 5 b ≡ plan_head → get_or b i 0 ≡ get_or plan_head i 0
-head_at b i h e = sym (get_or-take 5 b i 0 h) ∙ ap (λ (l : List ℕ). get_or l i 0) e
+    by_tests : (a b : Bool) → eqb u n ≡ b → (not a && b) ≡ false → ¬ (cond a (n ∷ []) [] ++ (u ∷ more) ≡ n ∷ [])
+    by_tests false true j e d = both_ways true refl e
+    by_tests false false j e d = eqb-false u n j (ap (λ (l : List ℕ). get_or l 0 0) d)
+    by_tests true b j e d = absurd (omega (arith, ap length d))

@@ -10,8 +10,8 @@ ghost use Rattle.plan.specs.Plan.{plan_head, Plan};
 ghost use Rattle.plan_check.specs.Checking.{fits, past, SomeFound, MarkSays, BodySays, PacketSays};
 ghost use Rattle.plan_check.specs.Tested.{SaysWhether, TestSays};
 
-use answers::{Answer, Refusal};
-use device_parameters::OwnEntry;
+use answers::Refusal;
+use device_codes::Instruction;
 use packet_protocols::Protocol;
 use packet_rules::Verdict;
 
@@ -19,13 +19,6 @@ use packet_rules::Verdict;
 const LIST: usize = 4;
 
 const ENTRY: usize = 5;
-
-#[derive(Clone, Copy)]
-pub enum Tested {
-    Accepted,
-    NotPlan,
-    Refused(Refusal),
-}
 
 // The four bytes of a goal.
 fn goal_at(params: &[u8], k: usize) -> i32
@@ -36,49 +29,38 @@ fn goal_at(params: &[u8], k: usize) -> i32
 }
 
 // Whether an entry may stand: its goal is the wanted one, and nothing has stood of its ID.
-fn entry_fits(params: &[u8], at: usize, goal: i32, stood: u8) -> bool
+fn entry_fits(params: &[u8], at: usize, goal: i32, stood: bool) -> bool
     requires { at + 5 ≤ length params.now }
     ensures { result ≡ fits goal stood (number_at params.now (at + 1) 4) }
 {
-    if goal < 0 {
-        return false;
-    }
-    if stood != 0 {
-        return false;
-    }
-    if goal_at(params, at + 1) != goal {
-        return false;
-    }
-    true
+    goal >= 0 && !stood && goal_at(params, at + 1) == goal
 }
 
 // Marks the ID of each entry of a list that devices carry out; false if there is one that may not stand.
-fn mark_list(goals: &[i32], params: &[u8], stood: &mut [u8]) -> bool
+fn mark_list(goals: &[i32], params: &[u8], stood: &mut [bool]) -> bool
     requires { (length goals.now ≡ 253) × (length stood.old ≡ 253) × SomeFound params.now }
     ensures { MarkSays goals.now stood.old params.now stood.new result }
 {
-    let mut at = LIST;
-    while at < params.len() {
+    for at in (LIST..params.len()).step_by(ENTRY) {
         let id = params[at] as usize;
         if !entry_fits(params, at, goals[id], stood[id]) {
             return false;
         }
-        stood[id] = 1;
-        at += ENTRY;
+        stood[id] = true;
     }
     true
 }
 
 // Marks each ID that has an entry; false if there is none, or one that may not stand. Whether devices carry the list out is asked of
 // their own search, for the first ID in it.
-fn mark_entries(goals: &[i32], params: &[u8], stood: &mut [u8]) -> bool
+fn mark_entries(goals: &[i32], params: &[u8], stood: &mut [bool]) -> bool
     requires { (length goals.now ≡ 253) × (length stood.old ≡ 253) }
     ensures { MarkSays goals.now stood.old params.now stood.new result }
 {
     if params.len() <= LIST {
         return false;
     }
-    let OwnEntry::At(_, _) = device_parameters::sync_search(params, 4, params[LIST]) else {
+    let Some(_) = device_parameters::sync_search(params, 4, params[LIST]) else {
         return false;
     };
     mark_list(goals, params, stood)
@@ -88,29 +70,17 @@ fn mark_entries(goals: &[i32], params: &[u8], stood: &mut [u8]) -> bool
 fn has_head(body: &[u8]) -> bool
     ensures { SaysWhether result (take 5 body.now ≡ plan_head) }
 {
-    if body.len() < 5 {
-        return false;
-    }
-    if body[0] != device_codes::INST_SYNC_WRITE {
-        return false;
-    }
-    if body[1] != plan::ADDRESS {
-        return false;
-    }
-    if body[2] != 0 {
-        return false;
-    }
-    if body[3] != plan::LENGTH {
-        return false;
-    }
-    if body[4] != 0 {
-        return false;
-    }
-    true
+    body.starts_with(&[
+        Instruction::SyncWrite as u8,
+        plan::ADDRESS,
+        0,
+        plan::LENGTH,
+        0,
+    ])
 }
 
 // Marks the IDs of an unstuffed body; false if it is not one that a plan may have here.
-fn mark_body(goals: &[i32], body: &[u8], stood: &mut [u8]) -> bool
+fn mark_body(goals: &[i32], body: &[u8], stood: &mut [bool]) -> bool
     requires { (length goals.now ≡ 253) × (length stood.old ≡ 253) }
     ensures { BodySays goals.now stood.old body.now stood.new result }
 {
@@ -121,7 +91,7 @@ fn mark_body(goals: &[i32], body: &[u8], stood: &mut [u8]) -> bool
 }
 
 // Marks the IDs of a packet; false if it is not one that a plan may have here.
-fn mark_packet(goals: &[i32], packet: &[u8], stood: &mut [u8]) -> bool
+fn mark_packet(goals: &[i32], packet: &[u8], stood: &mut [bool]) -> bool
     requires { (length goals.now ≡ 253) × (length stood.old ≡ 253) × WellFormed packet.now }
     ensures { PacketSays goals.now stood.old packet.now stood.new result }
 {
@@ -129,7 +99,7 @@ fn mark_packet(goals: &[i32], packet: &[u8], stood: &mut [u8]) -> bool
         return false;
     }
     let mut buffer = [0u8; packet_front::MAX_BODY];
-    let Answer::Count(n) = packet::unstuff(packet, &mut buffer) else {
+    let Ok(n) = packet::unstuff(packet, &mut buffer) else {
         return false;
     };
     let body: &[u8] = &buffer;
@@ -137,20 +107,14 @@ fn mark_packet(goals: &[i32], packet: &[u8], stood: &mut [u8]) -> bool
 }
 
 // Whether every wanted ID has stood.
-fn all_stood(goals: &[i32], stood: &[u8]) -> bool
+fn all_stood(goals: &[i32], stood: &[bool]) -> bool
     requires { (length goals.now ≡ 253) × (length stood.now ≡ 253) }
     ensures { SaysWhether result ((id : ℕ) → id < 253 → past goals.now stood.now id ≡ wanted goals.now id) }
 {
-    let mut id = 0;
-    while id < plan::IDS {
-        if 0 <= goals[id] {
-            if stood[id] == 0 {
-                return false;
-            }
-        }
-        id += 1;
-    }
-    true
+    goals
+        .iter()
+        .zip(stood)
+        .all(|(&goal, &stood)| goal < 0 || stood)
 }
 
 // Packet after packet, to the end.
@@ -158,10 +122,10 @@ fn is_plan(goals: &[i32], plan: &[u8]) -> bool
     requires { length goals.now ≡ 253 }
     ensures { SaysWhether result (Plan goals.now plan.now) }
 {
-    let mut stood = [0u8; plan::IDS];
+    let mut stood = [false; plan::IDS];
     let mut at = 0;
     while at < plan.len() {
-        let Verdict::Packet(n) = packet_protocols::judge(Protocol::Two, plan, at) else {
+        let Verdict::Packet(n) = Protocol::Two.judge(plan, at) else {
             return false;
         };
         if !mark_packet(goals, &plan[at..at + n], &mut stood) {
@@ -173,17 +137,9 @@ fn is_plan(goals: &[i32], plan: &[u8]) -> bool
 }
 
 // Whether the bytes are a plan of the wanted goals. [W2 W3-W5 W9]
-pub fn check(goals: &[i32], plan: &[u8]) -> Tested
+pub fn check(goals: &[i32], plan: &[u8]) -> Result<bool, Refusal>
     ensures { TestSays goals.now plan.now result }
 {
-    match plan::test_goals(goals) {
-        Answer::Refused(refusal) => Tested::Refused(refusal),
-        Answer::Count(_) => {
-            if is_plan(goals, plan) {
-                Tested::Accepted
-            } else {
-                Tested::NotPlan
-            }
-        }
-    }
+    plan::test_goals(goals)?;
+    Ok(is_plan(goals, plan))
 }

@@ -1,8 +1,8 @@
+use Rattle.std.specs.Prelude.{None}
 use mathlib.Core.Path.{◌≡◌, refl}
 use mathlib.Core.List.Memᴰ
 use mathlib.Core.List.{List, [], ◌∷◌}
 use mathlib.Core.Logic.{⊎_elim, inl, inr}
-use mathlib.Core.Option.{none}
 use Prim.Native.Nat.{ℕ, zero, suc}
 use native.Mathlib.Omega.{arith}
 use lib.IntN.{pos}
@@ -40,7 +40,7 @@ abbrev holds : RegisteredWrite → List ℕ → Device
 holds w table = record { table = table; registered = w; body = replicate 15 0xAA; reply = replicate 32 0xAA }
 
 -- the body buffer has room for each packet, and not for both of the second plan
-ready_one : (form : Form) (table : List ℕ) → fault_of form (with table) ≡ none → Ready form (with table) (plan_of_two ∷ [])
+ready_one : (form : Form) (table : List ℕ) → fault_of form (with table) ≡ None → Ready form (with table) (plan_of_two ∷ [])
 unfolding body_of unstuff_after
 ready_one form table e =
     record {
@@ -48,7 +48,7 @@ ready_one form table e =
       room = λ w m. ⊎_elim (λ i. rw i (leb-true _ _ refl)) (λ n. absurd (Memᴰ.not-nil n)) (Memᴰ.cases_cons m);
     }
 
-ready_two : (form : Form) (w : RegisteredWrite) (table : List ℕ) → fault_of form (holds w table) ≡ none → Ready form (holds w table) (goal_of_3 ∷ goal_of_9 ∷ [])
+ready_two : (form : Form) (w : RegisteredWrite) (table : List ℕ) → fault_of form (holds w table) ≡ None → Ready form (holds w table) (goal_of_3 ∷ goal_of_9 ∷ [])
 unfolding body_of unstuff_after
 ready_two form w table e =
     record {
@@ -96,7 +96,7 @@ goals_stored left nine narrow one =
 
 -- and of every table that the form does not refuse
 abbrev EachObeys : List Call → Type 0
-EachObeys calls = (form : Form) (table : List ℕ) → fault_of form (with table) ≡ none → Obeys (by form calls) table
+EachObeys calls = (form : Form) (table : List ℕ) → fault_of form (with table) ≡ None → Obeys (by form calls) table
 
 in_one_packet : PlanCarriedOut → EachObeys (since in_halves 1)
 unfolding plan_of_two_lem

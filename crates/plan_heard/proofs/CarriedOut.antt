@@ -1,9 +1,9 @@
 -- The packets of a plan, one after the other: one of them at the most has an entry for the device.
+use Rattle.std.specs.Prelude.{None}
 use mathlib.Core.Path.{◌≡◌, refl, sym, ap, subst, ◌∙◌}
 use mathlib.Core.Bool.{Bool, true, false}
 use mathlib.Core.List.{List, [], ◌∷◌, ◌++◌, map, Memᴰ}
 use mathlib.Core.Logic.{◌⊎◌, ⊎_elim}
-use mathlib.Core.Option.{none}
 use Prim.Native.Nat.{ℕ, ◌+◌, ◌≤◌, ◌<◌}
 use native.Mathlib.Omega.{arith}
 use lib.IntN.{ℤ, pos, negsuc}
@@ -166,7 +166,7 @@ module _ (form : Form) where
 
 -- ---- the device at the start, and the whole plan
 
-fit_of : (form : Form) (d : Device) → fault_of form d ≡ none → Fit form d
+fit_of : (form : Form) (d : Device) → fault_of form d ≡ None → Fit form d
 fit_of in_two d e =
     let a = state_accepted d.table d.registered e in
     record { sized = a.sized; known = a.known; short = a.short; answerable = tt }
@@ -220,7 +220,7 @@ model_follows =
 -- what a reader is promised, for every form of calls
 abbrev pub CarriedOut : Type 0
 CarriedOut =
-    (goals : List ℤ) (bytes : List ℕ) → goals_refusal goals ≡ none → (plan : Plan goals bytes)
+    (goals : List ℤ) (bytes : List ℕ) → goals_refusal goals ≡ None → (plan : Plan goals bytes)
     → (x : records.State) → records.Fresh x → (earlier : List Call) → AtStart (model protocol2) [] earlier
     → (chunks : List (List ℕ)) (g : ℕ) → TakenWhole chunks g bytes → (form : Form) (d : Device) → Ready form d plan.packets
     → Obeyed goals (of_device d) (of_device (hears_all form d (given records (after records x earlier) (since chunks g))))

@@ -1,7 +1,7 @@
 -- What a device is after one packet of a plan.
+use Rattle.std.specs.Prelude.{None, Option, Some}
 use mathlib.Core.Path.{◌≡◌, refl, sym, ap, subst, ◌∙◌}
 use mathlib.Core.List.{List, [], ◌∷◌, ◌++◌}
-use mathlib.Core.Option.{Option, none}
 use Prim.Native.Nat.{ℕ, ◌+◌, ◌≤◌}
 use native.Mathlib.Omega.{arith}
 use lib.ListN.{length, take, drop, length-append, length-take, length-drop, take-append-drop}
@@ -18,7 +18,6 @@ use Rattle.table_registers.specs.Registers.{table_size}
 use Rattle.table_rules.specs.Rules.{stored}
 use Rattle.device_parameters.specs.Parameters.{sync_search}
 use Rattle.device_parameters.specs.declared.OwnEntry.{OwnEntry}
-use Rattle.device_parameters.specs.declared.OwnEntry.TheVariants.{At, Nothing}
 use Rattle.device_parameters.proofs.Searching.{sync_whole}
 use Rattle.device_instructions.specs.Instructions.{Effect, write}
 use Rattle.device_instructions.specs.declared.RegisteredWrite.{RegisteredWrite}
@@ -43,14 +42,14 @@ all_four params at h = simp (length-take, length-drop) (omega arith)
 
 -- ---- what is done with a Sync Write of goals, by the own entry
 
-abbrev effect_of : List ℕ → RegisteredWrite → List ℕ → OwnEntry → Effect
-effect_of table r params (At slot at) = write table r 116 (goal_bytes params at)
-effect_of table r params Nothing = unchanged table r
+abbrev effect_of : List ℕ → RegisteredWrite → List ℕ → Option OwnEntry → Effect
+effect_of table r params (Some entry) = write table r 116 (goal_bytes params entry.offset)
+effect_of table r params None = unchanged table r
 
-by_entry_lem : (table : List ℕ) (r : RegisteredWrite) (params : List ℕ) (f : OwnEntry)
+by_entry_lem : (table : List ℕ) (r : RegisteredWrite) (params : List ℕ) (f : Option OwnEntry)
     → by_entry f table r (λ slot at. sync_write_by table r 116 (goal_bytes params at)) ≡ reacting (effect_of table r params f) silent
-by_entry_lem table r params (At slot at) = refl
-by_entry_lem table r params Nothing = refl
+by_entry_lem table r params (Some entry) = refl
+by_entry_lem table r params None = refl
 
 begins : (table : List ℕ) (r : RegisteredWrite) (rest : List ℕ) → own_id table ≤ 252
     → executed table r Packet 254 (plan_head ++ rest)
@@ -92,7 +91,7 @@ module _ (w : List ℕ) (g : GoalWrite w) where
       (with_head b g.head) (begins table r (drop 5 b) known)
 
   module _ (d : Device) (room : length (unstuff (body_of w)) ≤ length d.body) where
-    removed : removal_refusal (body_of w) d.body ≡ none
+    removed : removal_refusal (body_of w) d.body ≡ None
     unfolding removal_refusal
     removed = rw (g.well.stuffed, le-leb (length (unstuff (body_of w))) (length d.body) room)
 
@@ -102,7 +101,7 @@ module _ (w : List ℕ) (g : GoalWrite w) where
         length-append (unstuff (body_of w)) (drop (length (unstuff (body_of w))) d.body)
         ∙ omega (arith, length-drop (length (unstuff (body_of w))) d.body)
 
-    abbrev found : OwnEntry
+    abbrev found : Option OwnEntry
     found = sync_search 5 (own_id d.table) (params_of w)
 
     -- in each form: what is left is what the effect leaves
@@ -120,10 +119,10 @@ module _ (w : List ℕ) (g : GoalWrite w) where
       pub not_found : goal_found (own_id d.table) (params_of w) ≡ [] → hears form d (packet w) ≡ changed d d.table w
       not_found n = by_found found refl n
         where
-          by_found : (f : OwnEntry) → found ≡ f → goal_at (params_of w) f ≡ [] → hears form d (packet w) ≡ changed d d.table w
-          by_found (At slot at) e n = let z : ◌≡◌ {A = ℕ} 0 1 = cc in absurd (omega arith)
-          by_found Nothing e n =
-              after form fit (unchanged d.table d.registered) (ap (λ (f : OwnEntry). effect_of d.table d.registered (params_of w) f) e) refl
+          by_found : (f : Option OwnEntry) → found ≡ f → goal_at (params_of w) f ≡ [] → hears form d (packet w) ≡ changed d d.table w
+          by_found (Some entry) e n = let z : ◌≡◌ {A = ℕ} 0 1 = cc in absurd (omega arith)
+          by_found None e n =
+              after form fit (unchanged d.table d.registered) (ap (λ (f : Option OwnEntry). effect_of d.table d.registered (params_of w) f) e) refl
 
       -- it has one: four bytes are written, unless the limits refuse
       pub record Wrote (goal : ℕ) : Type 0 where
@@ -147,9 +146,11 @@ module _ (w : List ℕ) (g : GoalWrite w) where
       pub is_found : (goal : ℕ) (more : List ℕ) → goal_found (own_id d.table) (params_of w) ≡ goal ∷ more → goal ≤ 4095 → Wrote goal
       is_found goal more n low = by_found found refl n
         where
-          by_found : (f : OwnEntry) → found ≡ f → goal_at (params_of w) f ≡ goal ∷ more → Wrote goal
-          by_found Nothing e n = let z : ◌≡◌ {A = ℕ} 0 1 = cc in absurd (omega arith)
-          by_found (At slot at) e n =
+          by_found : (f : Option OwnEntry) → found ≡ f → goal_at (params_of w) f ≡ goal ∷ more → Wrote goal
+          by_found None e n = let z : ◌≡◌ {A = ℕ} 0 1 = cc in absurd (omega arith)
+          by_found (Some entry) e n =
+              let slot = entry.slot in
+              let at = entry.offset in
               let bytes = goal_bytes (params_of w) at in
               let four = all_four (params_of w) at (sync_whole 5 (own_id d.table) (params_of w) slot at e) in
               let are : number_at bytes 0 4 ≡ goal = part_number (params_of w) (at + 1) 4 ∙ cc in
@@ -157,6 +158,6 @@ module _ (w : List ℕ) (g : GoalWrite w) where
                 bytes = bytes;
                 four = four;
                 are = are;
-                left = after form fit (write d.table d.registered 116 bytes) (ap (λ (f : OwnEntry). effect_of d.table d.registered (params_of w) f) e) (registered_kept bytes)
+                left = after form fit (write d.table d.registered 116 bytes) (ap (λ (f : Option OwnEntry). effect_of d.table d.registered (params_of w) f) e) (registered_kept bytes)
                     ∙ ap (λ (t : List ℕ). changed d t w) (written bytes goal four are low);
               }

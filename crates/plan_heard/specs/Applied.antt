@@ -1,6 +1,6 @@
 -- What is promised of plans that are heard, applied to the worked ones and to devices 9 and 1, by each form of calls, and to boards.
+use Rattle.std.specs.Prelude.{None}
 use Rattle.std.specs.Prelude.{◌≡◌, List, [], ◌∷◌, ℕ, pos, take, drop, replicate, get_or}
-use Rattle.std.proofs.Math.Option.{none}
 use Rattle.reading.specs.Calls.{Call, feed, gap, call}
 use Rattle.reading.specs.Lists.{model, after, took, given}
 use Rattle.reading.specs.Promise.{since}
@@ -73,7 +73,7 @@ StoredBy calls = GoalsStored (by in_two calls) × GoalsStored (by in_one calls) 
 -- fed packet by packet, the plan is taken, and the first gap call says that nothing is left
 abbrev pub Taken : List (List ℕ) → List ℕ → Type 0
 Taken packets bytes =
-    (took (model protocol2) [] (since packets 1) ≡ bytes) × ((call protocol2 (after (model protocol2) [] (since packets 0)) gap).answer ≡ none)
+    (took (model protocol2) [] (since packets 1) ≡ bytes) × ((call protocol2 (after (model protocol2) [] (since packets 0)) gap).answer ≡ None)
 
 abbrev pub PlanCarriedOutApplied : Type 0
 PlanCarriedOutApplied =

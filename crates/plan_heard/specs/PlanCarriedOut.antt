@@ -1,7 +1,7 @@
 -- An accepted plan, whoever made it, that a reader takes as one whole segment and a device then hears: its goal is stored.
+use Rattle.std.specs.Prelude.{None, Option}
 use Rattle.std.specs.Prelude.{◌≡◌, Bool, true, false, ◌&&◌, ◌⊎◌, ℕ, ◌≤◌, ◌<◌, ℤ, pos, length, get_or}
 use mathlib.Core.List.{List, [], ◌∷◌, Memᴰ}
-use Rattle.std.proofs.Math.Option.{Option, none}
 use Rattle.std.specs.Int.Signed.{le_z}
 use Rattle.answers.specs.declared.Refusal.{Refusal}
 use Rattle.stuffing.specs.Stuffing.{unstuff}
@@ -35,7 +35,7 @@ fault_of in_one d = call_refusal d.table d.registered d.reply
 -- No call gives 13, or 21 to 25: the device's test passes, and the body buffer has room for each packet's unstuffed body. 25 comes
 -- from no reader at a start (Q2), and 14 of no well-formed packet. [W10]
 pub record Ready (form : Form) (d : Device) (packets : List (List ℕ)) : Type 0 where
-  pub faultless : fault_of form d ≡ none
+  pub faultless : fault_of form d ≡ None
   pub room : (w : List ℕ) → Memᴰ w packets → length (unstuff (body_of w)) ≤ length d.body
 
 -- the table and the registered write of a device, and of a board
@@ -66,12 +66,12 @@ TakenWhole chunks g bytes = (took (model protocol2) [] (since chunks g) ≡ byte
 pub record PlanCarriedOut : Type 0 where
   -- For every plan of goals that are not refused, and every list of calls that take it whole, however cut, on a reader at a fresh
   -- start or a finished gap: each event that the reader gives is handed to the device.
-  pub carried_out_lem : (goals : List ℤ) (bytes : List ℕ) → goals_refusal goals ≡ none → (plan : Plan goals bytes)
+  pub carried_out_lem : (goals : List ℤ) (bytes : List ℕ) → goals_refusal goals ≡ None → (plan : Plan goals bytes)
       → (x : records.State) → records.Fresh x → (earlier : List Call) → AtStart (model protocol2) [] earlier
       → (chunks : List (List ℕ)) (g : ℕ) → TakenWhole chunks g bytes → (form : Form) (d : Device) → Ready form d plan.packets
       → Obeyed goals (of_device d) (of_device (hears_all form d (given records (after records x earlier) (since chunks g))))
   -- and a board that takes it so, whose calls give none of these numbers
-  pub on_board_lem : (goals : List ℤ) (bytes : List ℕ) → goals_refusal goals ≡ none → (plan : Plan goals bytes)
+  pub on_board_lem : (goals : List ℤ) (bytes : List ℕ) → goals_refusal goals ≡ None → (plan : Plan goals bytes)
       → (b : Board) → boards.Fresh b → (earlier : List Call) → AtStart (model protocol2) [] earlier
       → (chunks : List (List ℕ)) (g : ℕ) → TakenWhole chunks g bytes
       → Obeyed goals (of_board (after boards b earlier)) (of_board (after boards (after boards b earlier) (since chunks g)))

@@ -1,10 +1,10 @@
 -- Our plans are accepted: what a device finds in the planner's packets.
+use Rattle.std.specs.Prelude.{None, Option}
 use mathlib.Core.Path.{◌≡◌, refl, sym, ap, ap₂, subst, ◌∙◌}
 use mathlib.Core.Bool.{Bool, true, false, cond}
 use mathlib.Core.List.Memᴰ
 use mathlib.Core.List.{List, [], ◌∷◌, ◌++◌, append_assoc, Memᴰ}
 use mathlib.Core.Logic.{⊎_elim}
-use mathlib.Core.Option.{none}
 use Prim.Native.Nat.{ℕ, zero, suc, ◌+◌, ◌≤◌, ◌<◌}
 use native.Mathlib.Omega.{arith}
 use lib.Dec.{eqb}
@@ -18,10 +18,9 @@ use Rattle.lists.proofs.Numbers.{bytes_length, same_number}
 use Rattle.stuffing.specs.Stuffing.{unstuff}
 use Rattle.packet.specs.Packet.{body_of}
 use Rattle.packet_encoder.proofs.RoundTrip.{round_trip}
-use Rattle.device_parameters.specs.Entries.{occurs, entry_good, search_from}
+use Rattle.device_parameters.specs.Entries.{occurs, entry_good, search_from, entry_at}
 use Rattle.device_parameters.specs.Parameters.{plain}
 use Rattle.device_parameters.specs.declared.OwnEntry.{OwnEntry}
-use Rattle.device_parameters.specs.declared.OwnEntry.TheVariants.{At, Nothing}
 use Rattle.plan.specs.Goals.{unwanted, goal_of, goal_within, goals_within, goals_refusal}
 use Rattle.plan.specs.Plan.{plan_head, goal_at, goal_found, params_of, goals_in, GoalWrite, Plan}
 use Rattle.plan.specs.Planner.{GoalEntry, entries_from, entry_bytes, list_bytes, goal_packet, packets_from, plan_of}
@@ -132,10 +131,10 @@ not_passed id b [] h p = refl
 not_passed id b (x ∷ xs) h p = rw (ne_eqb id x (λ e. omega (arith, p.0))) (not_passed id b xs h p.1)
 
 module _ (own : ℕ) (params : List ℕ) where
-  abbrev search_on : ℕ → ℕ → List ℕ → OwnEntry → OwnEntry
+  abbrev search_on : ℕ → ℕ → List ℕ → Option OwnEntry → Option OwnEntry
   search_on steps at passed found = search_from (plain 5) own params steps at passed found
 
-  ended : (steps at : ℕ) (passed : List ℕ) (found : OwnEntry) → length params ≤ at → search_on steps at passed found ≡ found
+  ended : (steps at : ℕ) (passed : List ℕ) (found : Option OwnEntry) → length params ≤ at → search_on steps at passed found ≡ found
   unfolding search_from
   ended zero at passed found h = rw (le-leb (length params) at h)
   ended (suc steps) at passed found h = rw (le-leb (length params) at h)
@@ -160,21 +159,21 @@ module _ (own : ℕ) (params : List ℕ) where
         ap (λ (l : List ℕ). number_at l (length pre + 1) 4) e ∙ behind pre (entry_bytes x ++ list_bytes es) 1
         ∙ own_number x.0 x.1 (list_bytes es) r.2
 
-    here : (y : Bool) (found : OwnEntry)
-        → goal_at params (cond y (At (length passed) (length pre)) found) ≡ cond y (x.1 ∷ []) (goal_at params found)
+    here : (y : Bool) (found : Option OwnEntry)
+        → goal_at params (cond y (entry_at (length passed) (length pre)) found) ≡ cond y (x.1 ∷ []) (goal_at params found)
     here true found = ap (λ (n : ℕ). n ∷ []) number
     here false found = refl
 
-    turn : (steps : ℕ) (found : OwnEntry) → search_on (suc steps) (length pre) passed found
-        ≡ search_on steps (length (pre ++ entry_bytes x)) (x.0 ∷ passed) (cond (eqb x.0 own) (At (length passed) (length pre)) found)
+    turn : (steps : ℕ) (found : Option OwnEntry) → search_on (suc steps) (length pre) passed found
+        ≡ search_on steps (length (pre ++ entry_bytes x)) (x.0 ∷ passed) (cond (eqb x.0 own) (entry_at (length passed) (length pre)) found)
     unfolding search_from
     turn steps found =
         let n = bytes in
         let l : length pre + 5 ≡ length (pre ++ entry_bytes x) = omega (arith, length-append pre (entry_bytes x), bytes_length 4 x.1) in
         rw (lt-leb (length params) (length pre) (omega arith), good)
-        (ap₂ (λ (i at : ℕ). search_on steps at (i ∷ passed) (cond (eqb i own) (At (length passed) (length pre)) found)) first l)
+        (ap₂ (λ (i at : ℕ). search_on steps at (i ∷ passed) (cond (eqb i own) (entry_at (length passed) (length pre)) found)) first l)
 
-  search_finds : (es : List GoalEntry) (pre : List ℕ) (steps b : ℕ) (passed : List ℕ) (found : OwnEntry)
+  search_finds : (es : List GoalEntry) (pre : List ℕ) (steps b : ℕ) (passed : List ℕ) (found : Option OwnEntry)
       → params ≡ pre ++ list_bytes es → length es ≤ steps → Rising b es → Passed b passed
       → goal_at params (search_on steps (length pre) passed found) ≡ last_of own es (goal_at params found)
   unfolding last_of list_bytes Passed
@@ -183,7 +182,7 @@ module _ (own : ℕ) (params : List ℕ) where
   search_finds (x ∷ es) pre zero b passed found e h r p = absurd (omega arith)
   search_finds (x ∷ es) pre (suc steps) b passed found e h r p =
       ap (goal_at params) (turn x es pre passed b e r p steps found)
-      ∙ search_finds es (pre ++ entry_bytes x) steps (suc x.0) (x.0 ∷ passed) (cond (eqb x.0 own) (At (length passed) (length pre)) found)
+      ∙ search_finds es (pre ++ entry_bytes x) steps (suc x.0) (x.0 ∷ passed) (cond (eqb x.0 own) (entry_at (length passed) (length pre)) found)
       (e ∙ sym (append_assoc pre (entry_bytes x) (list_bytes es))) (omega arith) r.3
       (omega arith, passed_on b (suc x.0) passed (omega (arith, r.0)) p)
       ∙ ap (last_of own es) (here x es pre passed b e r p (eqb x.0 own) found)
@@ -199,7 +198,7 @@ module _ (b : ℕ) (es : List GoalEntry) (r : Rising b es) where
   unfolding Passed
   packet_goal id =
       ap (λ (l : List ℕ). goal_found id (drop 1 l)) body_is
-      ∙ search_finds id (116 ∷ 0 ∷ 4 ∷ 0 ∷ list_bytes es) es (116 ∷ 0 ∷ 4 ∷ 0 ∷ []) (length (116 ∷ 0 ∷ 4 ∷ 0 ∷ list_bytes es)) b [] Nothing refl
+      ∙ search_finds id (116 ∷ 0 ∷ 4 ∷ 0 ∷ list_bytes es) es (116 ∷ 0 ∷ 4 ∷ 0 ∷ []) (length (116 ∷ 0 ∷ 4 ∷ 0 ∷ list_bytes es)) b [] None refl
       (omega (arith, list_length es)) r tt
       ∙ last_is id b es r
 
@@ -235,7 +234,7 @@ all_write (suc steps) b (e ∷ es) r w m =
     (λ q. subst GoalWrite (sym q) (packet_writes b (take 203 (e ∷ es)) (rising_take 203 b (e ∷ es) r) (omega arith) (omega arith)))
     (λ i. all_write steps b (drop 203 (e ∷ es)) (rising_drop 203 b (e ∷ es) r) w i) (Memᴰ.cases_cons m)
 
-pub accepted : (goals : List ℤ) → goals_refusal goals ≡ none → Plan goals (plan_of goals)
+pub accepted : (goals : List ℤ) → goals_refusal goals ≡ None → Plan goals (plan_of goals)
 accepted goals e =
     let es = entries_from goals 0 in
     let n = goals_counted goals e in

@@ -1,8 +1,8 @@
 -- Packet after packet.
+use Rattle.std.specs.Prelude.{None}
 use mathlib.Core.Path.{◌≡◌, refl, sym, ap, ap₂, subst, ◌∙◌}
 use mathlib.Core.Bool.{Bool, true, false}
 use mathlib.Core.List.{List, [], ◌∷◌, ◌++◌, append-nil, append_assoc}
-use mathlib.Core.Option.{none}
 use Prim.Native.Nat.{ℕ, zero, suc, ◌+◌, ◌*◌, ◌/◌, ◌-◌, ◌≤◌, ◌<◌, min}
 use native.Mathlib.Omega.{arith}
 use lib.Dec.{leb}
@@ -38,7 +38,7 @@ module _ (es : List GoalEntry) (k : ℕ) (h : k ≤ length es) where
       (omega (arith, ap length e, length-append x (drop (length x) buffer)), ap (take (4 + 5 * k)) e ∙ take_at x (drop (length x) buffer) (4 + 5 * k) n)
 
   module _ (out : List ℕ) (at : ℕ) (r : Rising 0 es) (few : k ≤ 203) (room : at + (14 + 5 * k) ≤ length out) where
-    not_refused : encode_refusal 254 (plan_head ++ list_bytes (take k es)) out at ≡ none
+    not_refused : encode_refusal 254 (plan_head ++ list_bytes (take k es)) out at ≡ None
     unfolding encode_refusal
     not_refused =
         let q = rising_take k 0 es r in
@@ -166,7 +166,7 @@ module _ (goals : List ℤ) (old : List ℕ) where
 
 -- ---- before the loop
 
-module _ (goals : List ℤ) (good : goals_refusal goals ≡ none) where
+module _ (goals : List ℤ) (good : goals_refusal goals ≡ None) where
   pub entries_good : Rising 0 (entries_from goals 0)
   entries_good = entries_rise goals 0 (omega (arith, goals_counted goals good)) (goals_within_lem goals good)
 

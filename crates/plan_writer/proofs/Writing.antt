@@ -1,16 +1,17 @@
 -- Entry after entry.
 use mathlib.Core.Path.{◌≡◌, refl, sym, ap, ap₂, ◌∙◌}
-use mathlib.Core.Bool.{Bool, true, false}
+use mathlib.Core.Bool.{true, false}
 use mathlib.Core.List.{List, [], ◌∷◌, ◌++◌, append-nil, append_assoc}
+use borrow.Rule.Slice.PartMut.{put_mid}
+use Rattle.std.specs.List.{filter}
 use Prim.Native.Nat.{ℕ, suc, ◌+◌, ◌*◌, ◌≤◌, ◌<◌}
 use native.Mathlib.Numerals.{add-one}
 use native.Mathlib.Omega.{arith}
-use lib.Dec.{ltb}
 use lib.IntN.{ℤ, pos, negsuc}
 use lib.ListN.{length, take, drop, get_or, set, length-append, length-drop, length-take, drop_of_length-le}
 use lib.Seq.{drop-cons, drop-drop, take-add, drop-append_seam}
 use lib.Signed.{le_z}
-use borrow.Author.Tests.{leb-false, ltb-true, ltb-false}
+use borrow.Author.Tests.{le-leb, leb-false}
 use Rattle.lists.specs.Write.{overwritten, placed}
 use Rattle.lists.proofs.Write.{overwritten_take, overwritten_parts}
 use Rattle.table_items.specs.Items.{unsigned}
@@ -19,6 +20,13 @@ use Rattle.plan.proofs.Packets.{list_length}
 use Rattle.plan_writer.specs.Filling.{entries_at}
 
 -- ---- the entries at an ID
+
+-- the wanted goals, counted
+pub wanted_counted : (goals : List ℤ) (id : ℕ) → length (filter (λ (goal : ℤ). le_z (pos 0) goal) goals) ≡ length (entries_from goals id)
+unfolding entries_from
+wanted_counted [] id = refl
+wanted_counted (pos n ∷ goals) id = rw (le-leb 0 n (omega arith)) (ap suc (wanted_counted goals (suc id)))
+wanted_counted (negsuc n ∷ goals) id = wanted_counted goals (suc id)
 
 entries_wanted : (g : ℤ) (goals : List ℤ) (id : ℕ) → le_z (pos 0) g ≡ true → entries_from (g ∷ goals) id ≡ (id, unsigned g) ∷ entries_from goals (suc id)
 unfolding entries_from
@@ -46,13 +54,6 @@ module _ (goals : List ℤ) (id : ℕ) where
   unfolding entries_from
   at_end h = ap (λ (l : List ℤ). entries_from l id) (drop_of_length-le goals h)
 
-  pub at_some : 0 < length (entries_at goals id) → id < length goals
-  at_some h = by_test (ltb id (length goals)) refl
-    where
-      by_test : (b : Bool) → ltb id (length goals) ≡ b → id < length goals
-      by_test true t = ltb-true id (length goals) t
-      by_test false t = absurd (omega (arith, ap length (at_end (ltb-false id (length goals) t))))
-
 -- ---- writing
 
 -- the next part right behind what was written
@@ -61,17 +62,10 @@ placed_next old x y =
     ap₂ (λ (a b : List ℕ). a ++ overwritten b y) (overwritten_take old x) (drop-append_seam x (drop (length x) old))
     ∙ overwritten_parts old x y
 
-pub set_four : (o : List ℕ) (a b c d : ℕ) → 4 ≤ length o → set (set (set (set o 0 a) 1 b) 2 c) 3 d ≡ overwritten o (a ∷ b ∷ c ∷ d ∷ [])
-set_four [] a b c d h = absurd (omega arith)
-set_four (x0 ∷ []) a b c d h = absurd (omega arith)
-set_four (x0 ∷ x1 ∷ []) a b c d h = absurd (omega arith)
-set_four (x0 ∷ x1 ∷ x2 ∷ []) a b c d h = absurd (omega arith)
-set_four (x0 ∷ x1 ∷ x2 ∷ x3 ∷ o) a b c d h = refl
-
-pub set_five : (o : List ℕ) (a b c d e : ℕ) → 5 ≤ length o
-    → set (set (set (set (set o 0 a) 1 b) 2 c) 3 d) 4 e ≡ overwritten o (a ∷ b ∷ c ∷ d ∷ e ∷ [])
-set_five [] a b c d e h = absurd (omega arith)
-set_five (x0 ∷ o) a b c d e h = ap (λ (l : List ℕ). a ∷ l) (set_four o b c d e (omega arith))
+-- a byte at the start, and four behind it
+pub entry_placed : (out bytes : List ℕ) (id : ℕ) → 5 ≤ length out → length bytes ≡ 4 → put_mid 1 4 (set out 0 id) bytes ≡ overwritten out (id ∷ bytes)
+entry_placed [] bytes id h e = absurd (omega arith)
+entry_placed (x ∷ out) bytes id h e = rw e
 
 list_append : (es fs : List GoalEntry) → list_bytes (es ++ fs) ≡ list_bytes es ++ list_bytes fs
 unfolding list_bytes
@@ -106,9 +100,6 @@ module _ (goals : List ℤ) (from k : ℕ) (old : List ℕ) where
 
     pub filling_skip : id < length goals → le_z (pos 0) (get_or goals id (pos 0)) ≡ false → Filling out (id + 1) i
     filling_skip h e = record { some = f.some; left = sym (at_unwanted goals id h e) ∙ f.left; holds = f.holds }
-
-    pub filling_more : k ≤ length entries → i < k → 0 < length (entries_at goals id)
-    filling_more h l = omega (arith, ap length f.left, length-drop i entries)
 
     pub filling_next : (new : List ℕ) → k ≤ length entries → i < k → id < length goals → le_z (pos 0) (get_or goals id (pos 0)) ≡ true
         → new ≡ placed out (5 * i) (entry_bytes (id, unsigned (get_or goals id (pos 0)))) → Filling new (id + 1) (i + 1)

@@ -1,14 +1,16 @@
 // Our planner: writes the wanted goals as Sync Writes, IDs rising, as many devices to a packet as fit.
 #![tactic(auto)]
 
-ghost use Rattle.std.specs.Prelude.{◌≡◌, [], ◌∷◌, ◌++◌, ◌+◌, ◌*◌, ◌/◌, ◌≤◌, ◌<◌, length, take, drop};
+ghost use Rattle.std.specs.Prelude.{◌≡◌, [], ◌∷◌, ◌++◌, ◌+◌, ◌*◌, ◌/◌, ◌≤◌, ◌<◌, length, take, drop, filter, pos};
+ghost use Rattle.std.specs.Int.Signed.{le_z};
 ghost use Rattle.lists.specs.Write.{overwritten, placed};
 ghost use Rattle.table_items.specs.Items.{unsigned};
 ghost use Rattle.plan.specs.Planner.{entries_from, entry_bytes, list_bytes, goal_packet, packets_of, plan_of, plan_answer, plan_out};
 ghost use Rattle.plan.proofs.Packets.{Rising};
 ghost use Rattle.plan_writer.specs.Filling.{entries_at};
 
-use answers::{Answer, Refusal};
+use answers::Refusal;
+use device_codes::Instruction;
 
 // The most entries that a packet holds: 5 bytes each behind instruction, address and length, in a body of 1,022; and the parameters
 // of such a packet.
@@ -16,18 +18,11 @@ const MOST: usize = 203;
 
 const MOST_PARAMS: usize = 1019;
 
+// How many goals are wanted.
 fn count_wanted(goals: &[i32]) -> usize
-    ensures { result ≡ length (entries_from goals.now 0) }
+    ensures { result ≡ length (filter (λ goal. le_z (pos 0) goal) goals.now) }
 {
-    let mut n = 0;
-    let mut id = 0;
-    while id < goals.len() {
-        if 0 <= goals[id] {
-            n += 1;
-        }
-        id += 1;
-    }
-    n
+    goals.iter().filter(|goal| **goal >= 0).count()
 }
 
 // An ID and the four bytes of its goal, to the start of out.
@@ -35,12 +30,8 @@ fn write_entry(id: u8, goal: i32, out: &mut [u8])
     requires { 5 ≤ length out.old }
     ensures { out.new ≡ overwritten out.old (entry_bytes (id, unsigned goal)) }
 {
-    let bytes = buffers::bytes_of(table_items::unsigned_of(goal) as usize);
     out[0] = id;
-    out[1] = bytes[0];
-    out[2] = bytes[1];
-    out[3] = bytes[2];
-    out[4] = bytes[3];
+    out[1..5].copy_from_slice(&goal.to_le_bytes());
 }
 
 // The first k entries of the wanted IDs from `from` on, to the start of out. Returns where to go on.
@@ -49,26 +40,24 @@ fn write_entries(goals: &[i32], from: usize, k: usize, out: &mut [u8]) -> usize
     ensures result_value { entries_at goals.now result ≡ drop k (entries_at goals.now from) }
     ensures out_after { out.new ≡ overwritten out.old (list_bytes (take k (entries_at goals.now from))) }
 {
-    let mut id = from;
     let mut i = 0;
-    while i < k {
-        if 0 <= goals[id] {
+    for id in from..goals.len() {
+        if i == k {
+            return id;
+        }
+        if goals[id] >= 0 {
             write_entry(id as u8, goals[id], &mut out[5 * i..]);
             i += 1;
         }
-        id += 1;
     }
-    id
+    goals.len()
 }
 
 fn write_head(out: &mut [u8])
     requires { 4 ≤ length out.old }
     ensures { out.new ≡ overwritten out.old (116 ∷ 0 ∷ 4 ∷ 0 ∷ []) }
 {
-    out[0] = plan::ADDRESS;
-    out[1] = 0;
-    out[2] = plan::LENGTH;
-    out[3] = 0;
+    out[..4].copy_from_slice(&[plan::ADDRESS, 0, plan::LENGTH, 0]);
 }
 
 // Address and length, then the entries.
@@ -90,9 +79,9 @@ fn write_packet(goals: &[i32], from: usize, k: usize, out: &mut [u8], at: usize)
     let mut params = [0u8; MOST_PARAMS];
     let next = write_params(goals, from, k, &mut params);
     let written: &[u8] = &params;
-    packet_encoder::encode(
+    let _ = packet_encoder::encode(
         packet_front::BROADCAST_ID,
-        device_codes::INST_SYNC_WRITE,
+        Instruction::SyncWrite as u8,
         &written[..4 + 5 * k],
         out,
         at,
@@ -109,7 +98,7 @@ fn write_packets(goals: &[i32], n: usize, out: &mut [u8])
     let mut next = 0;
     let mut at = 0;
     while 0 < left {
-        let k = buffers::least(left, MOST);
+        let k = left.min(MOST);
         next = write_packet(goals, next, k, out, at);
         at += 14 + 5 * k;
         left -= k;
@@ -118,19 +107,16 @@ fn write_packets(goals: &[i32], n: usize, out: &mut [u8])
 
 // Writes the plan of the wanted goals to the start of out. Refused, in this order: a list that is not 253 long, a number below -1 or
 // above 4,095, no room. A refusal writes nothing. [N4 N12 N14 W1 W2 W6 W7]
-pub fn write_plan(goals: &[i32], out: &mut [u8]) -> Answer
+pub fn write_plan(goals: &[i32], out: &mut [u8]) -> Result<usize, Refusal>
     ensures value { result ≡ plan_answer goals.now out.old }
     ensures out_after { out.new ≡ plan_out goals.now out.old }
 {
-    let tested = plan::test_goals(goals);
-    let Answer::Count(_) = tested else {
-        return tested;
-    };
+    plan::test_goals(goals)?;
     let n = count_wanted(goals);
-    let size = 14 * ((n + 202) / MOST) + 5 * n;
+    let size = 14 * n.div_ceil(MOST) + 5 * n;
     if out.len() < size {
-        return Answer::Refused(Refusal::NoRoom);
+        return Err(Refusal::NoRoom);
     }
     write_packets(goals, n, out);
-    Answer::Count(size)
+    Ok(size)
 }

@@ -1,9 +1,9 @@
 -- What demand 3 asks for is computed, and what it gives is handed on.
+use Rattle.std.specs.Prelude.{None}
 use mathlib.Core.Path.{◌≡◌, refl, sym, ap, ◌∙◌}
 use mathlib.Core.Bool.{false}
 use mathlib.Core.List.{List, [], ◌∷◌, ◌++◌, map}
 use mathlib.Core.Logic.{inr}
-use mathlib.Core.Option.{none}
 use Prim.Native.Nat.{ℕ, ◌+◌, ◌-◌}
 use native.Mathlib.Omega.{arith}
 use lib.ListN.{length, take, drop, replicate}
@@ -32,7 +32,7 @@ use Rattle.reader_applications.specs.Demand3.{Out, ComesOut, Arriving, ByFeed, P
 
 -- what demand 3 supposes, by tests
 pub record Computed (p : Protocol) (chunks : List (List ℕ)) (g : ℕ) (noise : List ℕ) (packets : List (List ℕ)) (rest : List ℕ) : Type 0 where
-  pub finished_gap : (records_of p).answer (after (records_of p) (used p) (feed (0x01 ∷ []) ∷ [])) gap ≡ none
+  pub finished_gap : (records_of p).answer (after (records_of p) (used p) (feed (0x01 ∷ []) ∷ [])) gap ≡ None
   pub taken : took (records_of p) (after_earlier p) (since chunks g) ≡ noise ++ (joined packets ++ rest)
   pub are : EachPacket (rules_of p) packets
   pub apart : reaches_across (rules_of p) noise (joined packets ++ rest) ≡ false
@@ -54,7 +54,7 @@ pub record Lacking (p : Protocol) (noise a b : List ℕ) : Type 0 where
 -- of a packet, and so many 0 behind it
 pub record BySize (p : Protocol) (noise a : List ℕ) (most zeros : ℕ) : Type 0 where
   pub supposed : Computed p (followed noise a most) 0 noise (a ∷ []) (replicate zeros 0)
-  pub silent : (records_of p).answer (after (records_of p) (after_earlier p) (feeds (take 2 (followed noise a most)))) (feed (replicate (length noise - 1) 0)) ≡ none
+  pub silent : (records_of p).answer (after (records_of p) (after_earlier p) (feeds (take 2 (followed noise a most)))) (feed (replicate (length noise - 1) 0)) ≡ None
   pub many : length (joined (a ∷ []) ++ replicate zeros 0) ≡ most
   pub sized : length (joined (a ∷ [])) ≡ length a
 

@@ -1,9 +1,9 @@
+use Rattle.std.specs.Prelude.{None, Some}
 use mathlib.Core.Path.{◌≡◌, refl, sym, ap, subst, ◌∙◌}
 use mathlib.Core.Bool.{Bool, true, false}
 use mathlib.Core.List.Memᴰ
 use mathlib.Core.List.{List, [], ◌∷◌, ◌++◌, map, append-nil, Memᴰ}
 use mathlib.Core.Logic.{⊎_elim, inl, inr}
-use mathlib.Core.Option.{none, some}
 use Prim.Native.Nat.{ℕ, zero, suc, ◌+◌, ◌-◌, ◌<◌}
 use native.Mathlib.Omega.{arith}
 use lib.ListN.{length, take, drop, replicate}
@@ -51,9 +51,9 @@ sooner R held chunk (suc n) e k h = pick (eqb k n) refl (λ l. sooner R held chu
 -- what the promises suppose, and what their conclusions come to, by tests
 pub record Tested (p : Protocol) (most : ℕ) (a b : List ℕ) (h : ℕ) : Type 0 where
   pub are : EachPacket (rules_of p) (a ∷ b ∷ [])
-  pub finished_gap : (call (rules_of p) (after (model (rules_of p)) [] (feed (0x01 ∷ []) ∷ [])) gap).answer ≡ none
+  pub finished_gap : (call (rules_of p) (after (model (rules_of p)) [] (feed (0x01 ∷ []) ∷ [])) gap).answer ≡ None
   pub halves_taken : took (model (rules_of p)) [] (since (halves a b) 3) ≡ joined (a ∷ b ∷ [])
-  pub halves_finished : (call (rules_of p) (after (model (rules_of p)) [] (since (halves a b) 0)) gap).answer ≡ none
+  pub halves_finished : (call (rules_of p) (after (model (rules_of p)) [] (since (halves a b) 0)) gap).answer ≡ None
   pub lacking_taken : took (records_of p) (used p) (since (lacking a b) 0) ≡ joined (b ∷ []) ++ take (length a - 1) a
   pub next : (rules_of p).verdict (take (length a - 1) a ++ drop (length a - 1) a) ≡ is_packet (length (take (length a - 1) a ++ drop (length a - 1) a))
   pub one_more_lem : length (drop (length a - 1) a) ≡ 1
@@ -62,13 +62,13 @@ pub record Tested (p : Protocol) (most : ℕ) (a b : List ℕ) (h : ℕ) : Type 
   pub each_silent : EachSilent (rules_of p) (take h a) (drop h a ++ 0xFF ∷ []) 6
   pub six : first (rules_of p) open' (take h a ++ take 6 (drop h a ++ 0xFF ∷ [])) ≡ event (packet a) []
   pub three : length (take 3 (drop h a ++ 0xFF ∷ [])) ≡ 3
-  pub three_fed : fed (rules_of p) (take h a) (take 3 (drop h a ++ 0xFF ∷ [])) ≡ record { taken = 3; answer = none; held = take h a ++ take 3 (drop h a ++ 0xFF ∷ []) }
+  pub three_fed : fed (rules_of p) (take h a) (take 3 (drop h a ++ 0xFF ∷ [])) ≡ record { taken = 3; answer = None; held = take h a ++ take 3 (drop h a ++ 0xFF ∷ []) }
   pub bound : (rules_of p).longest - 1 ≡ most
   pub full_sized : length (full p) ≡ most
-  pub full_answer : (call (rules_of p) (held_in (lent (full p) most)) (feed [])).answer ≡ none
+  pub full_answer : (call (rules_of p) (held_in (lent (full p) most)) (feed [])).answer ≡ None
   pub full_taken : (call (rules_of p) (held_in (lent (full p) most)) (feed (0x00 ∷ 0x00 ∷ []))).taken ≡ 1
   pub full_next : (call (rules_of p) (held_in (lent (full p) most)) gap).held ≡ []
-  pub full_ends : (call (rules_of p) (full p) gap).answer ≡ none
+  pub full_ends : (call (rules_of p) (full p) gap).answer ≡ None
   pub zeros : length {A = ℕ} (replicate most 0) ≡ most
   pub fewer : length {A = ℕ} (replicate (most - 1) 0) + 1 ≡ most
   pub crossing : reaches_across (rules_of p) (take 5 a) (drop 5 a) ≡ true
@@ -80,7 +80,7 @@ absent m =
 
 module _ (p : Protocol) (most : ℕ) (a b : List ℕ) (h : ℕ) (c : Tested p most a b h) (t : ProtocolPromises p most) where
   abbrev answered : CallResult
-  answered = record { taken = 6; answer = some (packet a); held = [] }
+  answered = record { taken = 6; answer = Some (packet a); held = [] }
 
   -- six bytes, and no fewer
   is_fewest : Fewest (rules_of p) (take h a) (drop h a ++ 0xFF ∷ []) answered
@@ -107,7 +107,7 @@ module _ (p : Protocol) (most : ℕ) (a b : List ℕ) (h : ℕ) (c : Tested p mo
         waits = silence.1 ∙ ap (λ (r : CallResult). silent r.held) c.three_fed;
       }
 
-  not_seven : ¬ (◌≡◌ {A = CallResult} answered (record { taken = 7; answer = some (packet a); held = [] }))
+  not_seven : ¬ (◌≡◌ {A = CallResult} answered (record { taken = 7; answer = Some (packet a); held = [] }))
   not_seven e = let z : ◌≡◌ {A = ℕ} 6 7 = ap (λ (r : CallResult). r.taken) e in absurd (omega arith)
 
   not_both : (v : Bool) → v ≡ true → v ≡ false → ⊥
@@ -260,7 +260,7 @@ both_finished : Finished (model protocol2) [] (segment ∷ ping_to_1 ∷ []) 1
 unfolding reduce_if shift shifts crc_byte crc_from well_after length_of body_of checksum_right front_agrees length_agrees shapeVerdict after first fed call
 both_finished = (0, omega arith, refl)
 
-gap_finished : records.answer (after records (used Two) (feed (0x01 ∷ []) ∷ [])) gap ≡ none
+gap_finished : records.answer (after records (used Two) (feed (0x01 ∷ []) ∷ [])) gap ≡ None
 unfolding after first fed call step_in left_in packet_in front_agrees length_agrees shapeVerdict
 gap_finished = refl
 

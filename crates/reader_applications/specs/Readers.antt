@@ -1,7 +1,7 @@
 -- What else is promised of the readers of each protocol, and of the plain reader, applied.
+use Rattle.std.specs.Prelude.{Err, None, Some}
 use Rattle.std.specs.Prelude.{◌≡◌, false, ℕ, ◌+◌, ◌-◌, ◌≤◌, ◌<◌, length, take, drop, replicate}
 use mathlib.Core.List.{List, [], ◌∷◌, ◌++◌, map, Memᴰ}
-use Rattle.std.proofs.Math.Option.{none, some}
 use Rattle.answers.specs.declared.Refusal.TheVariants.{BadReader}
 use Rattle.reading.specs.Rules.{Rules}
 use Rattle.reading.specs.Reading.{Event, packet, bad_checksum, EventAt, open'}
@@ -9,7 +9,6 @@ use Rattle.reading.specs.Calls.{feed, gap, event, silent, first, fed, call}
 use Rattle.reading.specs.Lists.{after, took, given}
 use Rattle.reading.specs.Promise.{since, what, EndsSilent, NoneAcross, Followed, given_at}
 use Rattle.reading.specs.Across.{reaches_across}
-use Rattle.reader_core.specs.declared.StepEvent.TheVariants.{Refused}
 use Rattle.reader_records.specs.Records.{held_in, step_in, records_of, records, lent, ProtocolPromises}
 use Rattle.reader_plain.specs.Plain.{plain, PlainPromises}
 use Rattle.packet_protocols.specs.declared.Protocol.{Protocol}
@@ -43,7 +42,7 @@ pub record ReaderApplied (p : Protocol) (most : ℕ) (a b : List ℕ) (h : ℕ) 
   pub clean_taken : took (records_of p) (after_earlier p) (since (halves a b) 3) ≡ a ++ b
   pub clean_line : given (records_of p) (after_earlier p) (since (halves a b) 3) ≡ packet a ∷ packet b ∷ []
   pub packet_by_packet : given (records_of p) (used p) (since (a ∷ b ∷ []) 1) ≡ packet a ∷ packet b ∷ []
-  pub finished : (k : ℕ) × (k < 1) × ((records_of p).answer (after (records_of p) (used p) (since (a ∷ b ∷ []) k)) gap ≡ none)
+  pub finished : (k : ℕ) × (k < 1) × ((records_of p).answer (after (records_of p) (used p) (since (a ∷ b ∷ []) k)) gap ≡ None)
   pub start_again : EndsSilent (records_of p) (used p) (since (a ∷ b ∷ []) 1) gap
   pub all_taken : took (records_of p) (used p) (since (a ∷ b ∷ []) 1) ≡ a ++ b
   -- no noise, no call before: no event that begins in the packet but the packet; none that begins in one that still arrives
@@ -51,20 +50,20 @@ pub record ReaderApplied (p : Protocol) (most : ℕ) (a b : List ℕ) (h : ℕ) 
       → Memᴰ {A = EventAt} (q, e) ((0, packet b) ∷ [])
   pub none_arriving : (q : ℕ) (e : Event) → Memᴰ (q, e) (given_at (rules_of p) (records_of p) (used p) (lacking a b) 0) → q < length b
   -- of seven bytes behind those that are held, six are taken
-  pub fewest : fed (rules_of p) (take h a) (drop h a ++ 0xFF ∷ []) ≡ record { taken = 6; answer = some (packet a); held = [] }
-  pub none_sooner : ¬ (fed (rules_of p) (take h a) (drop h a ++ 0xFF ∷ []) ≡ record { taken = 7; answer = some (packet a); held = [] })
+  pub fewest : fed (rules_of p) (take h a) (drop h a ++ 0xFF ∷ []) ≡ record { taken = 6; answer = Some (packet a); held = [] }
+  pub none_sooner : ¬ (fed (rules_of p) (take h a) (drop h a ++ 0xFF ∷ []) ≡ record { taken = 7; answer = Some (packet a); held = [] })
   pub in_words : InWords (rules_of p) (take h a) (drop h a ++ 0xFF ∷ []) a
   pub held_bound : length (call (rules_of p) (full p) (feed [])).held ≤ most
   pub finished_empty : (call (rules_of p) (full p) gap).held ≡ []
   -- a fresh record holds nothing, and a full one keeps to the rules
   pub fresh_legal : (used p).count ≤ most
   pub fresh_holds : held_in (used p) ≡ []
-  pub same_answer_lem : (records_of p).answer (lent (full p) most) (feed []) ≡ none
+  pub same_answer_lem : (records_of p).answer (lent (full p) most) (feed []) ≡ None
   pub same_taken : (records_of p).taken (lent (full p) most) (feed (0x00 ∷ 0x00 ∷ [])) ≡ 1
   pub same_next : held_in ((records_of p).next (lent (full p) most) gap) ≡ []
   pub stays_legal : ((records_of p).next (lent (full p) most) (feed [])).count ≤ most
   -- as many bytes are held as can be
-  pub never_refused : ¬ ((step_in p (after (records_of p) (used p) (earlier ++ feed (full p) ∷ [])) gap).event ≡ Refused BadReader)
+  pub never_refused : ¬ (step_in p (after (records_of p) (used p) (earlier ++ feed (full p) ∷ [])) gap ≡ Err BadReader)
   pub followed : Followed (rules_of p) (replicate most 0)
   pub too_few : ¬ Followed (rules_of p) (replicate (most - 1) 0)
   pub none_without_ff : ¬ (rules_of p).WellFormed (quiet ++ a)

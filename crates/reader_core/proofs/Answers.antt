@@ -1,7 +1,7 @@
 -- What the parts of a call come to is what the call answers and leaves, once the buffers' ends are cleared.
+use Rattle.std.specs.Prelude.{None, Ok, Option, Some}
 use mathlib.Core.Path.{◌≡◌, refl, sym, ap, ap₂, ◌∙◌}
 use mathlib.Core.List.{List, ◌++◌}
-use mathlib.Core.Option.{Option, none, some}
 use Prim.Native.Nat.{ℕ, ◌-◌, ◌≤◌, ◌<◌}
 use native.Mathlib.Omega.{arith}
 use borrow.Author.Tests.{le-leb}
@@ -49,11 +49,11 @@ some_room One = omega arith
 some_room Mercury = omega arith
 
 -- the buffer's ID is the packet's, which has so many bytes
-event_is : (p : Protocol) (a : Option Event) (bytes : List ℕ) → ((w : List ℕ) → a ≡ some (packet w) → (rules_of p).WellFormed w)
+event_is : (p : Protocol) (a : Option Event) (bytes : List ℕ) → ((w : List ℕ) → a ≡ Some (packet w) → (rules_of p).WellFormed w)
     → take (length (packet_bytes a)) bytes ≡ packet_bytes a → event_with (id_in p bytes) a ≡ event_for p a
-event_is p none bytes g b = refl
-event_is p (some (bad_checksum id)) bytes g b = refl
-event_is p (some (packet w)) bytes g b =
+event_is p None bytes g b = refl
+event_is p (Some (bad_checksum id)) bytes g b = refl
+event_is p (Some (packet w)) bytes g b =
     let h = id_inside p w (g w refl) in
     let e : id_in p bytes ≡ id_in p w =
     sym (id_at_lem p bytes) ∙ sym (get_or-take (length w) bytes (id_offset p) 0 h) ∙ ap (λ (s : List ℕ). get_or s (id_offset p) 0) b ∙ id_at_lem p w in
@@ -67,15 +67,15 @@ of_fields step step' i j k = λ x. record { taken = i x; held = j x; event = k x
 
 abbrev Answered : (p : Protocol) (count : ℕ) (r : CallResult) (held bytes : List ℕ) (step : Step) (held' bytes' : List ℕ) → Type 0
 Answered p count r held bytes step held' bytes' =
-    (step ≡ step_for p count r) × (held' ≡ held_for p count held r) × (bytes' ≡ packet_for p count bytes r)
+    (Ok step ≡ step_for p count r) × (held' ≡ held_for p count held r) × (bytes' ≡ packet_for p count bytes r)
 
 pub step_is : (p : Protocol) (count : ℕ) (h : List ℕ) (c : Call) (held bytes : List ℕ) (step : Step) → count ≤ most_held p
-    → Delivered p (call (rules_of p) h c) step held bytes → step ≡ step_for p count (call (rules_of p) h c)
+    → Delivered p (call (rules_of p) h c) step held bytes → Ok step ≡ step_for p count (call (rules_of p) h c)
 step_is p count h c held bytes step l w =
     let r = call (rules_of p) h c in
     rw (le-leb count (most_held p) l)
-    (of_fields step _ w.taken_is w.count_is
-    (w.event_is ∙ event_is p r.answer bytes (packet_good (rules_of p) (laws p) h c) w.bytes_are))
+    (ap Ok (of_fields step _ w.taken_is w.count_is
+    (w.event_is ∙ event_is p r.answer bytes (packet_good (rules_of p) (laws p) h c) w.bytes_are)))
 
 pub answered : (p : Protocol) (count : ℕ) (h : List ℕ) (c : Call) (held₀ bytes₀ held bytes held' bytes' : List ℕ) (step : Step)
     → count ≤ most_held p → length held ≡ most_held p → length bytes ≡ (rules_of p).longest → Delivered p (call (rules_of p) h c) step held bytes
@@ -88,7 +88,7 @@ answered p count h c held₀ bytes₀ held bytes held' bytes' step l m n w e =
     let front = ap (λ (k : ℕ). take k bytes) size ∙ w.bytes_are in
     let event = w.event_is ∙ event_is p r.answer bytes (packet_good (rules_of p) (laws p) h c) w.bytes_are in
     rw (le-leb count (most_held p) l) (
-      of_fields step _ w.taken_is w.count_is event,
+      ap Ok (of_fields step _ w.taken_is w.count_is event),
       cleared_is held held' r.held step.held (most_held p) m w.count_is w.held_is e.0,
       cleared_is bytes bytes' (packet_bytes r.answer) (size_in step.event) (rules_of p).longest n size front e.1,
     )

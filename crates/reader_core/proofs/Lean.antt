@@ -1,4 +1,5 @@
 -- What the parts of a call come to is what a lean call answers and leaves, once it has cleared what it may have written.
+use Rattle.std.specs.Prelude.{Ok}
 use mathlib.Core.Path.{◌≡◌, refl, sym, ap, ap₂, ◌∙◌}
 use mathlib.Core.Bool.{Bool, true, false, cond}
 use mathlib.Core.List.{List, ◌++◌, append_assoc}
@@ -112,7 +113,7 @@ module _ (p : Protocol) (count : ℕ) (h : List ℕ) (c : Call) (held₀ bytes�
   pub lean : (held' bytes' : List ℕ)
       → (held' ≡ take step.held held ++ (replicate (min (length held) (count + step.taken) - step.held) 0 ++ drop (count + step.taken) held))
       × (bytes' ≡ cond (leb (count + step.taken) (length held)) bytes (cleared bytes (size_in step.event)))
-      → (step ≡ step_for p count r) × (held' ≡ lean_held_for p count held₀ r) × (bytes' ≡ lean_packet_for p count bytes₀ r)
+      → (Ok step ≡ step_for p count r) × (held' ≡ lean_held_for p count held₀ r) × (bytes' ≡ lean_packet_for p count bytes₀ r)
   lean held' bytes' e =
       let q = le-leb count (most_held p) room in
       (step_is p count h c held bytes step room w, rw q (held_left held' e.0), rw q (packet_left bytes' e.1))

@@ -1,4 +1,5 @@
 -- How a call's parts come together: what a window leaves to deliver, and a full buffer with one byte more.
+use Rattle.std.specs.Prelude.{None, Some}
 use mathlib.Core.Path.{◌≡◌, refl, sym, ap, ap₂, ◌∙◌}
 use mathlib.Core.List.{List, [], ◌∷◌, ◌++◌}
 use Prim.Native.Nat.{ℕ, suc, ◌+◌, ◌-◌, ◌≤◌, ◌<◌}
@@ -20,7 +21,7 @@ use Rattle.packet_protocols.specs.declared.Protocol.{Protocol}
 use Rattle.packet_protocols.specs.Protocols.{rules_of, id_in}
 use Rattle.packet_protocols.proofs.Shapes.{laws}
 use Rattle.reader_core.specs.declared.Step.{Step}
-use Rattle.reader_core.specs.declared.StepEvent.TheVariants.{Packet as Gave-as-Packet, BadChecksum as Gave-as-BadChecksum, Silent}
+use Rattle.reader_core.specs.declared.Event.TheVariants.{Packet as Gave-as-Packet, BadChecksum as Gave-as-BadChecksum}
 use Rattle.reader_scan.specs.Scan.{on_from, size_seen, Waits, Seen, result_of, Ends, Stops, Filled}
 use Rattle.reader_core.specs.Delivered.{Delivered}
 use Rattle.reader_scan.proofs.Windows.{stops_take}
@@ -85,7 +86,7 @@ module _ (p : Protocol) where
 
   -- a gap call whose scan found nothing
   pub gap_nothing : (s held bytes : List ℕ) (at : ℕ) (step : Step) → Waits R closed s 0 at
-      → step ≡ record { taken = 0; held = 0; event = Silent } → Delivered p (gapped (first R closed s)) step held bytes
+      → step ≡ record { taken = 0; held = 0; event = None } → Delivered p (gapped (first R closed s)) step held bytes
   gap_nothing s held bytes at step w e =
       rw (w.first_is, e)
       (record { taken_is = refl; event_is = refl; count_is = refl; held_is = refl; bytes_are = refl })
@@ -136,7 +137,7 @@ module _ (p : Protocol) where
         rw y at (reached_more R h₀ c₀ h more taken (past + 1) a t)
 
     pub full_packet : (n id : ℕ) (r : Step) (held' bytes : List ℕ) → R.verdict more ≡ is_packet n
-        → r ≡ record { taken = next + 1; held = 0; event = Gave-as-Packet id n } → id ≡ id_in p bytes → bytes ≡ more
+        → r ≡ record { taken = next + 1; held = 0; event = Some (Gave-as-Packet id n) } → id ≡ id_in p bytes → bytes ≡ more
         → Delivered p (fed R h₀ c₀) r held' bytes
     full_packet n id r held' bytes e i d j =
         let m : n ≡ suc (length held) = last_byte R L held held (get_or c₀ next 0) n w.waits e in
@@ -148,14 +149,14 @@ module _ (p : Protocol) where
         rw (reached_event R h₀ c₀ more [] (next + 1) (packet more) more_reached f, i, j)
         (record {
           taken_is = refl;
-          event_is = ap₂ Gave-as-Packet (rw j at d) l;
+          event_is = ap₂ (λ (x y : ℕ). Some (Gave-as-Packet x y)) (rw j at d) l;
           count_is = refl;
           held_is = refl;
           bytes_are = take_all (length more) more (omega arith);
         })
 
     pub full_bad : (id n : ℕ) (r : Step) (held' bytes : List ℕ) → R.verdict more ≡ is_bad_checksum id
-        → r ≡ record { taken = next + 1; held = n; event = Gave-as-BadChecksum id } → n ≡ length held → held' ≡ drop 1 more
+        → r ≡ record { taken = next + 1; held = n; event = Some (Gave-as-BadChecksum id) } → n ≡ length held → held' ≡ drop 1 more
         → Delivered p (fed R h₀ c₀) r held' bytes
     full_bad id n r held' bytes e i m j =
         let f : first R open' more ≡ event (bad_checksum id) (drop 1 more) =

@@ -1,7 +1,7 @@
 -- What a call does not write: the bytes past those that were held and those taken.
+use Rattle.std.specs.Prelude.{None, Option, Some}
 use mathlib.Core.Path.{◌≡◌, refl, sym, ap, subst, ◌∙◌}
 use mathlib.Core.List.{List, [], ◌∷◌, ◌++◌}
-use mathlib.Core.Option.{Option, none, some}
 use Prim.Native.Nat.{ℕ, ◌+◌, ◌≤◌, ◌<◌}
 use native.Mathlib.Omega.{arith}
 use lib.ListN.{length, take, drop, length-append, length-take, drop_of_length-le}
@@ -36,10 +36,10 @@ module _ (R : Rules) (L : Laws R) where
   fed_shorter h s = by (fed R h s).answer refl
     where
       by : (a : Option Event) → (fed R h s).answer ≡ a → length (fed R h s).held ≤ length h + (fed R h s).taken
-      by none e =
+      by None e =
           let u = (fed_fewest R h s).undecided e in
           omega (arith, u.0, silent_shorter (h ++ s) (fed R h s).held u.1, length-append h s)
-      by (some x) e =
+      by (Some x) e =
           let t = take (fed R h s).taken s in
           let l = shrinks R L open' (h ++ t) x (fed R h s).held ((fed_fewest R h s).decided x e) in
           omega (arith, l, length-append h t, length-take (fed R h s).taken s)

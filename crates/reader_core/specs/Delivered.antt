@@ -1,27 +1,26 @@
 -- What the parts of a call come to before the buffers' ends are cleared.
+use Rattle.std.specs.Prelude.{None, Option, Some}
 use Rattle.std.specs.Prelude.{◌≡◌, List, ℕ, ◌+◌, ◌≤◌, length, take, drop}
-use Rattle.std.proofs.Math.Option.{Option, none, some}
 use Rattle.reading.specs.Reading.{Event, packet, bad_checksum}
 use Rattle.reading.specs.Calls.{CallResult}
 use Rattle.packet_protocols.specs.declared.Protocol.{Protocol}
 use Rattle.packet_protocols.specs.Protocols.{id_in}
-use Rattle.reader_core.specs.declared.StepEvent.{StepEvent}
-use Rattle.reader_core.specs.declared.StepEvent.TheVariants.{Packet, BadChecksum, Silent, Refused}
+use Rattle.reader_core.specs.declared.Event.{Event as Event-as-Code}
+use Rattle.reader_core.specs.declared.Event.TheVariants.{Packet, BadChecksum}
 use Rattle.reader_core.specs.declared.Step.{Step}
 use Rattle.reader_core.specs.Results.{packet_bytes}
 
 -- the event, where a packet's ID is read from its buffer
-abbrev pub event_with : ℕ → Option Event → StepEvent
-event_with id (some (packet w)) = Packet id (length w)
-event_with _ (some (bad_checksum id)) = BadChecksum id
-event_with _ none = Silent
+abbrev pub event_with : ℕ → Option Event → Option Event-as-Code
+event_with id (Some (packet w)) = Some (Packet id (length w))
+event_with _ (Some (bad_checksum id)) = Some (BadChecksum id)
+event_with _ None = None
 
--- the byte count of the event's packet
-abbrev pub size_in : StepEvent → ℕ
-size_in (Packet id n) = n
-size_in (BadChecksum id) = 0
-size_in Silent = 0
-size_in (Refused refusal) = 0
+-- the byte count of the event's packet, if it is one
+abbrev pub size_in : Option Event-as-Code → ℕ
+size_in (Some (Packet id n)) = n
+size_in (Some (BadChecksum id)) = 0
+size_in None = 0
 
 -- the step says what the result says; the held bytes and the packet's bytes stand at the start of their buffers
 pub record Delivered (p : Protocol) (r : CallResult) (step : Step) (held bytes : List ℕ) : Type 0 where

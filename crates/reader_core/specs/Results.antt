@@ -1,15 +1,16 @@
 -- What a feeding or gap call answers, by the result of the rules, and what it leaves of the bytes that are lent to it. `count` is
 -- how many of the lent bytes are held; a count above what can be held is refused, and a refusal leaves everything as it was.
+use Rattle.std.specs.Prelude.{Err, None, Ok, Option, Result, Some}
 use Rattle.std.specs.Prelude.{cond, List, [], ◌++◌, ℕ, ◌+◌, ◌-◌, min, leb, length, drop, replicate}
-use Rattle.std.proofs.Math.Option.{Option, none, some}
+use Rattle.answers.specs.declared.Refusal.{Refusal}
 use Rattle.answers.specs.declared.Refusal.TheVariants.{BadReader}
 use Rattle.lists.specs.Write.{overwritten, padded}
 use Rattle.reading.specs.Reading.{Event, packet, bad_checksum}
 use Rattle.reading.specs.Calls.{CallResult}
 use Rattle.packet_protocols.specs.declared.Protocol.{Protocol}
 use Rattle.packet_protocols.specs.Protocols.{rules_of, id_in}
-use Rattle.reader_core.specs.declared.StepEvent.{StepEvent}
-use Rattle.reader_core.specs.declared.StepEvent.TheVariants.{Packet, BadChecksum, Silent, Refused}
+use Rattle.reader_core.specs.declared.Event.{Event as Event-as-Code}
+use Rattle.reader_core.specs.declared.Event.TheVariants.{Packet, BadChecksum}
 use Rattle.reader_core.specs.declared.Step.{Step}
 
 -- how many bytes can be held: one less than the longest packet has, 1,030 in Protocol 2.0 and 258 on the old boards [F2 O14]
@@ -17,22 +18,21 @@ abbrev pub most_held : Protocol → ℕ
 most_held p = (rules_of p).longest - 1
 
 -- a packet with its ID and its byte count, a bad checksum with its ID, or no event (of a gap call: nothing is left) [F9 K5]
-abbrev pub event_for : Protocol → Option Event → StepEvent
-event_for p (some (packet w)) = Packet (id_in p w) (length w)
-event_for p (some (bad_checksum id)) = BadChecksum id
-event_for p none = Silent
+abbrev pub event_for : Protocol → Option Event → Option Event-as-Code
+event_for p (Some (packet w)) = Some (Packet (id_in p w) (length w))
+event_for p (Some (bad_checksum id)) = Some (BadChecksum id)
+event_for p None = None
 
 -- the packet's bytes as received, none beside any other answer [F9 F10]
 abbrev pub packet_bytes : Option Event → List ℕ
-packet_bytes (some (packet w)) = w
-packet_bytes (some (bad_checksum id)) = []
-packet_bytes none = []
+packet_bytes (Some (packet w)) = w
+packet_bytes (Some (bad_checksum id)) = []
+packet_bytes None = []
 
 -- the answer: how many bytes were taken, how many are held then, and the event [F2 F16 N9 N11]
-abbrev pub step_for : Protocol → ℕ → CallResult → Step
+abbrev pub step_for : Protocol → ℕ → CallResult → Result Step Refusal
 step_for p count r =
-    cond (leb count (most_held p)) (record { taken = r.taken; held = length r.held; event = event_for p r.answer })
-    (record { taken = 0; held = count; event = Refused BadReader })
+    cond (leb count (most_held p)) (Ok (record { taken = r.taken; held = length r.held; event = event_for p r.answer })) (Err BadReader)
 
 -- the bytes that were lent for them: those held then, followed by 0 [F15 F16 N12]
 abbrev pub held_for : Protocol → ℕ → List ℕ → CallResult → List ℕ

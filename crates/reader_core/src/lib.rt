@@ -1,12 +1,13 @@
 // The reader's feeding and gap calls, in place on the caller's held bytes and packet buffer.
 #![tactic(auto)]
 
-ghost use Rattle.std.specs.Prelude.{◌≡◌, cond, [], ◌∷◌, ◌++◌, ◌+◌, ◌-◌, ◌^◌, ◌≤◌, ◌<◌, min, leb, length, take, drop, replicate};
+ghost use Rattle.std.specs.Prelude.{◌≡◌, refl, cond, [], ◌∷◌, ◌++◌, ◌+◌, ◌-◌, ◌^◌, ◌≤◌, ◌<◌, min, leb, length, take, drop, replicate};
 ghost use Rattle.reading.specs.Reading.{closed};
 ghost use Rattle.reading.specs.Calls.{first, fed, gapped, call};
 ghost use Rattle.reading.specs.Calls.{feed as call_feed, gap as call_gap};
 ghost use Rattle.reading.specs.Progress.{after_taking};
 ghost use Rattle.packet_rules.specs.Answers.{answer_by};
+ghost use Rattle.packet_protocols.specs.declared.Protocol.{Protocol};
 ghost use Rattle.packet_protocols.specs.declared.Protocol.TheVariants.{Two, One, Mercury};
 ghost use Rattle.packet_protocols.specs.Protocols.{rules_of, id_in};
 ghost use Rattle.reader_scan.specs.Scan.{on_from, size_seen, answer_of, result_of};
@@ -25,28 +26,86 @@ pub const MAX_HELD: usize = 1030;
 
 pub const V1_MAX_HELD: usize = 258;
 
-// The event of a call: a packet with its ID and its byte count, a bad checksum with its ID, none (of a gap call: nothing is
-// left), or the refusal of a count of held bytes above what can be held.
+// An event: a packet with its ID and its byte count, or a bad checksum with its ID.
 #[derive(Clone, Copy)]
-pub enum StepEvent {
+pub enum Event {
     Packet { id: u8, size: usize },
     BadChecksum { id: u8 },
-    Silent,
-    Refused(Refusal),
 }
 
-// What a call returns: how many bytes it took, how many are held now, and its event.
+// What a call returns: how many bytes it took, how many are held now, and its event, if any (of a gap call without one, nothing is
+// left).
 #[derive(Clone, Copy)]
 pub struct Step {
     pub taken: usize,
     pub held: usize,
-    pub event: StepEvent,
+    pub event: Option<Event>,
 }
 
-fn stepped(taken: usize, held: usize, event: StepEvent) -> Step
-    ensures { result ≡ record { taken = taken; held = held; event = event } }
-{
-    Step { taken, held, event }
+impl Step {
+    // The byte count of the packet, if it is one.
+    fn size(self) -> usize
+        ensures { result ≡ size_in self.event }
+    {
+        match self.event {
+            Some(Event::Packet { size, .. }) => size,
+            Some(Event::BadChecksum { .. }) | None => 0,
+        }
+    }
+}
+
+// A protocol as a type, for the sizes of a reader's buffers: it holds at most HELD bytes, and the longest packet has PACKET.
+pub trait Framing<const HELD: usize, const PACKET: usize> {
+    ghost protocol: { Protocol };
+
+    fn protocol() -> Protocol
+        ensures { result ≡ protocol };
+
+    ghost holds: { HELD ≡ most_held protocol };
+
+    ghost has_room: { PACKET ≡ (rules_of protocol).longest };
+}
+
+pub struct ProtocolTwo;
+
+impl Framing<MAX_HELD, MAX_PACKET> for ProtocolTwo {
+    ghost protocol = { Two };
+
+    fn protocol() -> Protocol {
+        Protocol::Two
+    }
+
+    ghost holds = { refl };
+
+    ghost has_room = { refl };
+}
+
+pub struct ProtocolOne;
+
+impl Framing<V1_MAX_HELD, V1_MAX_PACKET> for ProtocolOne {
+    ghost protocol = { One };
+
+    fn protocol() -> Protocol {
+        Protocol::One
+    }
+
+    ghost holds = { refl };
+
+    ghost has_room = { refl };
+}
+
+pub struct ProtocolMercury;
+
+impl Framing<V1_MAX_HELD, V1_MAX_PACKET> for ProtocolMercury {
+    ghost protocol = { Mercury };
+
+    fn protocol() -> Protocol {
+        Protocol::Mercury
+    }
+
+    ghost holds = { refl };
+
+    ghost has_room = { refl };
 }
 
 // Where reading goes on.
@@ -56,7 +115,7 @@ fn on_from(seen: Scanned) -> usize
 {
     match seen {
         Scanned::Packet { at, count } => at + count,
-        Scanned::BadChecksum { at, id: _ } => at + 1,
+        Scanned::BadChecksum { at, .. } => at + 1,
         Scanned::Waiting { at } => at,
     }
 }
@@ -66,11 +125,11 @@ fn id_in(protocol: Protocol, packet: &[u8]) -> u8
     requires { length packet.now ≡ (rules_of protocol).longest }
     ensures { result ≡ id_in protocol packet.now }
 {
-    packet[packet_protocols::id_offset(protocol)]
+    packet[protocol.id_offset()]
 }
 
 // The event for what was found in src. A packet's bytes are copied to the packet buffer, and its ID is read there.
-fn report(protocol: Protocol, src: &[u8], seen: Scanned, packet: &mut [u8]) -> StepEvent
+fn report(protocol: Protocol, src: &[u8], seen: Scanned, packet: &mut [u8]) -> Option<Event>
     requires { (on_from seen ≤ length src.now) × (size_seen seen ≤ length packet.old) × (length packet.old ≡ (rules_of protocol).longest) }
     ensures value { result ≡ event_with (id_in protocol packet.new) (answer_of src.now seen) }
     ensures packet_after { (take (length (packet_bytes (answer_of src.now seen))) packet.new
@@ -82,10 +141,10 @@ fn report(protocol: Protocol, src: &[u8], seen: Scanned, packet: &mut [u8]) -> S
         Scanned::Packet { at, count } => {
             buffers::place(packet, 0, &src[at..at + count]);
             let id = id_in(protocol, packet);
-            StepEvent::Packet { id, size: count }
+            Some(Event::Packet { id, size: count })
         }
-        Scanned::BadChecksum { at: _, id } => StepEvent::BadChecksum { id },
-        Scanned::Waiting { at: _ } => StepEvent::Silent,
+        Scanned::BadChecksum { id, .. } => Some(Event::BadChecksum { id }),
+        Scanned::Waiting { .. } => None,
     }
 }
 
@@ -106,7 +165,11 @@ fn deliver(
     let event = report(protocol, held, seen, packet);
     let on = on_from(seen);
     buffers::shift(held, on, end);
-    stepped(taken, end - on, event)
+    Step {
+        taken,
+        held: end - on,
+        event,
+    }
 }
 
 // Gives the event and holds the chunk's bytes from where reading goes on. `before` bytes were taken before the chunk.
@@ -127,7 +190,11 @@ fn deliver_chunk(
     let event = report(protocol, chunk, seen, packet);
     let on = on_from(seen);
     buffers::place(held, 0, &chunk[on..end]);
-    stepped(before + end, end - on, event)
+    Step {
+        taken: before + end,
+        held: end - on,
+        event,
+    }
 }
 
 // The held bytes fill their buffer: with one byte more they are judged in the packet buffer. All but the first stay held.
@@ -142,7 +209,7 @@ fn judge_longest(protocol: Protocol, held: &mut [u8], byte: u8, packet: &mut [u8
     packet[n] = byte;
     buffers::shift(held, 1, n);
     held[n - 1] = byte;
-    packet_protocols::judge(protocol, packet, 0)
+    protocol.judge(packet, 0)
 }
 
 // Reads the chunk from `from` on, where no bytes are held.
@@ -200,21 +267,24 @@ fn feed_slices(
                 taken + more,
                 packet,
             ),
-            Stop::Full { taken: more } => {
-                taken += more;
-            }
+            Stop::Full { taken: more } => taken += more,
         }
         let byte = chunk[taken];
         taken += 1;
         n = held.len();
-        match judge_longest(protocol, held, byte, packet) {
+        let (left, event) = match judge_longest(protocol, held, byte, packet) {
             Verdict::Packet(size) => {
                 let id = id_in(protocol, packet);
-                return stepped(taken, 0, StepEvent::Packet { id, size });
+                (0, Event::Packet { id, size })
             }
-            Verdict::BadChecksum(id) => return stepped(taken, n, StepEvent::BadChecksum { id }),
-            _ => {}
-        }
+            Verdict::BadChecksum(id) => (n, Event::BadChecksum { id }),
+            _ => continue,
+        };
+        return Step {
+            taken,
+            held: left,
+            event: Some(event),
+        };
     }
 }
 
@@ -226,21 +296,14 @@ fn gap_slices(protocol: Protocol, held: &mut [u8], count: usize, packet: &mut [u
     ensures spared { Spared (most_held protocol) count result held.old packet.old held.new packet.new }
 {
     let seen = reader_scan::scan_closed(protocol, &held[..count]);
-    if let Scanned::Waiting { at: _ } = seen {
-        return stepped(0, 0, StepEvent::Silent);
+    if let Scanned::Waiting { .. } = seen {
+        return Step {
+            taken: 0,
+            held: 0,
+            event: None,
+        };
     }
     deliver(protocol, held, seen, count, 0, packet)
-}
-
-fn size_of(event: StepEvent) -> usize
-    ensures { result ≡ size_in event }
-{
-    match event {
-        StepEvent::Packet { id: _, size } => size,
-        StepEvent::BadChecksum { id: _ } => 0,
-        StepEvent::Silent => 0,
-        StepEvent::Refused(_) => 0,
-    }
 }
 
 // Sets the bytes past the held ones, and past the packet's, to 0.
@@ -250,135 +313,48 @@ fn clear_rest(held: &mut [u8], packet: &mut [u8], step: Step)
         × (packet.new
         ≡ take (size_in step.event) packet.old ++ replicate (length packet.old - size_in step.event) 0) }
 {
-    let event = step.event;
-    let size = size_of(event);
     buffers::clear(held, step.held);
-    buffers::clear(packet, size);
-}
-
-// A feeding call by the protocol. The packet buffer has room for its longest packet, the held bytes for all but the last of it, and
-// no more of them are held than there is room for.
-fn feed_by(
-    protocol: Protocol,
-    held: &mut [u8],
-    count: usize,
-    chunk: &[u8],
-    packet: &mut [u8],
-) -> Step
-    requires { (count ≤ most_held protocol) × (length held.old ≡ most_held protocol) × (length packet.old ≡ (rules_of protocol).longest) }
-    ensures { (result ≡ step_for protocol count (call (rules_of protocol) (take count held.old) (call_feed chunk.now)))
-        × (held.new ≡ held_for protocol count held.old (call (rules_of protocol) (take count held.old) (call_feed chunk.now)))
-        × (packet.new ≡ packet_for protocol count packet.old (call (rules_of protocol) (take count held.old) (call_feed chunk.now))) }
-{
-    let step = feed_slices(protocol, held, count, chunk, packet);
-    clear_rest(held, packet, step);
-    step
-}
-
-// A gap call, likewise.
-fn gap_by(protocol: Protocol, held: &mut [u8], count: usize, packet: &mut [u8]) -> Step
-    requires { (count ≤ most_held protocol) × (length held.old ≡ most_held protocol) × (length packet.old ≡ (rules_of protocol).longest) }
-    ensures { (result ≡ step_for protocol count (call (rules_of protocol) (take count held.old) call_gap))
-        × (held.new ≡ held_for protocol count held.old (call (rules_of protocol) (take count held.old) call_gap))
-        × (packet.new ≡ packet_for protocol count packet.old (call (rules_of protocol) (take count held.old) call_gap)) }
-{
-    let step = gap_slices(protocol, held, count, packet);
-    clear_rest(held, packet, step);
-    step
+    buffers::clear(packet, step.size());
 }
 
 // A feeding call on the caller's held bytes, of which there are `count`, and packet buffer. It takes the fewest bytes of the chunk
 // that decide an event, or all of it. Feed the rest again until a call gives no event, even if the rest is empty: events may lie
-// in the held bytes. [F2-F10 F15 F16 K2-K4]
-pub fn feed_in(
-    held: &mut [u8; MAX_HELD],
+// in the held bytes. A count above what can be held is refused, and then all stays as it is. [F2-F10 F15 F16 K2-K4 O14]
+pub fn feed<P: Framing<HELD, PACKET>, const HELD: usize, const PACKET: usize>(
+    held: &mut [u8; HELD],
     count: usize,
     chunk: &[u8],
-    packet: &mut [u8; MAX_PACKET],
-) -> Step
-    ensures { (result ≡ step_for Two count (call (rules_of Two) (take count held.old) (call_feed chunk.now)))
-        × (held.new ≡ held_for Two count held.old (call (rules_of Two) (take count held.old) (call_feed chunk.now)))
-        × (packet.new ≡ packet_for Two count packet.old (call (rules_of Two) (take count held.old) (call_feed chunk.now))) }
+    packet: &mut [u8; PACKET],
+) -> Result<Step, Refusal>
+    ensures { (result ≡ step_for P.protocol count (call (rules_of P.protocol) (take count held.old) (call_feed chunk.now)))
+        × (held.new ≡ held_for P.protocol count held.old (call (rules_of P.protocol) (take count held.old) (call_feed chunk.now)))
+        × (packet.new ≡ packet_for P.protocol count packet.old (call (rules_of P.protocol) (take count held.old) (call_feed chunk.now))) }
 {
-    if MAX_HELD < count {
-        return stepped(0, count, StepEvent::Refused(Refusal::BadReader));
+    if HELD < count {
+        return Err(Refusal::BadReader);
     }
-    feed_by(Protocol::Two, held, count, chunk, packet)
+    let step = feed_slices(P::protocol(), held, count, chunk, packet);
+    clear_rest(held, packet, step);
+    Ok(step)
 }
 
 // A gap call, likewise: the next event, with the held bytes as the end of the segment. Call it until nothing is left.
-// [F12-F16 K2-K4]
-pub fn gap_in(held: &mut [u8; MAX_HELD], count: usize, packet: &mut [u8; MAX_PACKET]) -> Step
-    ensures { (result ≡ step_for Two count (call (rules_of Two) (take count held.old) call_gap))
-        × (held.new ≡ held_for Two count held.old (call (rules_of Two) (take count held.old) call_gap))
-        × (packet.new ≡ packet_for Two count packet.old (call (rules_of Two) (take count held.old) call_gap)) }
-{
-    if MAX_HELD < count {
-        return stepped(0, count, StepEvent::Refused(Refusal::BadReader));
-    }
-    gap_by(Protocol::Two, held, count, packet)
-}
-
-// The calls of Protocol 1.0. [O14]
-pub fn feed_p1(
-    held: &mut [u8; V1_MAX_HELD],
+// [F12-F16 K2-K4 O14]
+pub fn gap<P: Framing<HELD, PACKET>, const HELD: usize, const PACKET: usize>(
+    held: &mut [u8; HELD],
     count: usize,
-    chunk: &[u8],
-    packet: &mut [u8; V1_MAX_PACKET],
-) -> Step
-    ensures { (result ≡ step_for One count (call (rules_of One) (take count held.old) (call_feed chunk.now)))
-        × (held.new ≡ held_for One count held.old (call (rules_of One) (take count held.old) (call_feed chunk.now)))
-        × (packet.new ≡ packet_for One count packet.old (call (rules_of One) (take count held.old) (call_feed chunk.now))) }
+    packet: &mut [u8; PACKET],
+) -> Result<Step, Refusal>
+    ensures { (result ≡ step_for P.protocol count (call (rules_of P.protocol) (take count held.old) call_gap))
+        × (held.new ≡ held_for P.protocol count held.old (call (rules_of P.protocol) (take count held.old) call_gap))
+        × (packet.new ≡ packet_for P.protocol count packet.old (call (rules_of P.protocol) (take count held.old) call_gap)) }
 {
-    if V1_MAX_HELD < count {
-        return stepped(0, count, StepEvent::Refused(Refusal::BadReader));
+    if HELD < count {
+        return Err(Refusal::BadReader);
     }
-    feed_by(Protocol::One, held, count, chunk, packet)
-}
-
-// The gap call, likewise. [O14]
-pub fn gap_p1(held: &mut [u8; V1_MAX_HELD], count: usize, packet: &mut [u8; V1_MAX_PACKET]) -> Step
-    ensures { (result ≡ step_for One count (call (rules_of One) (take count held.old) call_gap))
-        × (held.new ≡ held_for One count held.old (call (rules_of One) (take count held.old) call_gap))
-        × (packet.new ≡ packet_for One count packet.old (call (rules_of One) (take count held.old) call_gap)) }
-{
-    if V1_MAX_HELD < count {
-        return stepped(0, count, StepEvent::Refused(Refusal::BadReader));
-    }
-    gap_by(Protocol::One, held, count, packet)
-}
-
-// And of Mercury. [O14]
-pub fn feed_mercury(
-    held: &mut [u8; V1_MAX_HELD],
-    count: usize,
-    chunk: &[u8],
-    packet: &mut [u8; V1_MAX_PACKET],
-) -> Step
-    ensures { (result ≡ step_for Mercury count (call (rules_of Mercury) (take count held.old) (call_feed chunk.now)))
-        × (held.new ≡ held_for Mercury count held.old (call (rules_of Mercury) (take count held.old) (call_feed chunk.now)))
-        × (packet.new ≡ packet_for Mercury count packet.old (call (rules_of Mercury) (take count held.old) (call_feed chunk.now))) }
-{
-    if V1_MAX_HELD < count {
-        return stepped(0, count, StepEvent::Refused(Refusal::BadReader));
-    }
-    feed_by(Protocol::Mercury, held, count, chunk, packet)
-}
-
-// The gap call, likewise. [O14]
-pub fn gap_mercury(
-    held: &mut [u8; V1_MAX_HELD],
-    count: usize,
-    packet: &mut [u8; V1_MAX_PACKET],
-) -> Step
-    ensures { (result ≡ step_for Mercury count (call (rules_of Mercury) (take count held.old) call_gap))
-        × (held.new ≡ held_for Mercury count held.old (call (rules_of Mercury) (take count held.old) call_gap))
-        × (packet.new ≡ packet_for Mercury count packet.old (call (rules_of Mercury) (take count held.old) call_gap)) }
-{
-    if V1_MAX_HELD < count {
-        return stepped(0, count, StepEvent::Refused(Refusal::BadReader));
-    }
-    gap_by(Protocol::Mercury, held, count, packet)
+    let step = gap_slices(P::protocol(), held, count, packet);
+    clear_rest(held, packet, step);
+    Ok(step)
 }
 
 // Sets to 0 what a call on `count` held bytes may have left past those held now, and past the packet's bytes.
@@ -391,47 +367,47 @@ fn clear_reached(held: &mut [u8], count: usize, packet: &mut [u8], step: Step)
         ≡ cond (leb (count + step.taken) (length held.old)) packet.old
         (take (size_in step.event) packet.old ++ replicate (length packet.old - size_in step.event) 0)) }
 {
-    let from = step.held;
-    let taken = step.taken;
     let room = held.len() - count;
-    let end = count + buffers::least(room, taken);
-    buffers::clear(&mut held[from..end], 0);
-    if room < taken {
-        let event = step.event;
-        let past = size_of(event);
-        buffers::clear(packet, past);
+    let end = count + room.min(step.taken);
+    buffers::clear(&mut held[step.held..end], 0);
+    if room < step.taken {
+        buffers::clear(packet, step.size());
     }
 }
 
-// A feeding call that clears no more than it has to. It answers what `feed_in` answers.
+// A feeding call that clears no more than it has to. It answers what `feed` of Protocol 2.0 answers.
 pub fn feed_lean(
     held: &mut [u8; MAX_HELD],
     count: usize,
     chunk: &[u8],
     packet: &mut [u8; MAX_PACKET],
-) -> Step
+) -> Result<Step, Refusal>
     ensures { (result ≡ step_for Two count (call (rules_of Two) (take count held.old) (call_feed chunk.now)))
         × (held.new ≡ lean_held_for Two count held.old (call (rules_of Two) (take count held.old) (call_feed chunk.now)))
         × (packet.new ≡ lean_packet_for Two count packet.old (call (rules_of Two) (take count held.old) (call_feed chunk.now))) }
 {
     if MAX_HELD < count {
-        return stepped(0, count, StepEvent::Refused(Refusal::BadReader));
+        return Err(Refusal::BadReader);
     }
     let step = feed_slices(Protocol::Two, held, count, chunk, packet);
     clear_reached(held, count, packet, step);
-    step
+    Ok(step)
 }
 
 // A gap call, likewise.
-pub fn gap_lean(held: &mut [u8; MAX_HELD], count: usize, packet: &mut [u8; MAX_PACKET]) -> Step
+pub fn gap_lean(
+    held: &mut [u8; MAX_HELD],
+    count: usize,
+    packet: &mut [u8; MAX_PACKET],
+) -> Result<Step, Refusal>
     ensures { (result ≡ step_for Two count (call (rules_of Two) (take count held.old) call_gap))
         × (held.new ≡ lean_held_for Two count held.old (call (rules_of Two) (take count held.old) call_gap))
         × (packet.new ≡ lean_packet_for Two count packet.old (call (rules_of Two) (take count held.old) call_gap)) }
 {
     if MAX_HELD < count {
-        return stepped(0, count, StepEvent::Refused(Refusal::BadReader));
+        return Err(Refusal::BadReader);
     }
     let step = gap_slices(Protocol::Two, held, count, packet);
     clear_reached(held, count, packet, step);
-    step
+    Ok(step)
 }

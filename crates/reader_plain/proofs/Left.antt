@@ -1,17 +1,18 @@
 -- The events that are left from an offset on, as the answer from there tells them: for loops over the events of a segment.
+use Rattle.std.specs.Prelude.{None, Option, Some}
 use mathlib.Core.Path.{◌≡◌, refl, ap, ◌∙◌}
 use mathlib.Core.Bool.{true}
 use mathlib.Core.List.{List, [], ◌∷◌}
 use Prim.Native.Nat.{ℕ, zero, suc, ◌+◌, ◌-◌, ◌≤◌}
 use native.Mathlib.Omega.{arith}
-use lib.ListN.{length, take, drop}
+use lib.ListN.{length, drop}
 use Rattle.reading.specs.Rules.{Verdict, is_packet, is_bad_checksum, is_waiting, is_nothing}
 use Rattle.reading.specs.Reading.{packet, bad_checksum, EventAt, closed, at_offset, read_fuel, read_from}
 use Rattle.packet_front.specs.Front.{id_of, good_id}
 use Rattle.packet.specs.Verdict.{protocol2}
 use Rattle.packet.proofs.Laws.{laws}
-use Rattle.reader_plain.specs.declared.Next.{Next}
-use Rattle.reader_plain.specs.declared.Next.TheVariants.{Packet, BadChecksum, Nothing}
+use Rattle.reader_plain.specs.declared.Event.{Event}
+use Rattle.reader_plain.specs.declared.Event.TheVariants.{Packet, BadChecksum}
 use Rattle.reader_plain.specs.Next.{first_of, next_event}
 use Rattle.reader_plain.proofs.Plain.{Goes, goes, reached}
 
@@ -19,10 +20,10 @@ abbrev pub left : List ℕ → ℕ → List EventAt
 left s from = read_from protocol2 closed from (drop from s)
 
 -- by the answer: its event is the first that is left, and the others are left where it says that reading goes on
-abbrev pub Left : List ℕ → ℕ → Next → Type 0
-Left s from (Packet p n q id) = (w : List ℕ) × (id_of w ≡ id) × (left s from ≡ (p, packet w) ∷ left s q)
-Left s from (BadChecksum p q id) = left s from ≡ (p, bad_checksum id) ∷ left s q
-Left s from Nothing = left s from ≡ []
+abbrev pub Left : List ℕ → ℕ → Option Event → Type 0
+Left s from (Some (Packet p n q id)) = (w : List ℕ) × (id_of w ≡ id) × (left s from ≡ (p, packet w) ∷ left s q)
+Left s from (Some (BadChecksum p q id)) = left s from ≡ (p, bad_checksum id) ∷ left s q
+Left s from None = left s from ≡ []
 
 pub left_is : (s : List ℕ) (from : ℕ) → Left s from (next_event s from)
 unfolding next_event Goes

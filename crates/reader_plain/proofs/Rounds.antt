@@ -1,4 +1,5 @@
 -- One round of the walk: an event stands at the offset, or it is passed by one byte.
+use Rattle.std.specs.Prelude.{None, Some}
 use mathlib.Core.Path.{◌≡◌, refl, sym, ap, subst, ◌∙◌}
 use mathlib.Core.List.{List, [], ◌∷◌}
 use Prim.Native.Nat.{ℕ, ◌+◌, ◌≤◌, ◌<◌}
@@ -13,13 +14,13 @@ use Rattle.packet_rules.specs.declared.Verdict.{Verdict as Verdict-as-Code}
 use Rattle.packet_rules.specs.declared.Verdict.TheVariants.{Packet as Verdict-as-Packet, BadChecksum as Verdict-as-BadChecksum, Waiting, Nothing as Verdict-as-Nothing}
 use Rattle.packet.specs.Verdict.{protocol2}
 use Rattle.packet.proofs.Laws.{laws}
-use Rattle.reader_plain.specs.declared.Next.TheVariants.{Packet, BadChecksum, Nothing}
+use Rattle.reader_plain.specs.declared.Event.TheVariants.{Packet, BadChecksum}
 use Rattle.reader_plain.specs.Next.{first_of, next_event}
 
 -- what a round at offset p comes to, by the verdict as the code has it
 abbrev pub Turn : List ℕ → ℕ → Verdict-as-Code → Type 0
-Turn s p (Verdict-as-Packet n) = (p + 4 < length s) × (p + n ≤ length s) × (next_event s p ≡ Packet p n (p + n) (get_or s (p + 4) 0))
-Turn s p (Verdict-as-BadChecksum id) = next_event s p ≡ BadChecksum p (p + 1) id
+Turn s p (Verdict-as-Packet n) = (p + 4 < length s) × (p + n ≤ length s) × (next_event s p ≡ Some (Packet p n (p + n) (get_or s (p + 4) 0)))
+Turn s p (Verdict-as-BadChecksum id) = next_event s p ≡ Some (BadChecksum p (p + 1) id)
 Turn s p (Waiting k) = next_event s p ≡ next_event s (p + 1)
 Turn s p Verdict-as-Nothing = next_event s p ≡ next_event s (p + 1)
 
@@ -64,6 +65,6 @@ passed s p (Verdict-as-BadChecksum id) t w v = absurd (v id refl)
 passed s p (Waiting k) t w v = t
 passed s p Verdict-as-Nothing t w v = t
 
-pub next_end : (s : List ℕ) (p : ℕ) → length s ≤ p → next_event s p ≡ Nothing
+pub next_end : (s : List ℕ) (p : ℕ) → length s ≤ p → next_event s p ≡ None
 unfolding next_event
 next_end s p h = rw (drop_of_length-le s h, nil protocol2 laws closed p)

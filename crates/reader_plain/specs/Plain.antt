@@ -1,5 +1,6 @@
 -- What is promised of the plain reader over all segments: its calls one after the other give the reading of the segment, and a
 -- reader that holds bytes gives the same events.
+use Rattle.std.specs.Prelude.{None, Option, Some}
 use Rattle.std.specs.Prelude.{◌≡◌, cond, List, [], ◌∷◌, map, ℕ, zero, suc, ◌+◌, ◌≤◌, ◌<◌, eqb, length, take, drop}
 use Rattle.reading.specs.Reading.{packet, bad_checksum, EventAt, reading}
 use Rattle.reading.specs.Calls.{Call}
@@ -7,8 +8,8 @@ use Rattle.reading.specs.Lists.{AnyReader, model, after, took, given}
 use Rattle.reading.specs.Promise.{what, since, AtStart, Finished}
 use Rattle.packet_front.specs.Front.{id_of}
 use Rattle.packet.specs.Verdict.{protocol2}
-use Rattle.reader_plain.specs.declared.Next.{Next}
-use Rattle.reader_plain.specs.declared.Next.TheVariants.{Packet, BadChecksum, Nothing}
+use Rattle.reader_plain.specs.declared.Event.{Event}
+use Rattle.reader_plain.specs.declared.Event.TheVariants.{Packet, BadChecksum}
 use Rattle.reader_plain.specs.Next.{next_event}
 
 -- the segment's bytes from an offset on, so many
@@ -17,10 +18,10 @@ part s p n = take n (drop p s)
 
 -- the event of an answer, and then those from where reading goes on; a packet is told by its offset and its count, and counts only
 -- where the answer has its ID [R3 R6]
-abbrev pub and_on : List ℕ → Next → (ℕ → List EventAt) → List EventAt
-and_on s (Packet p n q id) go = cond (eqb id (id_of (part s p n))) ((p, packet (part s p n)) ∷ go q) []
-and_on s (BadChecksum p q id) go = (p, bad_checksum id) ∷ go q
-and_on s Nothing go = []
+abbrev pub and_on : List ℕ → Option Event → (ℕ → List EventAt) → List EventAt
+and_on s (Some (Packet p n q id)) go = cond (eqb id (id_of (part s p n))) ((p, packet (part s p n)) ∷ go q) []
+and_on s (Some (BadChecksum p q id)) go = (p, bad_checksum id) ∷ go q
+and_on s None go = []
 
 -- calls from an offset on, each from where the one before says that reading goes on, until there is no event, or so many [R6]
 unfoldable pub calls : List ℕ → ℕ → ℕ → List EventAt
@@ -33,10 +34,10 @@ abbrev pub plain : List ℕ → List EventAt
 plain s = calls s (length s) 0
 
 -- an event of a call from this offset begins there or behind it; it, and where reading goes on behind it, are within the segment
-abbrev pub Within : List ℕ → ℕ → Next → Type 0
-Within s from (Packet p n q id) = (from ≤ p) × (p < q) × (q ≤ length s) × (q ≡ p + n)
-Within s from (BadChecksum p q id) = (from ≤ p) × (p < q) × (q ≤ length s)
-Within s from Nothing = Unit {0}
+abbrev pub Within : List ℕ → ℕ → Option Event → Type 0
+Within s from (Some (Packet p n q id)) = (from ≤ p) × (p < q) × (q ≤ length s) × (q ≡ p + n)
+Within s from (Some (BadChecksum p q id)) = (from ≤ p) × (p < q) × (q ≤ length s)
+Within s from None = Unit {0}
 
 -- What is promised of a reader M beside the plain one, where it was x, feeding calls with these chunks and then g gap calls.
 pub record SameEvents (M : AnyReader) (x : M.State) (chunks : List (List ℕ)) (g : ℕ) : Type 0 where

@@ -8,9 +8,9 @@ ghost use Rattle.reader_plain.specs.Next.{next_event};
 use packet_protocols::Protocol;
 use packet_rules::Verdict;
 
-// The next event: the offset where it begins, of a packet how many bytes it has, where reading goes on, and the ID.
+// An event: the offset where it begins, of a packet how many bytes it has, where reading goes on, and the ID.
 #[derive(Clone, Copy)]
-pub enum Next {
+pub enum Event {
     Packet {
         offset: usize,
         count: usize,
@@ -22,30 +22,28 @@ pub enum Next {
         next: usize,
         id: u8,
     },
-    Nothing,
 }
 
-// The next event at the offset `from` or behind it. At each offset stands a packet, or a bad checksum, or it is passed by one byte;
-// so is one that waits for more bytes, since none follow a whole segment. [R1-R5]
-pub fn next_event(segment: &[u8], from: usize) -> Next
+// The next event at the offset `from` or behind it, if there is one. At each offset stands a packet, or a bad checksum, or it is
+// passed by one byte; so is one that waits for more bytes, since none follow a whole segment. [R1-R5]
+pub fn next_event(segment: &[u8], from: usize) -> Option<Event>
     ensures { result ≡ next_event segment.now from }
 {
-    let mut offset = from;
-    while offset < segment.len() {
-        match packet_protocols::judge(Protocol::Two, segment, offset) {
-            Verdict::Packet(count) => return Next::Packet {
+    for offset in from..segment.len() {
+        match Protocol::Two.judge(segment, offset) {
+            Verdict::Packet(count) => return Some(Event::Packet {
                 offset,
                 count,
                 next: offset + count,
                 id: segment[offset + 4],
-            },
-            Verdict::BadChecksum(id) => return Next::BadChecksum {
+            }),
+            Verdict::BadChecksum(id) => return Some(Event::BadChecksum {
                 offset,
                 next: offset + 1,
                 id,
-            },
-            Verdict::Waiting(_) | Verdict::Nothing => offset += 1,
+            }),
+            Verdict::Waiting(_) | Verdict::Nothing => {}
         }
     }
-    Next::Nothing
+    None
 }

@@ -1,7 +1,7 @@
 -- The records keep to the rules, so demand 3 holds of them; from a fresh one on no call is refused.
+use Rattle.std.specs.Prelude.{Err, None, Ok, Option, Result, Some}
 use mathlib.Core.Path.{◌≡◌, refl, sym, ap, ◌∙◌}
 use mathlib.Core.List.{List, [], ◌∷◌}
-use mathlib.Core.Option.{Option, none, some}
 use Prim.Native.Nat.{ℕ, ◌-◌, ◌≤◌}
 use native.Mathlib.Omega.{arith}
 use borrow.Author.Tests.{le-leb, eq-eqb}
@@ -23,11 +23,10 @@ use Rattle.packet_protocols.specs.declared.Protocol.TheVariants.{Two, One, Mercu
 use Rattle.packet_protocols.specs.Protocols.{rules_of, id_in}
 use Rattle.packet_protocols.proofs.Shapes.{laws}
 use Rattle.reader_core.specs.declared.Step.{Step}
-use Rattle.reader_core.specs.declared.StepEvent.TheVariants.{Refused}
 use Rattle.reader_core.specs.Results.{most_held, event_for, packet_bytes, held_for}
 use Rattle.reader_records.specs.declared.Reader.{Reader}
 use Rattle.lists.specs.Write.{padded}
-use Rattle.reader_records.specs.Records.{held_in, step_in, left_in, packet_in, event_in, records_of, NeverRefusedIn, ProtocolPromises, EveryProtocol}
+use Rattle.reader_records.specs.Records.{held_in, step_in, taken_by, held_by, told_by, left_in, packet_in, event_in, records_of, NeverRefusedIn, ProtocolPromises, EveryProtocol}
 
 -- ---- one call on a record that is not refused
 
@@ -35,7 +34,7 @@ module _ (p : Protocol) (r : Reader) (c : Call) (h : r.count ≤ most_held p) wh
   abbrev result : CallResult
   result = call (rules_of p) (held_in r) c
 
-  step_is : step_in p r c ≡ record { taken = result.taken; held = length result.held; event = event_for p result.answer }
+  step_is : step_in p r c ≡ Ok (record { taken = result.taken; held = length result.held; event = event_for p result.answer })
   unfolding step_in
   step_is = rw (le-leb r.count (most_held p) h)
 
@@ -49,7 +48,7 @@ module _ (p : Protocol) (r : Reader) (c : Call) (h : r.count ≤ most_held p) wh
 
   left_count : (left_in p r c).count ≡ length result.held
   unfolding left_in
-  left_count = ap (λ (s : Step). s.held) step_is
+  left_count = ap (held_by r.count) step_is
 
   left_held : held_in (left_in p r c) ≡ result.held
   left_held =
@@ -62,23 +61,21 @@ module _ (p : Protocol) (r : Reader) (c : Call) (h : r.count ≤ most_held p) wh
       let k = held_bound (rules_of p) (laws p) (held_in r) c (simp length-take (omega arith)) in
       rw left_count k
 
-  event_answered : event_in p (step_in p r c).event (packet_in p r c (replicate (rules_of p).longest 0)) ≡ result.answer
+  event_answered : event_in p (told_by (step_in p r c)) (packet_in p r c (replicate (rules_of p).longest 0)) ≡ result.answer
   event_answered = rw (step_is, packet_padded (replicate (rules_of p).longest 0)) (by result.answer)
     where
       by : (a : Option Event) → event_in p (event_for p a) (padded (rules_of p).longest (packet_bytes a)) ≡ a
-      by none = refl
-      by (some (packet w)) =
+      by None = refl
+      by (Some (packet w)) =
           let e : take (length w) (padded (rules_of p).longest w) ≡ w = take_at w (replicate ((rules_of p).longest - length w) 0) (length w) refl in
           rw (e, eq-eqb (id_in p w) (id_in p w) refl)
-      by (some (bad_checksum id)) = refl
+      by (Some (bad_checksum id)) = refl
 
-  no_refusal : (refusal : Refusal) → ¬ ((step_in p r c).event ≡ Refused refusal)
-  no_refusal refusal e = by result.answer (rw step_is at e)
-    where
-      by : (a : Option Event) → ¬ (event_for p a ≡ Refused refusal)
-      by none e = let z : ◌≡◌ {A = ℕ} 0 1 = cc in omega arith
-      by (some (packet w)) e = let z : ◌≡◌ {A = ℕ} 0 1 = cc in omega arith
-      by (some (bad_checksum id)) e = let z : ◌≡◌ {A = ℕ} 0 1 = cc in omega arith
+  no_refusal : (refusal : Refusal) → ¬ (step_in p r c ≡ Err refusal)
+  no_refusal refusal e =
+      let other = sym step_is ∙ e in
+      let z : ◌≡◌ {A = ℕ} 0 1 = cc in
+      omega arith
 
 -- ---- lists of calls
 
@@ -90,7 +87,7 @@ module _ (p : Protocol) where
   follows =
       record {
         fresh = λ r e. (rw e (omega arith), rw e);
-        same_taken = λ r c h. ap (λ (s : Step). s.taken) (step_is p r c h);
+        same_taken = λ r c h. ap taken_by (step_is p r c h);
         same_answer_lem = λ r c h. event_answered p r c h;
         same_next = λ r c h. (left_legal p r c h, left_held p r c h);
       }
@@ -105,11 +102,11 @@ module _ (p : Protocol) where
 
 -- ---- the record after a call
 
-pub record_left : (p : Protocol) (step : Step) (bytes : List ℕ) (r : Reader) (c : Call) → step ≡ step_in p r c
+pub record_left : (p : Protocol) (step : Result Step Refusal) (bytes : List ℕ) (r : Reader) (c : Call) → step ≡ step_in p r c
     → bytes ≡ held_for p r.count r.bytes (call (rules_of p) (held_in r) c)
-    → ◌≡◌ {A = Reader} (record { bytes = bytes; count = step.held }) (left_in p r c)
+    → ◌≡◌ {A = Reader} (record { bytes = bytes; count = held_by r.count step }) (left_in p r c)
 unfolding left_in
-record_left p step bytes r c e b = λ i. record { bytes = b i; count = (e i).held }
+record_left p step bytes r c e b = λ i. record { bytes = b i; count = held_by r.count (e i) }
 
 -- ---- all that is promised
 

@@ -1,7 +1,7 @@
 -- The reader's record and the calls on it, and demand 3 over lists of these calls. The contracts of `feed` and `gap`, and of the
 -- exports to C, cite `step_on` and `left_by`, of which the reader `records` is made.
+use Rattle.std.specs.Prelude.{Err, None, Ok, Option, Result, Some}
 use Rattle.std.specs.Prelude.{◌≡◌, cond, List, ℕ, ◌≤◌, eqb, length, take, replicate}
-use Rattle.std.proofs.Math.Option.{Option, none, some}
 use Rattle.answers.specs.declared.Refusal.{Refusal}
 use Rattle.reading.specs.Reading.{Event, packet, bad_checksum}
 use Rattle.reading.specs.Calls.{Call, call}
@@ -12,8 +12,8 @@ use Rattle.packet_protocols.specs.declared.Protocol.{Protocol}
 use Rattle.packet_protocols.specs.declared.Protocol.TheVariants.{Two, One, Mercury}
 use Rattle.packet_protocols.specs.Protocols.{rules_of, id_in}
 use Rattle.reader_core.specs.declared.Step.{Step}
-use Rattle.reader_core.specs.declared.StepEvent.{StepEvent}
-use Rattle.reader_core.specs.declared.StepEvent.TheVariants.{Packet, BadChecksum, Silent, Refused}
+use Rattle.reader_core.specs.declared.Event.{Event as Event-as-Code}
+use Rattle.reader_core.specs.declared.Event.TheVariants.{Packet, BadChecksum}
 use Rattle.reader_core.specs.Results.{step_for, held_for, packet_for}
 use Rattle.reader_records.specs.declared.Reader.{Reader}
 
@@ -22,13 +22,28 @@ abbrev pub held_in : Reader → List ℕ
 held_in r = take r.count r.bytes
 
 -- what a call answers, by the protocol [F5 F12 O13]
-unfoldable pub step_in : Protocol → Reader → Call → Step
+unfoldable pub step_in : Protocol → Reader → Call → Result Step Refusal
 step_in p r c = step_for p r.count (call (rules_of p) (held_in r) c)
+
+-- how many bytes are taken by an answer, none by a refusal
+abbrev pub taken_by : Result Step Refusal → ℕ
+taken_by (Ok step) = step.taken
+taken_by (Err refusal) = 0
+
+-- how many are held then; as many as before by a refusal
+abbrev pub held_by : ℕ → Result Step Refusal → ℕ
+held_by count (Ok step) = step.held
+held_by count (Err refusal) = count
+
+-- and its event, none of a refusal
+abbrev pub told_by : Result Step Refusal → Option Event-as-Code
+told_by (Ok step) = step.event
+told_by (Err refusal) = None
 
 -- how it leaves the record: the bytes past its count are 0, and a refusal leaves it as it was [F7 F8 F15 O13]
 unfoldable pub left_in : Protocol → Reader → Call → Reader
 left_in p r c =
-    record { bytes = held_for p r.count r.bytes (call (rules_of p) (held_in r) c); count = (step_in p r c).held }
+    record { bytes = held_for p r.count r.bytes (call (rules_of p) (held_in r) c); count = held_by r.count (step_in p r c) }
 
 -- the record by its parts, as C lends it
 abbrev pub lent : List ℕ → ℕ → Reader
@@ -39,7 +54,7 @@ unfoldable pub packet_in : Protocol → Reader → Call → List ℕ → List �
 packet_in p r c old = packet_for p r.count old (call (rules_of p) (held_in r) c)
 
 -- in Protocol 2.0
-abbrev pub step_on : Reader → Call → Step
+abbrev pub step_on : Reader → Call → Result Step Refusal
 step_on r c = step_in Two r c
 
 abbrev pub left_by : Reader → Call → Reader
@@ -50,11 +65,10 @@ packet_on r c old = packet_in Two r c old
 
 -- the event that an answer gives, beside the packet buffer: the bytes of a packet, where the answer has their ID, or the ID of a
 -- bad checksum [F9 Q5]
-abbrev pub event_in : Protocol → StepEvent → List ℕ → Option Event
-event_in p (Packet id n) bytes = cond (eqb id (id_in p (take n bytes))) (some (packet (take n bytes))) none
-event_in p (BadChecksum id) bytes = some (bad_checksum id)
-event_in p Silent bytes = none
-event_in p (Refused refusal) bytes = none
+abbrev pub event_in : Protocol → Option Event-as-Code → List ℕ → Option Event
+event_in p (Some (Packet id n)) bytes = cond (eqb id (id_in p (take n bytes))) (Some (packet (take n bytes))) None
+event_in p (Some (BadChecksum id)) bytes = Some (bad_checksum id)
+event_in p None bytes = None
 
 -- The records as a reader, of which demand 3 is promised: a fresh one is any with count 0, whatever lies past it. Each list of
 -- calls keeps to one protocol. [F1 F2 O15 Q1]
@@ -63,8 +77,8 @@ records_of p =
     record {
       State = Reader;
       Fresh = λ r. r.count ≡ 0;
-      taken = λ r c. (step_in p r c).taken;
-      answer = λ r c. event_in p (step_in p r c).event (packet_in p r c (replicate (rules_of p).longest 0));
+      taken = λ r c. taken_by (step_in p r c);
+      answer = λ r c. event_in p (told_by (step_in p r c)) (packet_in p r c (replicate (rules_of p).longest 0));
       next = λ r c. left_in p r c;
     }
 
@@ -76,7 +90,7 @@ records = records_of Two
 abbrev pub NeverRefusedIn : Protocol → Type 0
 NeverRefusedIn p =
     (r : Reader) → r.count ≡ 0 → (cs : List Call) (c : Call) (refusal : Refusal)
-    → ¬ ((step_in p (after (records_of p) r cs) c).event ≡ Refused refusal)
+    → ¬ (step_in p (after (records_of p) r cs) c ≡ Err refusal)
 
 -- what is promised of every list of calls of a protocol, with the figure: one byte less than its longest packet [O15]
 pub record ProtocolPromises (p : Protocol) (most : ℕ) : Type 0 where

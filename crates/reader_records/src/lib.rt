@@ -6,8 +6,9 @@ ghost use Rattle.std.specs.Prelude.{◌≡◌, replicate};
 ghost use Rattle.reading.specs.Calls.{feed as call_feed, gap as call_gap};
 ghost use Rattle.reader_records.specs.Records.{step_on, left_by, packet_on, EveryProtocol};
 
+use answers::Refusal;
 use packet_front::MAX_PACKET;
-use reader_core::{MAX_HELD, Step};
+use reader_core::{MAX_HELD, ProtocolTwo, Step};
 
 // The reader's record, which lives as long as the device: the held bytes stand at the start, and the rest is 0.
 #[repr(C)]
@@ -17,10 +18,10 @@ pub struct Reader {
     pub count: usize,
 }
 
-// What a call returns: its step, the packet's bytes followed by 0, and the record from now on.
+// What a call returns: its step or the refusal, the packet's bytes followed by 0, and the record from now on.
 #[derive(Drop)]
 pub struct Fed {
-    pub step: Step,
+    pub step: Result<Step, Refusal>,
     pub packet: [u8; MAX_PACKET],
     pub reader: Reader,
 }
@@ -36,8 +37,10 @@ pub fn feed(reader: Reader, chunk: &[u8]) -> Fed
     let count = reader.count;
     let mut next = reader;
     let mut packet = [0u8; MAX_PACKET];
-    let step = reader_core::feed_in(&mut next.bytes, count, chunk, &mut packet);
-    next.count = step.held;
+    let step = reader_core::feed::<ProtocolTwo, _, _>(&mut next.bytes, count, chunk, &mut packet);
+    if let Ok(step) = step {
+        next.count = step.held;
+    }
     Fed {
         step,
         packet,
@@ -54,8 +57,10 @@ pub fn gap(reader: Reader) -> Fed
     let count = reader.count;
     let mut next = reader;
     let mut packet = [0u8; MAX_PACKET];
-    let step = reader_core::gap_in(&mut next.bytes, count, &mut packet);
-    next.count = step.held;
+    let step = reader_core::gap::<ProtocolTwo, _, _>(&mut next.bytes, count, &mut packet);
+    if let Ok(step) = step {
+        next.count = step.held;
+    }
     Fed {
         step,
         packet,

@@ -1,8 +1,8 @@
 -- How far a feeding call has come, by what was seen of its window: one round of the loops that take bytes, and their end.
+use Rattle.std.specs.Prelude.{Some}
 use mathlib.Core.Path.{◌≡◌, refl, sym, ap, ◌∙◌}
 use mathlib.Core.Bool.{true, false, ◌&&◌}
 use mathlib.Core.List.{List, [], ◌++◌, append-nil, append_assoc}
-use mathlib.Core.Option.{some}
 use Prim.Native.Nat.{ℕ, zero, suc, ◌+◌, ◌-◌, ◌≤◌, ◌<◌, min}
 use native.Mathlib.Omega.{arith}
 use lib.Dec.{leb, ltb}
@@ -42,7 +42,7 @@ not_back few k n o e z =
 
 module _ (R : Rules) (L : Laws R) (h c : List ℕ) where
   ends_event : (s : List ℕ) (n from at on : ℕ) (e : Event) → Reached R h c (drop from s) n → Decides R open' s from at on e
-      → fed R h c ≡ record { taken = n; answer = some e; held = drop on s }
+      → fed R h c ≡ record { taken = n; answer = Some e; held = drop on s }
   ends_event s n from at on e r d = reached_event R h c (drop from s) (drop on s) n e r d.first_is
 
   pub ends_decided : (s : List ℕ) (n from : ℕ) (v : Scanned) → ((at : ℕ) → v ≡ Waiting at → ⊥) → Seen R open' s from v

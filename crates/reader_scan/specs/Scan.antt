@@ -1,6 +1,6 @@
 -- What the parts of the reader find, over any packet rules R: where the first event stands, and how a feeding call ends.
+use Rattle.std.specs.Prelude.{None, Option, Some}
 use Rattle.std.specs.Prelude.{◌≡◌, List, [], ℕ, ◌+◌, ◌≤◌, ◌<◌, length, take, drop}
-use Rattle.std.proofs.Math.Option.{Option, none, some}
 use Rattle.reading.specs.Rules.{Rules}
 use Rattle.reading.specs.Reading.{Event, packet, bad_checksum, Mode, open'}
 use Rattle.reading.specs.Calls.{event, silent, first, CallResult, fed}
@@ -48,9 +48,9 @@ size_seen (BadChecksum at id) = 0
 size_seen (Waiting at) = 0
 
 abbrev pub answer_of : List ℕ → Scanned → Option Event
-answer_of s (Packet at n) = some (packet (take n (drop at s)))
-answer_of s (BadChecksum at id) = some (bad_checksum id)
-answer_of s (Waiting at) = none
+answer_of s (Packet at n) = Some (packet (take n (drop at s)))
+answer_of s (BadChecksum at id) = Some (bad_checksum id)
+answer_of s (Waiting at) = None
 
 -- the result that ends with what was seen of the bytes s, n bytes taken
 abbrev pub result_of : List ℕ → ℕ → Scanned → CallResult

@@ -7,7 +7,6 @@ ghost use Rattle.reading.specs.Calls.{fed};
 ghost use Rattle.packet_protocols.specs.Protocols.{shape_of, rules_of};
 ghost use Rattle.reader_scan.specs.Scan.{Seen, Wants, Ends, Filled};
 
-use buffers::greatest;
 use packet_protocols::Protocol;
 use packet_rules::{Front, Verdict};
 
@@ -50,24 +49,6 @@ pub enum Stop {
     },
 }
 
-fn wanting(seen: Scanned, lacks: usize) -> Live
-    ensures { result ≡ record { seen = seen; lacks = lacks } }
-{
-    Live { seen, lacks }
-}
-
-fn ending(seen: Scanned, end: usize) -> Window
-    ensures { result ≡ record { seen = seen; end = end } }
-{
-    Window { seen, end }
-}
-
-pub fn least(a: usize, b: usize) -> usize
-    ensures { result ≡ min a b }
-{
-    buffers::least(a, b)
-}
-
 // The bytes of s from `from` on, offset by offset; those before the next at which a packet may begin say nothing.
 fn scan(protocol: Protocol, s: &[u8], from: usize) -> Live
     requires { from ≤ length s.now }
@@ -75,18 +56,30 @@ fn scan(protocol: Protocol, s: &[u8], from: usize) -> Live
 {
     let mut next = from;
     loop {
-        let at = packet_protocols::next_start(protocol, s, next);
+        let at = protocol.next_start(s, next);
         if s.len() <= at {
-            return wanting(Scanned::Waiting { at }, 0);
+            return Live {
+                seen: Scanned::Waiting { at },
+                lacks: 0,
+            };
         }
-        let front = packet_protocols::peek(protocol, &s[at..]);
+        let front = protocol.peek(&s[at..]);
         if let Front::Waiting(lacks) = front {
-            return wanting(Scanned::Waiting { at }, lacks);
+            return Live {
+                seen: Scanned::Waiting { at },
+                lacks,
+            };
         }
         if let Front::Whole(size) = front {
-            match packet_protocols::judge_whole(protocol, &s[at..at + size]) {
-                Verdict::Packet(count) => return wanting(Scanned::Packet { at, count }, 0),
-                Verdict::BadChecksum(id) => return wanting(Scanned::BadChecksum { at, id }, 0),
+            match protocol.judge_whole(&s[at..at + size]) {
+                Verdict::Packet(count) => return Live {
+                    seen: Scanned::Packet { at, count },
+                    lacks: 0,
+                },
+                Verdict::BadChecksum(id) => return Live {
+                    seen: Scanned::BadChecksum { at, id },
+                    lacks: 0,
+                },
                 _ => {}
             }
         }
@@ -101,15 +94,15 @@ pub fn scan_closed(protocol: Protocol, segment: &[u8]) -> Scanned
 {
     let mut from = 0;
     loop {
-        let at = packet_protocols::next_start(protocol, segment, from);
+        let at = protocol.next_start(segment, from);
         if segment.len() <= at {
             return Scanned::Waiting { at };
         }
-        if segment.len() - at < packet_protocols::shortest(protocol) {
+        if segment.len() - at < protocol.shortest() {
             return Scanned::Waiting { at: segment.len() };
         }
-        if let Front::Whole(size) = packet_protocols::peek(protocol, &segment[at..]) {
-            match packet_protocols::judge_whole(protocol, &segment[at..at + size]) {
+        if let Front::Whole(size) = protocol.peek(&segment[at..]) {
+            match protocol.judge_whole(&segment[at..at + size]) {
                 Verdict::Packet(count) => return Scanned::Packet { at, count },
                 Verdict::BadChecksum(id) => return Scanned::BadChecksum { at, id },
                 _ => {}
@@ -126,23 +119,35 @@ pub fn advance(protocol: Protocol, chunk: &[u8]) -> Window
         × Ends (rules_of protocol) [] chunk.now (take result.end chunk.now) result.end result.seen }
 {
     let mut past = 0;
-    let mut end = 0;
+    let mut end = 0usize;
     loop {
-        let at = packet_protocols::next_start(protocol, chunk, past);
+        let at = protocol.next_start(chunk, past);
         if chunk.len() <= at {
-            return ending(Scanned::Waiting { at }, chunk.len());
+            return Window {
+                seen: Scanned::Waiting { at },
+                end: chunk.len(),
+            };
         }
-        let front = packet_protocols::peek(protocol, &chunk[at..]);
+        let front = protocol.peek(&chunk[at..]);
         // A match, not a second `if let`: so compiled, noise is passed by one test.
         match front {
             Front::Nothing => {}
-            Front::Waiting(_) => return ending(Scanned::Waiting { at }, chunk.len()),
-            Front::Whole(size) => end = greatest(end, at + size),
+            Front::Waiting(_) => return Window {
+                seen: Scanned::Waiting { at },
+                end: chunk.len(),
+            },
+            Front::Whole(size) => end = end.max(at + size),
         }
         if let Front::Whole(size) = front {
-            match packet_protocols::judge_whole(protocol, &chunk[at..at + size]) {
-                Verdict::Packet(count) => return ending(Scanned::Packet { at, count }, end),
-                Verdict::BadChecksum(id) => return ending(Scanned::BadChecksum { at, id }, end),
+            match protocol.judge_whole(&chunk[at..at + size]) {
+                Verdict::Packet(count) => return Window {
+                    seen: Scanned::Packet { at, count },
+                    end,
+                },
+                Verdict::BadChecksum(id) => return Window {
+                    seen: Scanned::BadChecksum { at, id },
+                    end,
+                },
                 _ => {}
             }
         }
@@ -172,7 +177,7 @@ fn append(held: &mut [u8], at: usize, end: usize, bytes: &[u8]) -> usize
 fn back_in_chunk(protocol: Protocol, waiting: usize, taken: usize) -> bool
     ensures { result ≡ (leb waiting taken && ltb waiting (shape_of protocol).shortest) }
 {
-    waiting <= taken && waiting < packet_protocols::shortest(protocol)
+    waiting <= taken && waiting < protocol.shortest()
 }
 
 // The held bytes, and where they wait as many of the chunk's as they wait for, as far as there is room. Once those that were held
@@ -183,15 +188,14 @@ pub fn fill(protocol: Protocol, held: &mut [u8], count: usize, chunk: &[u8]) -> 
     ensures held_unchanged { drop (count + (fed (rules_of protocol) (take count held.old) chunk.now).taken) held.new
         ≡ drop (count + (fed (rules_of protocol) (take count held.old) chunk.now).taken) held.old }
 {
-    let mut end = least(count, held.len());
+    let mut end = count.min(held.len());
     if end == 0 {
         return Stop::Passed { taken: 0 };
     }
     let mut at = 0;
     let mut taken = 0;
     loop {
-        let live = scan(protocol, &held[..end], at);
-        let seen = live.seen;
+        let Live { seen, lacks } = scan(protocol, &held[..end], at);
         let Scanned::Waiting { at: start } = seen else {
             return Stop::Done { seen, end, taken };
         };
@@ -209,7 +213,7 @@ pub fn fill(protocol: Protocol, held: &mut [u8], count: usize, chunk: &[u8]) -> 
         if room == 0 {
             return Stop::Full { taken };
         }
-        let more = least(least(live.lacks, room), left);
+        let more = lacks.min(room).min(left);
         at = append(held, start, end, &chunk[taken..taken + more]);
         end = at + waiting + more;
         taken += more;

@@ -1,9 +1,9 @@
 -- Demand 3 without noise, and all that is promised of every list of calls, of each reader that keeps to the rules.
+use Rattle.std.specs.Prelude.{None, Some}
 use mathlib.Core.Path.{◌≡◌, refl, sym, ap, subst, ◌∙◌}
 use mathlib.Core.List.Memᴰ
 use mathlib.Core.List.{List, [], ◌∷◌, ◌++◌, map, append-nil, append_assoc}
 use mathlib.Core.Logic.{inl}
-use mathlib.Core.Option.{none, some}
 use Prim.Native.Nat.{ℕ, ◌+◌, ◌<◌}
 use native.Mathlib.Omega.{arith}
 use lib.ListN.{length, take, drop, length-drop, take-append-drop}
@@ -66,9 +66,9 @@ module _ (R : Rules) (L : Laws R) where
     all_of_it =
         whole w (not_empty R L w good) (ap (λ (s : List ℕ). R.verdict s) (sym (append-nil w)) ∙ L.whole w [] good)
 
-    fed_packet : record { taken = length w; answer = some (packet w); held = [] } ≡ fed R [] w
+    fed_packet : record { taken = length w; answer = Some (packet w); held = [] } ≡ fed R [] w
     fed_packet =
-        fewest_fed R [] w (record { taken = length w; answer = some (packet w); held = [] })
+        fewest_fed R [] w (record { taken = length w; answer = Some (packet w); held = [] })
         (record {
           within = omega arith;
           none_sooner = partial_silent;
@@ -86,7 +86,7 @@ module _ (R : Rules) (L : Laws R) where
       × (after (model R) f.held (feeds packets) ≡ []))
       (fed_packet w (good w (Memᴰ.head refl))) (rw (take-length w, r.0), r.1)
 
-  gap_at_none : (call R [] gap).answer ≡ none
+  gap_at_none : (call R [] gap).answer ≡ None
   unfolding call first
   gap_at_none = refl
 
@@ -95,7 +95,7 @@ module _ (R : Rules) (L : Laws R) where
     all_taken : took (model R) [] (since packets 1) ≡ joined packets
     all_taken = took_calls R L [] packets 1 ∙ (packets_fed packets good).0
 
-    gap_silent : (call R (after (model R) [] (since packets 0)) gap).answer ≡ none
+    gap_silent : (call R (after (model R) [] (since packets 0)) gap).answer ≡ None
     gap_silent = rw (append-nil (feeds packets), (packets_fed packets good).1) gap_at_none
 
     all_given : given (model R) [] (since packets 1) ≡ map packet packets

@@ -1,9 +1,9 @@
 -- Demand 3, over any packet rules that have the laws.
+use Rattle.std.specs.Prelude.{None}
 use mathlib.Core.Path.{◌≡◌, refl, sym, ap, subst, ◌∙◌}
 use mathlib.Core.List.{List, [], ◌∷◌, ◌++◌, map, append-nil, append_assoc, Memᴰ}
 use mathlib.Core.List.Memᴰ
 use mathlib.Core.Logic.{◌⊎◌, inl, inr}
-use mathlib.Core.Option.{none}
 use Prim.Native.Nat.{ℕ, zero, suc, ◌+◌, ◌-◌, ◌≤◌, ◌<◌}
 use native.Mathlib.Nat.{zero-add}
 use native.Mathlib.Omega.{arith}
@@ -37,7 +37,7 @@ module _ (R : Rules) (L : Laws R) where
   gaps_split (suc k) zero h = absurd (omega arith)
   gaps_split (suc k) (suc g) h = let r = gaps_split k g (omega arith) in (r.0, ap {B = List Call} (λ l. gap ∷ l) r.1)
 
-  gap_then : (h : List ℕ) (j : ℕ) → (call R h gap).answer ≡ none → after (model R) h (gap ∷ gaps j) ≡ []
+  gap_then : (h : List ℕ) (j : ℕ) → (call R h gap).answer ≡ None → after (model R) h (gap ∷ gaps j) ≡ []
   unfolding after
   gap_then h j e = subst (λ (l : List ℕ). after (model R) l (gaps j) ≡ []) (sym (gap_silent R L h e)) (gaps_none j)
 

@@ -1,7 +1,7 @@
 -- A feeding call goes by the rule of the fewest bytes, and the rule leaves no choice.
+use Rattle.std.specs.Prelude.{None, Option, Some}
 use mathlib.Core.Path.{◌≡◌, refl, sym, ap, subst, ◌∙◌}
 use mathlib.Core.List.{List, [], ◌∷◌, ◌++◌, append-nil, append_assoc}
-use mathlib.Core.Option.{Option, none, some}
 use Prim.Native.Nat.{ℕ, zero, suc, ◌<◌}
 use native.Mathlib.Omega.{arith}
 use lib.ListN.{take}
@@ -15,7 +15,7 @@ same_result r r' a b c = λ i. record { taken = a i; answer = b i; held = c i }
 
 module _ (R : Rules) where
   at_once : (h s : List ℕ) (x : Event) (t : List ℕ) → first R open' h ≡ event x t
-      → Fewest R h s (record { taken = 0; answer = some x; held = t })
+      → Fewest R h s (record { taken = 0; answer = Some x; held = t })
   at_once h s x t e =
       record {
         within = omega arith;
@@ -58,8 +58,8 @@ module _ (R : Rules) where
   module _ (h s : List ℕ) where
     not_sooner : (r r' : CallResult) → Fewest R h s r → Fewest R h s r' → (a : Option Event) → r.answer ≡ a → r.taken < r'.taken
         → ⊥
-    not_sooner r r' w w' none i l = let k = w.undecided i in omega (arith, k.0, w'.within)
-    not_sooner r r' w w' (some e) i l =
+    not_sooner r r' w w' None i l = let k = w.undecided i in omega (arith, k.0, w'.within)
+    not_sooner r r' w w' (Some e) i l =
         let k = w.decided e i in
         let v = w'.none_sooner r.taken l in
         let j = v.1 in
@@ -67,8 +67,8 @@ module _ (R : Rules) where
         omega arith
 
     -- an event with as many bytes as the whole chunk, and none with the whole chunk
-    not_both : (r r' : CallResult) (e : Event) → Fewest R h s r → Fewest R h s r' → r.taken ≡ r'.taken → r.answer ≡ none
-        → r'.answer ≡ some e → ⊥
+    not_both : (r r' : CallResult) (e : Event) → Fewest R h s r → Fewest R h s r' → r.taken ≡ r'.taken → r.answer ≡ None
+        → r'.answer ≡ Some e → ⊥
     not_both r r' e w w' t i j =
         let k = w.undecided i in
         let k₁ = k.1 in
@@ -81,11 +81,11 @@ module _ (R : Rules) where
 
     same_rest : (r r' : CallResult) → Fewest R h s r → Fewest R h s r' → r.taken ≡ r'.taken → (a a' : Option Event) → r.answer ≡ a
         → r'.answer ≡ a' → r ≡ r'
-    same_rest r r' w w' t none none i i' = same_result r r' t (i ∙ sym i')
+    same_rest r r' w w' t None None i i' = same_result r r' t (i ∙ sym i')
         (let k = (w.undecided i).1 in let k' = (w'.undecided i').1 in cc)
-    same_rest r r' w w' t none (some e) i i' = absurd (not_both r r' e w w' t i i')
-    same_rest r r' w w' t (some e) none i i' = absurd (not_both r' r e w' w (sym t) i' i)
-    same_rest r r' w w' t (some e) (some e') i i' =
+    same_rest r r' w w' t None (Some e) i i' = absurd (not_both r r' e w w' t i i')
+    same_rest r r' w w' t (Some e) None i i' = absurd (not_both r' r e w' w (sym t) i' i)
+    same_rest r r' w w' t (Some e) (Some e') i i' =
         let k = w.decided e i in
         let k' : first R open' (h ++ take r.taken s) ≡ event e' r'.held =
         subst (λ (n : ℕ). first R open' (h ++ take n s) ≡ event e' r'.held) (sym t) (w'.decided e' i') in

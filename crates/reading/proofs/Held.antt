@@ -1,7 +1,7 @@
 -- What is held between calls: less than a longest packet, and only what waits. And what a call gives: well-formed packets.
+use Rattle.std.specs.Prelude.{Some}
 use mathlib.Core.Path.{◌≡◌, refl, sym, ◌∙◌}
 use mathlib.Core.List.{List, [], ◌∷◌, ◌++◌}
-use mathlib.Core.Option.{some}
 use Prim.Native.Nat.{ℕ, ◌-◌, ◌≤◌, ◌<◌}
 use native.Mathlib.Omega.{arith}
 use lib.ListN.{length, take, drop, length-append, length-drop}
@@ -121,25 +121,25 @@ module _ (R : Rules) (L : Laws R) where
   first_good m [] w t k = let z : ◌≡◌ {A = ℕ} 0 1 = cc in absurd (omega arith)
   first_good m (b ∷ s) w t k = good_at m b s (first R m s) (R.verdict (b ∷ s)) refl w (first_good m s w) t k
 
-  all_good : (h w : List ℕ) (f : First) → first R open' h ≡ f → (fed_all f).answer ≡ some (packet w) → R.WellFormed w
+  all_good : (h w : List ℕ) (f : First) → first R open' h ≡ f → (fed_all f).answer ≡ Some (packet w) → R.WellFormed w
   all_good h w (event e t) i k = let z : e ≡ packet w = cc in first_good open' h w t (rw z at i)
   all_good h w (silent t) i k = let z : ◌≡◌ {A = ℕ} 0 1 = cc in absurd (omega arith)
 
-  on_good : (h w : List ℕ) (f : First) (r : CallResult) → first R open' h ≡ f → (r.answer ≡ some (packet w) → R.WellFormed w)
-      → (fed_on f r).answer ≡ some (packet w) → R.WellFormed w
+  on_good : (h w : List ℕ) (f : First) (r : CallResult) → first R open' h ≡ f → (r.answer ≡ Some (packet w) → R.WellFormed w)
+      → (fed_on f r).answer ≡ Some (packet w) → R.WellFormed w
   on_good h w (event e t) r i g k = let z : e ≡ packet w = cc in first_good open' h w t (rw z at i)
   on_good h w (silent t) r i g k = g k
 
-  fed_good : (h s w : List ℕ) → (fed R h s).answer ≡ some (packet w) → R.WellFormed w
+  fed_good : (h s w : List ℕ) → (fed R h s).answer ≡ Some (packet w) → R.WellFormed w
   unfolding fed
   fed_good h [] w k = all_good h w (first R open' h) refl k
   fed_good h (b ∷ s) w k = on_good h w (first R open' h) (fed R (h ++ b ∷ []) s) refl (fed_good (h ++ b ∷ []) s w) k
 
-  gapped_good : (h w : List ℕ) (f : First) → first R closed h ≡ f → (gapped f).answer ≡ some (packet w) → R.WellFormed w
+  gapped_good : (h w : List ℕ) (f : First) → first R closed h ≡ f → (gapped f).answer ≡ Some (packet w) → R.WellFormed w
   gapped_good h w (event e t) i k = let z : e ≡ packet w = cc in first_good closed h w t (rw z at i)
   gapped_good h w (silent t) i k = let z : ◌≡◌ {A = ℕ} 0 1 = cc in absurd (omega arith)
 
-  pub packet_good : (h : List ℕ) (c : Call) (w : List ℕ) → (call R h c).answer ≡ some (packet w) → R.WellFormed w
+  pub packet_good : (h : List ℕ) (c : Call) (w : List ℕ) → (call R h c).answer ≡ Some (packet w) → R.WellFormed w
   unfolding call
   packet_good h (feed s) w k = fed_good h s w k
   packet_good h gap w k = gapped_good h w (first R closed h) refl k

@@ -1,7 +1,7 @@
 -- The reading unfolds offset by offset, and what is decided while the segment is open stays so.
+use Rattle.std.specs.Prelude.{None, Option, Some}
 use mathlib.Core.Path.{◌≡◌, refl, sym, ap, ◌∙◌}
 use mathlib.Core.List.{List, [], ◌∷◌, ◌++◌, map, append-nil, append_assoc}
-use mathlib.Core.Option.{Option, none, some}
 use Prim.Native.Nat.{ℕ, zero, suc, ◌+◌, ◌≤◌, ◌<◌}
 use native.Mathlib.Omega.{arith}
 use lib.ListN.{length, take, drop, length-drop}
@@ -136,8 +136,8 @@ module _ (R : Rules) (L : Laws R) where
 
   -- a feeding call on a reader that holds h; where it gives no event, the reading of what it leaves waits
   abbrev Quiet : Option Event → List ℕ → Type 0
-  Quiet none t = (p : ℕ) → read_from R open' p t ≡ []
-  Quiet (some e) t = Unit {0}
+  Quiet None t = (p : ℕ) → read_from R open' p t ≡ []
+  Quiet (Some e) t = Unit {0}
 
   abbrev SureFed : List ℕ → List ℕ → CallResult → Type 0
   SureFed h s r = Sure (h ++ take r.taken s) (listed r.answer) r.held × Quiet r.answer r.held
@@ -223,21 +223,21 @@ module _ (R : Rules) (L : Laws R) where
       ends_compose h r.held (after (model R) r.held (gaps g)) (listed r.answer) (given (model R) r.held (gaps g))
       (gapped_ends h (first R closed h) (first_ends h)) (gaps_end r.held g)
 
-  gapped_silent : (f : First) → (gapped f).answer ≡ none → (gapped f).held ≡ []
+  gapped_silent : (f : First) → (gapped f).answer ≡ None → (gapped f).held ≡ []
   gapped_silent (event e t) k = let z : ◌≡◌ {A = ℕ} 0 1 = cc in absurd (omega arith)
   gapped_silent (silent t) k = refl
 
   -- a finished gap leaves a reader that holds nothing
-  pub gap_silent : (h : List ℕ) → (call R h gap).answer ≡ none → (call R h gap).held ≡ []
+  pub gap_silent : (h : List ℕ) → (call R h gap).answer ≡ None → (call R h gap).held ≡ []
   unfolding call
   gap_silent h e = gapped_silent (first R closed h) e
 
-  quiet_none : (a : Option Event) (t : List ℕ) → Quiet a t → a ≡ none → (p : ℕ) → read_from R open' p t ≡ []
-  quiet_none none t k e = k
-  quiet_none (some x) t k e = let z : ◌≡◌ {A = ℕ} 0 1 = cc in absurd (omega arith)
+  quiet_none : (a : Option Event) (t : List ℕ) → Quiet a t → a ≡ None → (p : ℕ) → read_from R open' p t ≡ []
+  quiet_none None t k e = k
+  quiet_none (Some x) t k e = let z : ◌≡◌ {A = ℕ} 0 1 = cc in absurd (omega arith)
 
   -- a feeding call with no event leaves bytes that wait
-  pub feed_silent : (h s : List ℕ) → (call R h (feed s)).answer ≡ none → (p : ℕ)
+  pub feed_silent : (h s : List ℕ) → (call R h (feed s)).answer ≡ None → (p : ℕ)
       → read_from R open' p (call R h (feed s)).held ≡ []
   unfolding call
   feed_silent h s e = quiet_none (fed R h s).answer (fed R h s).held (fed_sure h s).1 e

@@ -1,8 +1,8 @@
 -- How a feeding call gets on: it passes what is decided and silent, and takes what a waiting offset lacks in one go.
+use Rattle.std.specs.Prelude.{None, Some}
 use mathlib.Core.Path.{◌≡◌, refl, sym, ap, ◌∙◌}
 use mathlib.Core.List.{List, [], ◌∷◌, ◌++◌, append-nil, append_assoc}
 use mathlib.Core.Logic.{◌⊎◌, inl, inr}
-use mathlib.Core.Option.{none, some}
 use Prim.Native.Nat.{ℕ, zero, suc, ◌+◌, ◌-◌, ◌≤◌, ◌<◌}
 use native.Mathlib.Omega.{arith}
 use lib.ListN.{length, take, drop, length-append, length-take, length-drop, take-append-drop}
@@ -82,27 +82,27 @@ module _ (R : Rules) where
 
   -- the bytes that are left decide an event, and it is the call's
   pub reached_event : (h s t u : List ℕ) (n : ℕ) (e : Event) → Reached R h s t n → first R open' t ≡ event e u
-      → fed R h s ≡ record { taken = n; answer = some e; held = u }
+      → fed R h s ≡ record { taken = n; answer = Some e; held = u }
   unfolding fed
   reached_event h s t u n e a f =
       a.same ∙ ap (after_taking n) (at_once (drop n s))
-      ∙ same_result (after_taking n (record { taken = 0; answer = some e; held = u }))
-      (record { taken = n; answer = some e; held = u })
+      ∙ same_result (after_taking n (record { taken = 0; answer = Some e; held = u }))
+      (record { taken = n; answer = Some e; held = u })
       (omega arith) refl refl
     where
-      at_once : (x : List ℕ) → fed R t x ≡ record { taken = 0; answer = some e; held = u }
+      at_once : (x : List ℕ) → fed R t x ≡ record { taken = 0; answer = Some e; held = u }
       at_once [] = ap fed_all f
       at_once (b ∷ x) = ap (λ (g : First). fed_on g (fed R (t ++ b ∷ []) x)) f
 
   -- they decide none, and the whole chunk is taken
   pub reached_end : (h s t u : List ℕ) → Reached R h s t (length s) → first R open' t ≡ silent u
-      → fed R h s ≡ record { taken = length s; answer = none; held = u }
+      → fed R h s ≡ record { taken = length s; answer = None; held = u }
   unfolding fed
   reached_end h s t u a f =
       a.same ∙ ap (λ (l : List ℕ). after_taking (length s) (fed R t l)) (drop-length s)
       ∙ ap (λ (g : First). after_taking (length s) (fed_all g)) f
-      ∙ same_result (after_taking (length s) (record { taken = 0; answer = none; held = u }))
-      (record { taken = length s; answer = none; held = u }) (omega arith) refl refl
+      ∙ same_result (after_taking (length s) (record { taken = 0; answer = None; held = u }))
+      (record { taken = length s; answer = None; held = u }) (omega arith) refl refl
 
   silent_more : (h : List ℕ) (b : ℕ) (s t : List ℕ) → first R open' h ≡ silent t
       → fed R h (b ∷ s) ≡ one_more (fed R (h ++ b ∷ []) s)

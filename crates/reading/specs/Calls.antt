@@ -1,7 +1,7 @@
 -- What a feeding call and a gap call answer and leave, over the bytes that the reader holds.
+use Rattle.std.specs.Prelude.{None, Option, Some}
 use Rattle.std.specs.Prelude.{◌≡◌, ℕ, suc, ◌-◌, ◌≤◌, ◌<◌, length, take, drop}
 use mathlib.Core.List.{List, [], ◌∷◌, ◌++◌}
-use Rattle.std.proofs.Math.Option.{Option, none, some}
 use Rattle.reading.specs.Rules.{Verdict, is_packet, is_bad_checksum, is_waiting, is_nothing, Rules}
 use Rattle.reading.specs.Reading.{Event, packet, bad_checksum, Mode, open', closed}
 
@@ -30,18 +30,18 @@ one_more r = record { taken = suc r.taken; answer = r.answer; held = r.held }
 
 -- no byte is left to take [F6-F8]
 abbrev pub fed_all : First → CallResult
-fed_all (event e t) = record { taken = 0; answer = some e; held = t }
-fed_all (silent t) = record { taken = 0; answer = none; held = t }
+fed_all (event e t) = record { taken = 0; answer = Some e; held = t }
+fed_all (silent t) = record { taken = 0; answer = None; held = t }
 
 -- one is, and `more` is the result once it is taken [F5 F7]
 abbrev pub fed_on : First → CallResult → CallResult
-fed_on (event e t) more = record { taken = 0; answer = some e; held = t }
+fed_on (event e t) more = record { taken = 0; answer = Some e; held = t }
 fed_on (silent t) more = one_more more
 
 -- a gap call that finds no event says that nothing is left, and holds nothing [F12]
 abbrev pub gapped : First → CallResult
-gapped (event e t) = record { taken = 0; answer = some e; held = t }
-gapped (silent t) = record { taken = 0; answer = none; held = [] }
+gapped (event e t) = record { taken = 0; answer = Some e; held = t }
+gapped (silent t) = record { taken = 0; answer = None; held = [] }
 
 -- [F4 V1]
 pub data Call : Type 0 where
@@ -74,9 +74,9 @@ pub record Fewest (R : Rules) (h s : List ℕ) (r : CallResult) : Type 0 where
   -- with fewer bytes no event is decided
   pub none_sooner : (k : ℕ) → k < r.taken → (t : List ℕ) × (first R open' (h ++ take k s) ≡ silent t)
   -- an event is decided with those taken; held are all taken bytes from where reading goes on
-  pub decided : (e : Event) → r.answer ≡ some e → first R open' (h ++ take r.taken s) ≡ event e r.held
+  pub decided : (e : Event) → r.answer ≡ Some e → first R open' (h ++ take r.taken s) ≡ event e r.held
   -- or with the whole chunk none is; held are the bytes from the waiting offset on, none if no offset waits
-  pub undecided : r.answer ≡ none → (r.taken ≡ length s) × (first R open' (h ++ s) ≡ silent r.held)
+  pub undecided : r.answer ≡ None → (r.taken ≡ length s) × (first R open' (h ++ s) ≡ silent r.held)
 
 -- the feeding call goes by that rule, and the rule leaves no choice
 abbrev pub FewestRule : Rules → Type 0
@@ -88,4 +88,4 @@ HeldBound R = (h : List ℕ) (c : Call) → length h ≤ R.longest - 1 → lengt
 
 -- a gap call that says that nothing is left finishes the gap, and then nothing is held [F13]
 abbrev pub FinishedEmpty : Rules → Type 0
-FinishedEmpty R = (h : List ℕ) → (call R h gap).answer ≡ none → (call R h gap).held ≡ []
+FinishedEmpty R = (h : List ℕ) → (call R h gap).answer ≡ None → (call R h gap).held ≡ []

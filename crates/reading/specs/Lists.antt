@@ -1,6 +1,6 @@
 -- Lists of calls on one reader, whatever the reader is made of.
+use Rattle.std.specs.Prelude.{None, Option, Some}
 use Rattle.std.specs.Prelude.{◌≡◌, List, [], ◌∷◌, ◌++◌, map, ℕ, zero, suc, take}
-use Rattle.std.proofs.Math.Option.{Option, none, some}
 use Rattle.reading.specs.Rules.{Rules}
 use Rattle.reading.specs.Reading.{Event}
 use Rattle.reading.specs.Calls.{Call, feed, gap, call}
@@ -39,8 +39,8 @@ gaps zero = []
 gaps (suc n) = gap ∷ gaps n
 
 abbrev pub listed : Option Event → List Event
-listed none = []
-listed (some e) = e ∷ []
+listed None = []
+listed (Some e) = e ∷ []
 
 -- calls on a reader that is x: how they leave it, the bytes that they took, the events that they gave
 module _ (M : AnyReader) where

@@ -1,9 +1,9 @@
 -- Demand 3, one claim about a whole list of feeding and gap calls on one reader M, over any packet rules R. `Demand3` at the
 -- end says of which lists of calls and of which bytes the promise is made, `Promised` what is promised. The user's words stand
 -- in quotes beside the clause that says them; their 'damage' is the noise here, and a 'stretch' is bytes side by side.
+use Rattle.std.specs.Prelude.{None}
 use Rattle.std.specs.Prelude.{◌≡◌, ◌⊎◌, ℕ, ◌+◌, ◌≤◌, ◌<◌, length, take}
 use mathlib.Core.List.{List, [], ◌∷◌, ◌++◌, map, Memᴰ}
-use Rattle.std.proofs.Math.Option.{none}
 use Rattle.reading.specs.Rules.{Rules}
 use Rattle.reading.specs.Reading.{Event, packet, EventAt, reading}
 use Rattle.reading.specs.Calls.{Call, feed, gap}
@@ -51,7 +51,7 @@ since chunks g = feeds chunks ++ gaps g
 module _ (M : AnyReader) where
   -- c is the last of these calls on a reader that was x, and gave no event; of a gap call this says that nothing is left [F11]
   abbrev pub EndsSilent : M.State → List Call → Call → Type 0
-  EndsSilent x cs c = (cs' : List Call) × (cs ≡ cs' ++ c ∷ []) × (M.answer (after M x cs') c ≡ none)
+  EndsSilent x cs c = (cs' : List Call) × (cs ≡ cs' ++ c ∷ []) × (M.answer (after M x cs') c ≡ None)
 
   -- "from a fresh start or a finished gap": there were no calls yet, or any calls whatever, the last of which is a gap call that
   -- finished the gap [Q1 Q3]
@@ -60,7 +60,7 @@ module _ (M : AnyReader) where
 
   -- one of the g gap calls said that nothing is left [F13]
   abbrev pub Finished : M.State → List (List ℕ) → ℕ → Type 0
-  Finished x chunks g = (k : ℕ) × (k < g) × (M.answer (after M x (since chunks k)) gap ≡ none)
+  Finished x chunks g = (k : ℕ) × (k < g) × (M.answer (after M x (since chunks k)) gap ≡ None)
 
 -- ---- the bytes
 

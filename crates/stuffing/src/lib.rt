@@ -6,35 +6,17 @@ ghost use Rattle.lists.specs.Write.{overwritten};
 ghost use Rattle.stuffing.specs.Stuffing.{mark_at, well_stuffed, unstuff, NoFd};
 ghost use Rattle.stuffing.specs.Answers.{checked, removal_answer, removal_out};
 
-use answers::{Answer, Refusal};
-
-// Whether a body is well stuffed, and its unstuffed byte count.
-#[derive(Clone, Copy)]
-pub enum Checked {
-    Good(usize),
-    Bad,
-}
+use answers::Refusal;
 
 // Whether the byte at i ends FF FF FD, where `before` stands right before the bytes. It is tested first: it is rarely FD.
 pub fn ends_mark(before: u8, bytes: &[u8], i: usize) -> bool
     ensures { result ≡ mark_at before bytes.now i }
 {
-    if bytes.len() <= i {
-        return false;
-    }
-    if bytes[i] != 0xFD {
-        return false;
-    }
-    if i == 0 {
-        return false;
-    }
-    if bytes[i - 1] != 0xFF {
-        return false;
-    }
-    if i == 1 {
-        return before == 0xFF;
-    }
-    bytes[i - 2] == 0xFF
+    i < bytes.len()
+        && bytes[i] == 0xFD
+        && 0 < i
+        && bytes[i - 1] == 0xFF
+        && (if i == 1 { before } else { bytes[i - 2] }) == 0xFF
 }
 
 // How many bytes stand before the first FD, or before the last few, of which there are not four: four are looked at in a round.
@@ -64,18 +46,17 @@ fn fours_before_fd(body: &[u8]) -> usize
 pub fn before_fd(body: &[u8]) -> usize
     ensures { (result ≤ length body.now) × NoFd body.now result }
 {
-    let mut n = fours_before_fd(body);
-    while n < body.len() {
-        if body[n] == 0xFD {
-            return n;
+    for i in fours_before_fd(body)..body.len() {
+        if body[i] == 0xFD {
+            return i;
         }
-        n += 1;
     }
-    n
+    body.len()
 }
 
-// The stuffing test: every FF FF FD is followed by FD within the body. [S3-S5 S7]
-pub fn check(body: &[u8]) -> Checked
+// The stuffing test: every FF FF FD is followed by FD within the body. A body that passes has this many bytes once unstuffed.
+// [S3-S5 S7]
+pub fn check(body: &[u8]) -> Option<usize>
     ensures { result ≡ checked body.now }
 {
     let plain = before_fd(body);
@@ -85,16 +66,16 @@ pub fn check(body: &[u8]) -> Checked
         if ends_mark(0, body, i) {
             i += 1;
             if body.len() <= i {
-                return Checked::Bad;
+                return None;
             }
             if body[i] != 0xFD {
-                return Checked::Bad;
+                return None;
             }
         }
         n += 1;
         i += 1;
     }
-    Checked::Good(n)
+    Some(n)
 }
 
 // Writes the body without its stuffing to the start of out, which has room for it.
@@ -116,20 +97,20 @@ fn write_unstuffed(body: &[u8], out: &mut [u8])
 
 // Writes the body without its stuffing to the start of out. Refused, in this order: a body that is not well stuffed, a buffer
 // without room. A refusal writes nothing. A body that has no stuffing is copied. [N3 N4 N10-N12 N14 S6-S11]
-pub fn unstuff_into(body: &[u8], out: &mut [u8]) -> Answer
+pub fn unstuff_into(body: &[u8], out: &mut [u8]) -> Result<usize, Refusal>
     ensures value { result ≡ removal_answer body.now out.old }
     ensures out_after { out.new ≡ removal_out body.now out.old }
 {
-    let Checked::Good(n) = check(body) else {
-        return Answer::Refused(Refusal::BadStuffing);
+    let Some(n) = check(body) else {
+        return Err(Refusal::BadStuffing);
     };
     if out.len() < n {
-        return Answer::Refused(Refusal::NoRoom);
+        return Err(Refusal::NoRoom);
     }
     if n == body.len() {
         buffers::place(out, 0, body);
     } else {
         write_unstuffed(body, out);
     }
-    Answer::Count(n)
+    Ok(n)
 }

@@ -2,7 +2,7 @@
 -- left out at all.
 use mathlib.Core.Path.{◌≡◌, refl, sym, ap, subst, ◌∙◌}
 use mathlib.Core.List.{List, [], ◌∷◌, ◌++◌}
-use Prim.Native.Nat.{ℕ, zero, suc, ◌+◌, ◌-◌, ◌≤◌, ◌<◌}
+use Prim.Native.Nat.{ℕ, zero, suc, ◌+◌, ◌-◌, ◌≤◌}
 use native.Mathlib.Omega.{arith}
 use lib.ListN.{length, take, drop}
 use Rattle.stuffing.specs.Stuffing.{unstuff_after, unstuff, NoFd}
@@ -50,5 +50,9 @@ plain_whole s n e none = (
 pub plain_0 : (s : List ℕ) → Plain s 0
 plain_0 s = (omega arith, refl)
 
-pub plain_before : (s : List ℕ) (r : ℕ) → 2 ≤ r → r ≤ length s → NoFd s r → Plain s (r - 2)
-plain_before s r two l none = plain s (r - 2) (λ k h. none k (omega arith)) (omega arith)
+pub plain_before : (s : List ℕ) (r : ℕ) → r ≤ length s → NoFd s r → Plain s (r - 2)
+plain_before s zero l none = plain_0 s
+plain_before s (suc zero) l none = plain_0 s
+plain_before s (suc (suc r)) l none =
+    let e : suc (suc r) - 2 ≡ r = omega arith in
+    rw e (plain s r (λ k h. none k (omega arith)) (omega arith))

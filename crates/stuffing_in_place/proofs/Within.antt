@@ -2,13 +2,13 @@
 use mathlib.Core.Path.{◌≡◌, refl, sym, ap, ◌∙◌}
 use mathlib.Core.Bool.{true, false, cond}
 use mathlib.Core.List.{List, [], ◌∷◌, ◌++◌}
-use Prim.Native.Nat.{ℕ, suc, ◌+◌, ◌-◌, ◌≤◌, ◌<◌}
+use Prim.Native.Nat.{ℕ, ◌+◌, ◌-◌, ◌≤◌, ◌<◌}
 use native.Mathlib.Numerals.{add-one}
 use native.Mathlib.Omega.{arith}
 use lib.ListN.{length, take, drop, get_or, set, drop_of_length-le, length-append, take-append-drop}
 use lib.Seq.{length-take-le, take_at, drop-cons, drop_at, drop-drop}
 use Rattle.lists.specs.Write.{overwritten}
-use Rattle.lists.proofs.Filling.{Filling, fill_next, fill_done, fill_count, fill_length, drop_lt}
+use Rattle.lists.proofs.Filling.{Filling, fill_next, fill_done, fill_count, fill_length}
 use Rattle.stuffing.specs.Stuffing.{mark, unstuff_after, unstuff}
 use Rattle.stuffing_in_place.specs.Plain.{Plain}
 

@@ -10,13 +10,7 @@ ghost use Rattle.stuffing_in_place.specs.Plain.{Plain};
 fn is_mark(a: u8, b: u8, c: u8) -> bool
     ensures { result ≡ mark a b c }
 {
-    if c != 0xFD {
-        return false;
-    }
-    if b != 0xFF {
-        return false;
-    }
-    a == 0xFF
+    c == 0xFD && b == 0xFF && a == 0xFF
 }
 
 // Where to begin with no byte before: two bytes before the first FD, since nothing is left out up to there, or at the end where there
@@ -28,10 +22,7 @@ fn first_read(body: &[u8]) -> usize
     if plain == body.len() {
         return plain;
     }
-    if plain < 2 {
-        return 0;
-    }
-    plain - 2
+    plain.saturating_sub(2)
 }
 
 // Leaves out the byte after each FF FF FD, and returns how many bytes are left; they stand at the start. The bytes after them stay.

@@ -6,18 +6,18 @@ use native.Mathlib.Omega.{arith}
 use lib.Dec.{leb}
 use borrow.Author.Tests.{leb-true, leb-false}
 use Rattle.stuffing_writer.specs.Answers.{length_within}
-use Rattle.stuffing_writer.specs.declared.Length.TheVariants.{Within, Past}
+use Rattle.std.specs.Prelude.{None, Some}
 
-pub is_within : (most n m : ℕ) → length_within most n ≡ Within m → (n ≤ most) × (n ≡ m)
+pub is_within : (most n m : ℕ) → length_within most n ≡ Some m → (n ≤ most) × (n ≡ m)
 is_within most n m e = go (leb n most) refl e
   where
-    go : (w : Bool) → leb n most ≡ w → cond w (Within n) Past ≡ Within m → (n ≤ most) × (n ≡ m)
+    go : (w : Bool) → leb n most ≡ w → cond w (Some n) None ≡ Some m → (n ≤ most) × (n ≡ m)
     go true l e = (leb-true n most l, cc)
     go false l e = let z : ◌≡◌ {A = ℕ} 0 1 = cc in absurd (omega arith)
 
-pub is_past : (most n : ℕ) → length_within most n ≡ Past → most < n
+pub is_past : (most n : ℕ) → length_within most n ≡ None → most < n
 is_past most n e = go (leb n most) refl e
   where
-    go : (w : Bool) → leb n most ≡ w → cond w (Within n) Past ≡ Past → most < n
+    go : (w : Bool) → leb n most ≡ w → cond w (Some n) None ≡ None → most < n
     go false l e = leb-false n most l
     go true l e = let z : ◌≡◌ {A = ℕ} 0 1 = cc in absurd (omega arith)

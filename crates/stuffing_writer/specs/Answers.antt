@@ -1,8 +1,6 @@
 -- What the measuring function answers.
-use Rattle.std.specs.Prelude.{cond, ℕ, leb}
-use Rattle.stuffing_writer.specs.declared.Length.{Length}
-use Rattle.stuffing_writer.specs.declared.Length.TheVariants.{Within, Past}
+use Rattle.std.specs.Prelude.{cond, ℕ, leb, Option, None, Some}
 
 -- a length, where it is at most the bound
-abbrev pub length_within : ℕ → ℕ → Length
-length_within most n = cond (leb n most) (Within n) Past
+abbrev pub length_within : ℕ → ℕ → Option ℕ
+length_within most n = cond (leb n most) (Some n) None

@@ -6,34 +6,21 @@ ghost use Rattle.lists.specs.Write.{overwritten};
 ghost use Rattle.stuffing.specs.Stuffing.{stuff};
 ghost use Rattle.stuffing_writer.specs.Answers.{length_within};
 
-// A length, or that it is past a bound.
-#[derive(Clone, Copy)]
-pub enum Length {
-    Within(usize),
-    Past,
-}
-
 // The stuffed length of the body `first` followed by `rest`, if it is at most `most`. Bytes that are too many even without stuffing
 // are not read. [E6 S1 S2]
-pub fn stuffed_len(first: u8, rest: &[u8], most: usize) -> Length
+pub fn stuffed_len(first: u8, rest: &[u8], most: usize) -> Option<usize>
     ensures { result ≡ length_within most (length (stuff (first ∷ rest.now))) }
 {
     if most <= rest.len() {
-        return Length::Past;
+        return None;
     }
     let mut n = rest.len() + 1;
-    let mut i = 0;
-    while i < rest.len() {
+    for i in 0..rest.len() {
         if stuffing::ends_mark(first, rest, i) {
             n += 1;
         }
-        i += 1;
     }
-    if n <= most {
-        Length::Within(n)
-    } else {
-        Length::Past
-    }
+    if n <= most { Some(n) } else { None }
 }
 
 // Writes the stuffed form of the body `first` followed by `rest` to the start of out, as far as there is room, and returns how
@@ -42,13 +29,12 @@ pub fn write_stuffed(first: u8, rest: &[u8], out: &mut [u8]) -> usize
     ensures value { result ≡ min (length out.old) (length (stuff (first ∷ rest.now))) }
     ensures out_after { out.new ≡ overwritten out.old (take (length out.old) (stuff (first ∷ rest.now))) }
 {
-    if out.len() == 0 {
+    if out.is_empty() {
         return 0;
     }
     out[0] = first;
     let mut j = 1;
-    let mut i = 0;
-    while i < rest.len() {
+    for i in 0..rest.len() {
         if out.len() <= j {
             return j;
         }
@@ -61,7 +47,6 @@ pub fn write_stuffed(first: u8, rest: &[u8], out: &mut [u8]) -> usize
             out[j] = 0xFD;
             j += 1;
         }
-        i += 1;
     }
     j
 }

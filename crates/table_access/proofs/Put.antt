@@ -6,9 +6,10 @@ use Prim.Native.Nat.{ℕ, ◌+◌, ◌≤◌, ◌<◌}
 use native.Mathlib.Nat.{mod-eq_of_lt}
 use native.Mathlib.Omega.{arith}
 use lib.IntN.{ℤ}
-use lib.ListN.{length, get_or, set}
+use lib.ListN.{length, set}
 use lib.Seq.{sets}
 use Rattle.table_registers.specs.Registers.{Register, table_size, end_of, present_position, hardware_error}
+use Rattle.lists.specs.Write.{placed}
 use Rattle.lists.specs.Numbers.{bytes_of}
 use Rattle.lists.proofs.Numbers.{bytes_length}
 use Rattle.table_items.specs.Items.{value_at, value_of, put, unsigned}
@@ -46,11 +47,10 @@ put_byte table r b one inside h =
     put_sets table r b (omega arith) ∙ rw (one) (ap (set table r.address) (mod-eq_of_lt h))
 
 -- the measurement call
-pub measured_sets : (table bytes : List ℕ) (position : ℤ) (error : ℕ) → length table ≡ table_size → error < 256 → bytes ≡ bytes_of 4 (unsigned position)
-    → set (set (set (set (set table 132 (get_or bytes 0 0)) 133 (get_or bytes 1 0)) 134 (get_or bytes 2 0)) 135 (get_or bytes 3 0)) 70 error
-    ≡ measured table position error
-unfolding bytes_of
-measured_sets table bytes position error sized h e =
+pub measured_placed : (table : List ℕ) (position : ℤ) (error : ℕ) → length table ≡ table_size → error < 256
+    → set (placed table 132 (bytes_of 4 (unsigned position))) 70 error ≡ measured table position error
+unfolding put
+measured_placed table position error sized h =
     let p = put table present_position (unsigned position) in
     let l = put_length table present_position (unsigned position) (omega arith) in
-    sym (put_byte p hardware_error error refl (omega arith) h ∙ ap (λ (t : List ℕ). set t 70 error) (put_sets table present_position (unsigned position) (omega arith)) ∙ rw e)
+    sym (put_byte p hardware_error error refl (omega arith) h)

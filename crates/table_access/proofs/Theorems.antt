@@ -1,17 +1,16 @@
 -- What holds of every read and write.
+use Rattle.std.specs.Prelude.{None}
 use mathlib.Core.Path.{◌≡◌}
 use mathlib.Core.List.{List}
-use mathlib.Core.Option.{none}
 use Prim.Native.Nat.{ℕ, ◌+◌, ◌≤◌}
 use native.Mathlib.Omega.{arith}
 use lib.ListN.{length}
-use Rattle.table_registers.specs.Registers.{registers}
 use Rattle.table_registers.proofs.Permits.{every_inside, every_short}
 use Rattle.table_rules.specs.Rules.{least_to_write, read_rule, write_rule}
 use Rattle.table_rules.specs.Outcomes.{in_table}
 use Rattle.table_rules.proofs.WriteStages.{least_some, GoodWrite, good_write, GoodRead, good_read}
 
-module _ (table : List ℕ) (address : ℕ) (bytes : List ℕ) (good : in_table table (write_rule table address bytes) ≡ none) where
+module _ (table : List ℕ) (address : ℕ) (bytes : List ℕ) (good : in_table table (write_rule table address bytes) ≡ None) where
   passed : GoodWrite table address bytes
   passed = good_write table address bytes good
 
@@ -25,7 +24,7 @@ module _ (table : List ℕ) (address : ℕ) (bytes : List ℕ) (good : in_table 
       let s = passed.sized in
       omega arith
 
-module _ (table : List ℕ) (address n : ℕ) (good : in_table table (read_rule address n) ≡ none) where
+module _ (table : List ℕ) (address n : ℕ) (good : in_table table (read_rule address n) ≡ None) where
   allowed : GoodRead table address n
   allowed = good_read table address n good
 

@@ -9,35 +9,23 @@ ghost use Rattle.table_items.specs.Items.{signed, unsigned, in_range};
 // An item of so many bytes is a signed number, any other is not.
 pub const SIGNED_BYTES: usize = 4;
 
-// Four bytes, lowest first, as a signed number in two's complement. [T3]
+// Four bytes, lowest first, as a signed number in two's complement. [T1 T3]
 pub fn signed_of(a: u8, b: u8, c: u8, d: u8) -> i32
     ensures { result ≡ signed (number_at (a ∷ b ∷ c ∷ d ∷ []) 0 4) }
 {
-    let u = buffers::number_of(a, b, c, d);
-    if u < 2147483648 {
-        return u as i32;
-    }
-    let m = (4294967295 - u) as i32;
-    -1 - m
+    i32::from_le_bytes([a, b, c, d])
 }
 
 // A signed number as 32 bits in two's complement. [T3]
 pub fn unsigned_of(value: i32) -> u32
     ensures { result ≡ unsigned value }
 {
-    if value < 0 {
-        let m = (-1 - value) as u32;
-        return 4294967295 - m;
-    }
-    value as u32
+    value.cast_unsigned()
 }
 
 // Whether the value is in the range, its ends included.
 pub fn within(value: i32, low: i32, high: i32) -> bool
     ensures { result ≡ in_range (read_write low high) value }
 {
-    if value < low {
-        return false;
-    }
-    value <= high
+    (low..=high).contains(&value)
 }

@@ -1,5 +1,5 @@
 -- What the bytes permit: a run of bytes, register by register, and how long a run can be.
-use mathlib.Core.Path.{◌≡◌, refl, sym, ap, ◌∙◌}
+use mathlib.Core.Path.{◌≡◌, refl, sym, ◌∙◌}
 use mathlib.Core.Bool.{Bool, true, false, not, ◌&&◌}
 use Prim.Native.Nat.{ℕ, zero, suc, ◌+◌, ◌-◌, ◌≤◌, ◌<◌}
 use native.Mathlib.Nat.{add-zero}
@@ -10,12 +10,11 @@ use borrow.Author.Tests.{le-leb, lt-leb, leb-true, leb-false, ltb-true, ltb-fals
 use Rattle.lists.proofs.Bools.{and_left, and_right}
 use Rattle.lists.proofs.Below.{below}
 use Rattle.table_registers.specs.Registers.{registers, table_size, end_of, permits_by, permits, every_byte}
-use Rattle.table_registers.specs.declared.Row.{Row}
-use Rattle.table_registers.proofs.Rows.{true_holds, nth, place, permits_row, none_past, same_permits}
+use Rattle.table_registers.proofs.Rows.{true_holds, nth, place, none_permits, none_past, same_permits}
 
 -- past the table nothing is permitted
 past : (a : ℕ) → table_size ≤ a → permits a ≡ 0
-past a h = sym (permits_row a) ∙ ap (λ (r : Row). r.permits) (sym (none_past a h))
+past a h = none_permits a (none_past a h)
 
 module _ (least a : ℕ) where
   pub every_turn : (n : ℕ) → 0 < n → every_byte least a n ≡ (leb least (permits a) && every_byte least (a + 1) (n - 1))

@@ -2,6 +2,7 @@
 use mathlib.Core.Path.{◌≡◌, refl, sym, ap, ◌∙◌}
 use mathlib.Core.Bool.{Bool, true, false, cond, ◌&&◌, ◌||◌, and-false, false≢true}
 use mathlib.Core.List.{List, [], ◌∷◌}
+use Rattle.std.specs.Prelude.{Option, None, Some}
 use Prim.Native.Nat.{ℕ, suc, ◌+◌, ◌-◌, ◌≤◌, ◌<◌}
 use native.Mathlib.Omega.{arith}
 use lib.Dec.{T, leb, ltb, eqb, eqb→eq}
@@ -9,8 +10,10 @@ use lib.ListN.{length, get_or}
 use borrow.Author.Tests.{leb-true, ltb-true, ltb-false, le-ltb, ne_eqb}
 use Rattle.lists.proofs.Below.{all_below, below}
 use Rattle.lists.proofs.Bools.{and_left, and_right}
-use Rattle.table_registers.specs.Registers.{Register, read_only, ram, register, registers, table_size, end_of, holds, grant, permits_by, permits}
-use Rattle.table_registers.specs.Rows.{row_of, no_row, row_in, row_at, one_or_four}
+use Rattle.table_registers.specs.Registers.{Register, Access, read_only, read_write, Area, rom, ram, register, registers, table_size, end_of, holds, grant, permits_by, permits}
+use Rattle.table_registers.specs.Rows.{permitted, row_of, row_in, row_at, one_or_four}
+use Rattle.table_registers.specs.declared.Access.{Access as Permitted}
+use Rattle.table_registers.specs.declared.Access.TheVariants.{Read, RomWrite, RamWrite}
 use Rattle.table_registers.specs.declared.Row.{Row}
 
 -- what stands past the end of the list
@@ -35,38 +38,58 @@ place a = place_in registers a
 abbrev pub mark_of : Register → ℕ
 mark_of r = place r.address
 
+-- the number of what is permitted, as the code compares it
+abbrev pub number_of : Permitted → ℕ
+number_of Read = 1
+number_of RomWrite = 2
+number_of RamWrite = 3
+
+same_grant : (access : Access) (area : Area) → number_of (permitted access area) ≡ grant access area
+same_grant read_only area = refl
+same_grant (read_write low high) rom = refl
+same_grant (read_write low high) ram = refl
+
+-- what a row permits: where there is none, nothing
+abbrev permits_of : Option Row → ℕ
+permits_of None = 0
+permits_of (Some row) = number_of row.permits
+
+row_or : Row → Option Row → Row
+row_or other None = other
+row_or other (Some row) = row
+
 -- ---- the list, whatever registers it has
 
 module _ (a : ℕ) where
-  row_placed : (rs : List Register) → place_in rs a < length rs → row_in rs a ≡ row_of (get_or rs (place_in rs a) no_register)
+  row_placed : (rs : List Register) → place_in rs a < length rs → row_in rs a ≡ Some (row_of (get_or rs (place_in rs a) no_register))
   unfolding row_in place_in
   row_placed [] h = absurd (omega arith)
   row_placed (r ∷ rs) h = by_test (holds r a) h (row_placed rs)
     where
       by_test : (b : Bool) → cond b 0 (suc (place_in rs a)) < suc (length rs)
-          → (place_in rs a < length rs → row_in rs a ≡ row_of (get_or rs (place_in rs a) no_register))
-          → cond b (row_of r) (row_in rs a) ≡ row_of (get_or (r ∷ rs) (cond b 0 (suc (place_in rs a))) no_register)
+          → (place_in rs a < length rs → row_in rs a ≡ Some (row_of (get_or rs (place_in rs a) no_register)))
+          → cond b (Some (row_of r)) (row_in rs a) ≡ Some (row_of (get_or (r ∷ rs) (cond b 0 (suc (place_in rs a))) no_register))
       by_test true k rest = refl
       by_test false k rest = rest (omega arith)
 
-  row_none : (rs : List Register) → length rs ≤ place_in rs a → row_in rs a ≡ no_row
+  row_none : (rs : List Register) → length rs ≤ place_in rs a → row_in rs a ≡ None
   unfolding row_in place_in
   row_none [] h = refl
   row_none (r ∷ rs) h = by_test (holds r a) h (row_none rs)
     where
-      by_test : (b : Bool) → suc (length rs) ≤ cond b 0 (suc (place_in rs a)) → (length rs ≤ place_in rs a → row_in rs a ≡ no_row)
-          → cond b (row_of r) (row_in rs a) ≡ no_row
+      by_test : (b : Bool) → suc (length rs) ≤ cond b 0 (suc (place_in rs a)) → (length rs ≤ place_in rs a → row_in rs a ≡ None)
+          → cond b (Some (row_of r)) (row_in rs a) ≡ None
       by_test true k rest = absurd (omega arith)
       by_test false k rest = rest (omega arith)
 
-  row_permits : (rs : List Register) → (row_in rs a).permits ≡ permits_by rs a
+  row_permits : (rs : List Register) → permits_of (row_in rs a) ≡ permits_by rs a
   unfolding row_in permits_by
   row_permits [] = refl
   row_permits (r ∷ rs) = by_test (holds r a) (row_permits rs)
     where
-      by_test : (b : Bool) → (row_in rs a).permits ≡ permits_by rs a
-          → (cond b (row_of r) (row_in rs a)).permits ≡ cond b (grant r.access r.area) (permits_by rs a)
-      by_test true rest = refl
+      by_test : (b : Bool) → permits_of (row_in rs a) ≡ permits_by rs a
+          → permits_of (cond b (Some (row_of r)) (row_in rs a)) ≡ cond b (grant r.access r.area) (permits_by rs a)
+      by_test true rest = same_grant r.access r.area
       by_test false rest = rest
 
   place_holds : (rs : List Register) → place_in rs a < length rs → holds (get_or rs (place_in rs a) no_register) a ≡ true
@@ -91,7 +114,7 @@ run_place i from n t a h k =
     let e : from + (a - from) ≡ a = omega arith in
     rw e at (eqb→eq (place (from + (a - from))) i (below (λ (j : ℕ). eqb (place (from + j)) i) n t (a - from) (omega arith)))
 
-pub none_from : (from n : ℕ) → T (run count from n) → (a : ℕ) → from ≤ a → a < from + n → no_row ≡ row_at a
+pub none_from : (from n : ℕ) → T (run count from n) → (a : ℕ) → from ≤ a → a < from + n → None ≡ row_at a
 none_from from n t a h k = let e = run_place count from n t a h k in sym (row_none a registers (omega arith))
 
 -- past the table there is no register
@@ -102,23 +125,23 @@ inside (r ∷ rs) = leb (end_of r) table_size && inside rs
 pub first_inside : (r : Register) (rs : List Register) → inside (r ∷ rs) ≡ true → end_of r ≤ table_size
 first_inside r rs e = leb-true (end_of r) table_size (and_left (leb (end_of r) table_size) (inside rs) e)
 
-past_in : (rs : List Register) → inside rs ≡ true → (a : ℕ) → table_size ≤ a → no_row ≡ row_in rs a
+past_in : (rs : List Register) → inside rs ≡ true → (a : ℕ) → table_size ≤ a → None ≡ row_in rs a
 unfolding row_in
 past_in [] e a h = refl
 past_in (r ∷ rs) e a h =
     let k = first_inside r rs e in
     simp (le-ltb a (end_of r) (omega arith), and-false) (past_in rs (and_right (leb (end_of r) table_size) (inside rs) e) a h)
 
-pub none_past : (a : ℕ) → table_size ≤ a → no_row ≡ row_at a
+pub none_past : (a : ℕ) → table_size ≤ a → None ≡ row_at a
 unfolding registers
 none_past a h = past_in registers refl a h
 
 -- ---- the register of a byte that permits something
 
-pub permits_row : (a : ℕ) → (row_at a).permits ≡ permits a
+pub permits_row : (a : ℕ) → permits_of (row_at a) ≡ permits a
 permits_row a = row_permits a registers
 
-placed_row : (a : ℕ) → place a < count → row_at a ≡ row_of (nth (place a))
+placed_row : (a : ℕ) → place a < count → row_at a ≡ Some (row_of (nth (place a)))
 placed_row a h = row_placed a registers h
 
 module _ (a : ℕ) (h : 1 ≤ permits a) where
@@ -129,15 +152,15 @@ module _ (a : ℕ) (h : 1 ≤ permits a) where
       by_test true e = ltb-true (place a) count e
       by_test false e =
           let l = ltb-false (place a) count e in
-          let none = ap (λ (r : Row). r.permits) (row_none a registers (omega arith)) in
+          let none = ap permits_of (row_none a registers (omega arith)) in
           let p = row_permits a registers in
           absurd (omega arith)
 
-  pub row_is : row_at a ≡ row_of (nth (place a))
+  pub row_is : row_at a ≡ Some (row_of (nth (place a)))
   row_is = placed_row a place_inside
 
   pub own_grant : grant (nth (place a)).access (nth (place a)).area ≡ permits a
-  own_grant = sym (ap (λ (r : Row). r.permits) row_is) ∙ permits_row a
+  own_grant = sym (same_grant _ _) ∙ sym (ap permits_of row_is) ∙ permits_row a
 
   has : holds (nth (place a)) a ≡ true
   has = place_holds a registers place_inside
@@ -189,10 +212,10 @@ module _ (i : ℕ) (h : i < count) where
       (and_right (run i (nth i).address (nth i).bytes) (eqb (grant (nth i).access (nth i).area) 1 || one_or_four (nth i).bytes) nth_rest)
 
 -- each byte of a register has it
-pub own_row : (i : ℕ) → i < count → (a : ℕ) → (nth i).address ≤ a → a < end_of (nth i) → row_of (nth i) ≡ row_at a
+pub own_row : (i : ℕ) → i < count → (a : ℕ) → (nth i).address ≤ a → a < end_of (nth i) → Some (row_of (nth i)) ≡ row_at a
 own_row i h a l k =
     let e = nth_place i h a l k in
-    sym (placed_row a (omega arith) ∙ ap (λ (j : ℕ). row_of (nth j)) e)
+    sym (placed_row a (omega arith) ∙ ap (λ (j : ℕ). Some (row_of (nth j))) e)
 
 -- the bytes of a register permit the same
 pub same_permits : (a k : ℕ) → 1 ≤ permits a → a + k < end_of (nth (place a)) → permits (a + k) ≡ permits a
@@ -201,17 +224,18 @@ same_permits a k h l =
     let p = place_inside a h in
     let e = nth_place (place a) p (a + k) (omega arith) l in
     sym (permits_row (a + k))
-    ∙ ap (λ (r : Row). r.permits) (placed_row (a + k) (omega arith) ∙ ap (λ (j : ℕ). row_of (nth j)) e ∙ sym (row_is a h))
+    ∙ ap permits_of (placed_row (a + k) (omega arith) ∙ ap (λ (j : ℕ). Some (row_of (nth j))) e ∙ sym (row_is a h))
     ∙ permits_row a
 
 -- what the code has found
-module _ (row : Row) (a : ℕ) (e : row ≡ row_at a) where
-  pub found_permits : row.permits ≡ permits a
-  found_permits = ap (λ (r : Row). r.permits) e ∙ permits_row a
+module _ (row : Row) (a : ℕ) (e : Some row ≡ row_at a) where
+  pub found_permits : number_of row.permits ≡ permits a
+  found_permits = ap permits_of e ∙ permits_row a
 
   module _ (h : 1 ≤ permits a) where
     pub found_row : row ≡ row_of (nth (place a))
-    found_row = e ∙ row_is a h
+    unfolding row_or
+    found_row = ap (row_or row) (e ∙ row_is a h)
 
     pub found_end : row.start + row.bytes ≡ end_of (nth (place a))
     found_end = ap (λ (r : Row). r.start + r.bytes) found_row
@@ -221,3 +245,7 @@ module _ (row : Row) (a : ℕ) (e : row ≡ row_at a) where
 
     pub found_inside : row.start + row.bytes ≤ table_size
     found_inside = let k = found_end in let n = nth_end (place a) (place_inside a h) in omega arith
+
+-- and where it has found none
+pub none_permits : (a : ℕ) → None ≡ row_at a → permits a ≡ 0
+none_permits a e = sym (ap permits_of e ∙ permits_row a)

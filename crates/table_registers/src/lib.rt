@@ -4,7 +4,7 @@
 
 ghost use Rattle.std.specs.Prelude.{◌≡◌, ◌≤◌, ◌<◌};
 ghost use Rattle.table_registers.specs.Registers.{read_only, read_write, rom, ram, register, every_byte};
-ghost use Rattle.table_registers.specs.Rows.{row_of, no_row, row_at};
+ghost use Rattle.table_registers.specs.Rows.{row_of, row_at};
 
 // The byte count of a control table.
 pub const TABLE_BYTES: usize = 136;
@@ -92,164 +92,152 @@ pub const FRESH_STATUS_RETURN_LEVEL: u8 = 2;
 
 // What the bytes of a register permit, each also what the one before permits: reading, writing while torque is off, writing at any
 // time.
-pub const PERMITS_READ: u8 = 1;
-
-pub const PERMITS_ROM_WRITE: u8 = 2;
-
-pub const PERMITS_RAM_WRITE: u8 = 3;
+#[derive(Clone, Copy, PartialEq, Eq, PartialOrd, Ord, Debug)]
+pub enum Access {
+    Read = 1,
+    RomWrite = 2,
+    RamWrite = 3,
+}
 
 // A register as the rules need it: what its bytes permit, and the range of its value where it can be written.
 #[derive(Clone, Copy)]
 pub struct Row {
     pub start: usize,
     pub bytes: usize,
-    pub permits: u8,
+    pub permits: Access,
     pub low: i32,
     pub high: i32,
 }
 
-fn undefined() -> Row
-    ensures { result ≡ no_row }
-{
-    Row {
-        start: 0,
-        bytes: 0,
-        permits: 0,
-        low: 0,
-        high: 0,
+impl Row {
+    fn read_only(start: usize, bytes: usize) -> Row
+        ensures { result ≡ row_of (register start bytes read_only ram 0) }
+    {
+        Row {
+            start,
+            bytes,
+            permits: Access::Read,
+            low: 0,
+            high: 0,
+        }
     }
-}
 
-fn read_only(start: usize, bytes: usize) -> Row
-    ensures { result ≡ row_of (register start bytes read_only ram 0) }
-{
-    Row {
-        start,
-        bytes,
-        permits: PERMITS_READ,
-        low: 0,
-        high: 0,
+    fn in_rom(start: usize, bytes: usize, low: i32, high: i32) -> Row
+        ensures { result ≡ row_of (register start bytes (read_write low high) rom 0) }
+    {
+        Row {
+            start,
+            bytes,
+            permits: Access::RomWrite,
+            low,
+            high,
+        }
     }
-}
 
-fn in_rom(start: usize, bytes: usize, low: i32, high: i32) -> Row
-    ensures { result ≡ row_of (register start bytes (read_write low high) rom 0) }
-{
-    Row {
-        start,
-        bytes,
-        permits: PERMITS_ROM_WRITE,
-        low,
-        high,
-    }
-}
-
-fn in_ram(start: usize, bytes: usize, low: i32, high: i32) -> Row
-    ensures { result ≡ row_of (register start bytes (read_write low high) ram 0) }
-{
-    Row {
-        start,
-        bytes,
-        permits: PERMITS_RAM_WRITE,
-        low,
-        high,
+    fn in_ram(start: usize, bytes: usize, low: i32, high: i32) -> Row
+        ensures { result ≡ row_of (register start bytes (read_write low high) ram 0) }
+    {
+        Row {
+            start,
+            bytes,
+            permits: Access::RamWrite,
+            low,
+            high,
+        }
     }
 }
 
 // Model number, firmware version, ID, baud code.
-fn first_rom(a: usize) -> Row
+fn first_rom(a: usize) -> Option<Row>
     requires { a < 20 }
     ensures { result ≡ row_at a }
 {
     if a < REG_MODEL_NUMBER + SIZE_MODEL_NUMBER {
-        return read_only(REG_MODEL_NUMBER, SIZE_MODEL_NUMBER);
+        return Some(Row::read_only(REG_MODEL_NUMBER, SIZE_MODEL_NUMBER));
     }
     if a < REG_FIRMWARE_VERSION {
-        return undefined();
+        return None;
     }
     if a < REG_FIRMWARE_VERSION + SIZE_FIRMWARE_VERSION {
-        return read_only(REG_FIRMWARE_VERSION, SIZE_FIRMWARE_VERSION);
+        return Some(Row::read_only(REG_FIRMWARE_VERSION, SIZE_FIRMWARE_VERSION));
     }
     if a < REG_ID + SIZE_ID {
-        return in_rom(REG_ID, SIZE_ID, 0, 252);
+        return Some(Row::in_rom(REG_ID, SIZE_ID, 0, 252));
     }
     if a < REG_BAUD_CODE + SIZE_BAUD_CODE {
-        return in_rom(REG_BAUD_CODE, SIZE_BAUD_CODE, 0, 7);
+        return Some(Row::in_rom(REG_BAUD_CODE, SIZE_BAUD_CODE, 0, 7));
     }
-    undefined()
+    None
 }
 
 // Homing offset, max position, min position.
-fn last_rom(a: usize) -> Row
+fn last_rom(a: usize) -> Option<Row>
     requires { (20 ≤ a) × (a < 64) }
     ensures { result ≡ row_at a }
 {
     if a < REG_HOMING_OFFSET + SIZE_HOMING_OFFSET {
-        return in_rom(REG_HOMING_OFFSET, SIZE_HOMING_OFFSET, -1044479, 1044479);
+        return Some(Row::in_rom(REG_HOMING_OFFSET, SIZE_HOMING_OFFSET, -1044479, 1044479));
     }
     if a < REG_MAX_POSITION {
-        return undefined();
+        return None;
     }
     if a < REG_MAX_POSITION + SIZE_MAX_POSITION {
-        return in_rom(REG_MAX_POSITION, SIZE_MAX_POSITION, 0, LAST_POSITION);
+        return Some(Row::in_rom(REG_MAX_POSITION, SIZE_MAX_POSITION, 0, LAST_POSITION));
     }
     if a < REG_MIN_POSITION + SIZE_MIN_POSITION {
-        return in_rom(REG_MIN_POSITION, SIZE_MIN_POSITION, 0, LAST_POSITION);
+        return Some(Row::in_rom(REG_MIN_POSITION, SIZE_MIN_POSITION, 0, LAST_POSITION));
     }
-    undefined()
+    None
 }
 
 // Torque enable, lamp, status return level, registered instruction, hardware error.
-fn first_ram(a: usize) -> Row
+fn first_ram(a: usize) -> Option<Row>
     requires { (64 ≤ a) × (a < 104) }
     ensures { result ≡ row_at a }
 {
-    if a < REG_TORQUE_ENABLE + SIZE_TORQUE_ENABLE {
-        return in_ram(REG_TORQUE_ENABLE, SIZE_TORQUE_ENABLE, 0, 1);
+    match a {
+        REG_TORQUE_ENABLE => Some(Row::in_ram(REG_TORQUE_ENABLE, SIZE_TORQUE_ENABLE, 0, 1)),
+        REG_LAMP => Some(Row::in_ram(REG_LAMP, SIZE_LAMP, 0, 1)),
+        REG_STATUS_RETURN_LEVEL => Some(Row::in_ram(
+            REG_STATUS_RETURN_LEVEL,
+            SIZE_STATUS_RETURN_LEVEL,
+            0,
+            2,
+        )),
+        REG_REGISTERED_INSTRUCTION => Some(Row::read_only(
+            REG_REGISTERED_INSTRUCTION,
+            SIZE_REGISTERED_INSTRUCTION,
+        )),
+        REG_HARDWARE_ERROR => Some(Row::read_only(REG_HARDWARE_ERROR, SIZE_HARDWARE_ERROR)),
+        _ => None,
     }
-    if a < REG_LAMP + SIZE_LAMP {
-        return in_ram(REG_LAMP, SIZE_LAMP, 0, 1);
-    }
-    if a < REG_STATUS_RETURN_LEVEL {
-        return undefined();
-    }
-    if a < REG_STATUS_RETURN_LEVEL + SIZE_STATUS_RETURN_LEVEL {
-        return in_ram(REG_STATUS_RETURN_LEVEL, SIZE_STATUS_RETURN_LEVEL, 0, 2);
-    }
-    if a < REG_REGISTERED_INSTRUCTION + SIZE_REGISTERED_INSTRUCTION {
-        return read_only(REG_REGISTERED_INSTRUCTION, SIZE_REGISTERED_INSTRUCTION);
-    }
-    if a < REG_HARDWARE_ERROR + SIZE_HARDWARE_ERROR {
-        return read_only(REG_HARDWARE_ERROR, SIZE_HARDWARE_ERROR);
-    }
-    undefined()
 }
 
 // Goal velocity, goal position, present position.
-fn last_ram(a: usize) -> Row
+fn last_ram(a: usize) -> Option<Row>
     requires { 104 ≤ a }
     ensures { result ≡ row_at a }
 {
     if a < REG_GOAL_VELOCITY + SIZE_GOAL_VELOCITY {
-        return in_ram(REG_GOAL_VELOCITY, SIZE_GOAL_VELOCITY, -330, 330);
+        return Some(Row::in_ram(REG_GOAL_VELOCITY, SIZE_GOAL_VELOCITY, -330, 330));
     }
     if a < REG_GOAL_POSITION {
-        return undefined();
+        return None;
     }
     if a < REG_GOAL_POSITION + SIZE_GOAL_POSITION {
-        return in_ram(REG_GOAL_POSITION, SIZE_GOAL_POSITION, 0, LAST_POSITION);
+        return Some(Row::in_ram(REG_GOAL_POSITION, SIZE_GOAL_POSITION, 0, LAST_POSITION));
     }
     if a < REG_PRESENT_POSITION {
-        return undefined();
+        return None;
     }
     if a < REG_PRESENT_POSITION + SIZE_PRESENT_POSITION {
-        return read_only(REG_PRESENT_POSITION, SIZE_PRESENT_POSITION);
+        return Some(Row::read_only(REG_PRESENT_POSITION, SIZE_PRESENT_POSITION));
     }
-    undefined()
+    None
 }
 
-// The register that has the byte at a; if there is none, a row that permits nothing. [T2]
-pub fn register_at(a: usize) -> Row
+// The register that has the byte at a, if there is one. [T2]
+pub fn register_at(a: usize) -> Option<Row>
     ensures { result ≡ row_at a }
 {
     if a < REG_TORQUE_ENABLE {
@@ -275,8 +263,10 @@ pub fn every_byte(least: u8, address: usize, n: usize) -> bool
     let mut a = address;
     let mut left = n;
     while left != 0 {
-        let row = register_at(a);
-        if row.permits < least {
+        let Some(row) = register_at(a) else {
+            return false;
+        };
+        if (row.permits as u8) < least {
             return false;
         }
         let run = row.start + row.bytes - a;

@@ -2,40 +2,44 @@
 use mathlib.Core.Path.{◌≡◌, refl, sym, ap, ◌∙◌}
 use mathlib.Core.Bool.{Bool, true, false, cond, not, ◌&&◌}
 use mathlib.Core.List.{List, [], ◌∷◌}
-use Prim.Native.Nat.{ℕ, suc, ◌+◌, ◌≤◌}
+use Prim.Native.Nat.{ℕ, ◌+◌, ◌%◌, ◌≤◌}
 use native.Mathlib.Omega.{arith}
-use lib.Dec.{leb}
-use lib.ListN.{length, take, drop, get_or, set}
-use lib.Seq.{drop-cons, set-get_or, sets}
-use borrow.Author.Tests.{eq-eqb, ne_eqb}
-use Rattle.answers.specs.Answers.{answered}
-use Rattle.answers.specs.declared.Refusal.TheVariants.{NotATable}
-use Rattle.answers.specs.declared.Answer.TheVariants.{Count, Refused}
+use lib.Dec.{leb, eqb}
+use lib.ListN.{length, take, drop, set, replicate, length-take, length-drop, length-set}
+use lib.Seq.{take-set-le, drop-drop}
+use mathlib.Core.List.{◌++◌, append_assoc}
+use Rattle.std.specs.List.{copy_within}
+use Rattle.std.proofs.lemmas.List.{drop-take}
+use Rattle.std.proofs.lemmas.Slice.{take-put_mid_below}
+use borrow.Author.Tests.{eqb-true}
 use Rattle.table_registers.specs.Registers.{Register, registers, table_size, end_of, writable}
 use Rattle.table_registers.proofs.Rows.{inside, first_inside}
 use Rattle.lists.proofs.Bools.{and_right}
+use Rattle.lists.specs.Write.{placed}
 use Rattle.lists.specs.Numbers.{bytes_of}
 use Rattle.table_items.specs.Items.{put}
 use Rattle.table_access.specs.Fresh.{freshened}
-use Rattle.table_rules.specs.Rules.{stored}
-use Rattle.table_rules.specs.Outcomes.{size_refusal, on_table}
-use Rattle.table_rules.proofs.Size.{on_table_lem, off_table}
+use Rattle.table_rules.specs.Outcomes.{on_table}
+use Rattle.table_rules.proofs.Size.{on_table_lem}
 use Rattle.table_access.proofs.Put.{put_sets, put_length}
-use Rattle.table_rules.proofs.Stored.{stored_sets}
 use Rattle.table_resets.specs.Resets.{only, is_rom, reset_at_reboot, rebooted, reset_rom, keeping, keeps_id_and_baud}
 
--- a table of another size: the answer and what is left
-pub refused : (table new : List ℕ) → (length table ≡ table_size → ⊥) → (Refused NotATable ≡ answered (size_refusal table) 0) × (table ≡ on_table table new)
-refused table new n = (rw (ne_eqb (length table) table_size n), sym (off_table table n new))
-
--- and one of its size
-pub not_refused : (table : List ℕ) → length table ≡ table_size → Count 0 ≡ answered (size_refusal table) 0
-not_refused table s = rw (eq-eqb (length table) table_size s)
-
 -- on a list that is written out this computes to the stores themselves, those of the first register first
+abbrev pub store : List ℕ → Register → List ℕ
+store table r = cond (eqb r.bytes 1) (set table r.address (r.fresh % 256)) (placed table r.address (bytes_of r.bytes r.fresh))
+
 abbrev stores : List Register → List ℕ → List ℕ
 stores [] table = table
-stores (r ∷ rs) table = stores rs (sets table r.address (bytes_of r.bytes r.fresh))
+stores (r ∷ rs) table = stores rs (store table r)
+
+store_put : (table : List ℕ) (r : Register) → end_of r ≤ length table → store table r ≡ put table r r.fresh
+unfolding put bytes_of
+store_put table r h = by_size (eqb r.bytes 1) refl
+  where
+    by_size : (b : Bool) → eqb r.bytes 1 ≡ b
+        → cond b (set table r.address (r.fresh % 256)) (placed table r.address (bytes_of r.bytes r.fresh)) ≡ put table r r.fresh
+    by_size true e = sym (put_sets table r r.fresh h ∙ rw (eqb-true r.bytes 1 e))
+    by_size false e = refl
 
 freshened_length : (rs : List Register) → inside rs ≡ true → (table : List ℕ) → length table ≡ table_size → length (freshened rs table) ≡ table_size
 unfolding freshened
@@ -50,14 +54,18 @@ unfolding freshened
 freshened_stores [] e table sized = refl
 freshened_stores (r ∷ rs) e table sized =
     let f = first_inside r rs e in
-    ap (stores rs) (sym (put_sets table r r.fresh (omega arith)))
+    ap (stores rs) (store_put table r (omega arith))
     ∙ freshened_stores rs (and_right (leb (end_of r) table_size) (inside rs) e) (put table r r.fresh)
     (put_length table r r.fresh (omega arith) ∙ sized)
 
--- a byte that is kept is stored as it was
-kept_set : (t : List ℕ) (a fresh : ℕ) (keeps : Bool) (x : ℕ) → x ≡ cond keeps (get_or t a 0) fresh → set t a x ≡ cond keeps t (set t a fresh)
-kept_set t a fresh true x e = ap (set t a) e ∙ set-get_or t a 0
-kept_set t a fresh false x e = ap (set t a) e
+-- a part that was filled with 0
+pub filled : (table part : List ℕ) (a n : ℕ) → part ≡ replicate (length (take n (drop a table))) 0 → a + n ≤ length table → part ≡ replicate n 0
+filled table part a n e h = e ∙ ap (λ (k : ℕ). replicate k 0) (simp (length-take, length-drop) (omega arith))
+
+pasted : (table bytes : List ℕ) (a n : ℕ) → length bytes ≡ n → (take a table ++ bytes) ++ drop (a + n) table ≡ placed table a bytes
+pasted table bytes a n e =
+    append_assoc (take a table) bytes (drop (a + n) table)
+    ∙ ap (λ (l : List ℕ). take a table ++ (bytes ++ l)) (sym (rw e (drop-drop n a table)))
 
 abbrev pub reset_by : (Register → Bool) → Register → Bool
 reset_by keeps r = is_rom r.area && (writable r.access && not (keeps r))
@@ -66,32 +74,28 @@ abbrev rom_but : (Register → Bool) → List Register
 rom_but keeps = only (reset_by keeps) registers
 
 module _ (table : List ℕ) (sized : length table ≡ table_size) where
-  abbrev word : ℕ → List ℕ
-  word n = get_or table n 0 ∷ get_or table (n + 1) 0 ∷ get_or table (n + 2) 0 ∷ get_or table (n + 3) 0 ∷ []
+  -- the table with RAM fresh, and the bytes of min position there
+  abbrev fresh_ram : List ℕ
+  fresh_ram = stores (only reset_at_reboot registers) table
 
-  four : (n : ℕ) → n + 4 ≤ table_size → take 4 (drop n table) ≡ word n
-  four n h =
-      let e₁ : n + 1 ≡ suc n = omega arith in
-      let e₂ : n + 2 ≡ suc (suc n) = omega arith in
-      let e₃ : n + 3 ≡ suc (suc (suc n)) = omega arith in
-      rw (
-        e₁,
-        e₂,
-        e₃,
-        drop-cons table n 0 (omega arith),
-        drop-cons table (suc n) 0 (omega arith),
-        drop-cons table (suc (suc n)) 0 (omega arith),
-        drop-cons table (suc (suc (suc n))) 0 (omega arith),
-      )
+  reboot_kept : take 4 (drop 52 fresh_ram) ≡ take 4 (drop 52 table)
+  unfolding registers bytes_of
+  reboot_kept =
+      let ram = set (set (set (set (set table 64 0) 65 0) 68 2) 69 0) 70 0 in
+      sym (drop-take 52 4 fresh_ram)
+      ∙ ap (drop 52) (take-put_mid_below 104 4 ram (0 ∷ 0 ∷ 0 ∷ 0 ∷ []) 56 (omega arith) (simp length-set (omega arith))
+      ∙ take-set-le 56 _ 70 0 (omega arith) ∙ take-set-le 56 _ 69 0 (omega arith) ∙ take-set-le 56 _ 68 2 (omega arith)
+      ∙ take-set-le 56 _ 65 0 (omega arith) ∙ take-set-le 56 table 64 0 (omega arith))
+      ∙ drop-take 52 4 table
 
-  pub reboot_stores : sets (stores (only reset_at_reboot registers) table) 116 (word 52) ≡ on_table table (rebooted table)
+  pub reboot_moved : (moved : List ℕ) → moved ≡ copy_within fresh_ram 52 56 116 → moved ≡ on_table table (rebooted table)
   unfolding registers bytes_of rebooted
-  reboot_stores =
+  reboot_moved moved e =
       let rs = only reset_at_reboot registers in
-      let l = freshened_length rs refl table sized in
-      ap (λ (t : List ℕ). sets t 116 (word 52)) (freshened_stores rs refl table sized)
-      ∙ stored_sets (freshened rs table) 116 (word 52) (omega arith)
-      ∙ ap (λ (b : List ℕ). stored (freshened rs table) 116 b) (sym (four 52 (omega arith)))
+      let four : length (take 4 (drop 52 table)) ≡ 4 = simp (length-take, length-drop) (omega arith) in
+      e
+      ∙ rw reboot_kept (pasted fresh_ram (take 4 (drop 52 table)) 116 4 four)
+      ∙ ap (λ (t : List ℕ). placed t 116 (take 4 (drop 52 table))) (freshened_stores rs refl table sized)
       ∙ sym (on_table_lem table sized _)
 
   fresh_rom : (keeps : Register → Bool) → inside (rom_but keeps) ≡ true → stores (rom_but keeps) table ≡ on_table table (reset_rom keeps table)
@@ -99,20 +103,13 @@ module _ (table : List ℕ) (sized : length table ≡ table_size) where
   fresh_rom keeps e = freshened_stores (rom_but keeps) e table sized ∙ sym (on_table_lem table sized _)
 
   -- the stores of what every option resets
-  abbrev others : List ℕ → List ℕ
+  abbrev pub others : List ℕ → List ℕ
   others = stores (rom_but keeps_id_and_baud)
 
-  by_kept : (id baud : Bool)
-      → others (cond baud (cond id table (set table 7 1)) (set (cond id table (set table 7 1)) 8 1))
+  pub rom_stores : (id baud : Bool) → others (cond baud (cond id table (set table 7 1)) (set (cond id table (set table 7 1)) 8 1))
       ≡ on_table table (reset_rom (keeping id baud) table)
   unfolding registers bytes_of
-  by_kept true true = fresh_rom (keeping true true) refl
-  by_kept true false = fresh_rom (keeping true false) refl
-  by_kept false true = fresh_rom (keeping false true) refl
-  by_kept false false = fresh_rom (keeping false false) refl
-
-  pub rom_stores : (id baud : Bool) (x y : ℕ) → x ≡ cond id (get_or table 7 0) 1 → y ≡ cond baud (get_or (set table 7 x) 8 0) 1
-      → others (set (set table 7 x) 8 y) ≡ on_table table (reset_rom (keeping id baud) table)
-  rom_stores id baud x y a b =
-      ap others (kept_set (set table 7 x) 8 1 baud y b ∙ ap (λ (t : List ℕ). cond baud t (set t 8 1)) (kept_set table 7 1 id x a))
-      ∙ by_kept id baud
+  rom_stores true true = fresh_rom (keeping true true) refl
+  rom_stores true false = fresh_rom (keeping true false) refl
+  rom_stores false true = fresh_rom (keeping false true) refl
+  rom_stores false false = fresh_rom (keeping false false) refl

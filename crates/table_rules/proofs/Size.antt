@@ -1,7 +1,7 @@
 -- A table of the right size, and one of another.
+use Rattle.std.specs.Prelude.{Option, Some}
 use mathlib.Core.Path.{◌≡◌}
 use mathlib.Core.List.{List}
-use mathlib.Core.Option.{Option, some}
 use Prim.Native.Nat.{ℕ}
 use lib.ListN.{length}
 use borrow.Author.Tests.{eq-eqb, ne_eqb}
@@ -21,7 +21,7 @@ module _ (table : List ℕ) where
     limits_of_lem = rw (eq-eqb (length table) table_size s)
 
   module _ (n : length table ≡ table_size → ⊥) where
-    pub not_in_table : (next : Option ℕ) → in_table table next ≡ some 21
+    pub not_in_table : (next : Option ℕ) → in_table table next ≡ Some 21
     not_in_table next = rw (ne_eqb (length table) table_size n)
 
     pub off_table : (new : List ℕ) → on_table table new ≡ table

@@ -1,6 +1,6 @@
 -- The registers that a run of bytes touches, and a walk over them.
 use mathlib.Core.Path.{◌≡◌, refl, sym, ap, ◌∙◌}
-use mathlib.Core.Bool.{Bool, true, false, not, ◌&&◌, ◌||◌, or-true, and-false, false≢true}
+use mathlib.Core.Bool.{Bool, true, false, not, ◌&&◌, ◌||◌, or-true, and-true, and-false, false≢true}
 use mathlib.Core.List.{List, [], ◌∷◌}
 use mathlib.Core.Logic.{◌⊎◌, inl, inr, ⊎_elim}
 use Prim.Native.Nat.{ℕ, zero, suc, ◌+◌, ◌-◌, ◌≤◌, ◌<◌}
@@ -125,6 +125,12 @@ module _ (a : ℕ) (defined : 1 ≤ permits a) where
         by_place false j e h =
             let m : a + (end - a) ≡ end_of own + (end - end_of own) = omega arith in
             inl (rw (m, same_side j h (eqb-false (place a) j e)))
+
+    -- the test of this register, and then of those after it
+    pub walk_next : (ranged good : Bool) → ranged ≡ test own → end_of own ≤ end
+        → ((good && ranged) && every_touched (end_of own) (end - end_of own) test registers) ≡ (good && every_touched a (end - a) test registers)
+    walk_next true good e fits = rw (and-true good, walk_passed (sym e) fits)
+    walk_next false good e fits = rw (and-false good, walk_failed (sym e), and-false good)
 
 -- ---- an item of four bytes of which the run has all or none
 

@@ -1,21 +1,19 @@
 -- The write rule by its stages: what each of them says, and what a good write has passed.
-use mathlib.Core.Path.{◌≡◌, refl, sym, ◌∙◌}
-use mathlib.Core.Bool.{Bool, true, false, cond, false≢true, true≢false}
+use Rattle.std.specs.Prelude.{None, Option, Some}
+use Rattle.std.proofs.lemmas.Option.{none-some}
+use mathlib.Core.Path.{◌≡◌, refl, sym}
+use mathlib.Core.Bool.{Bool, true, false, cond}
 use mathlib.Core.List.{List}
-use mathlib.Core.Option.{Option, none, some, some-ne-none}
 use Prim.Native.Nat.{ℕ, ◌≤◌, ◌<◌}
 use native.Mathlib.Omega.{arith}
 use lib.Dec.{eqb, ltb}
 use lib.ListN.{length, get_or}
 use borrow.Author.Tests.{eq-eqb, ne_eqb, eqb-true, lt-ltb, le-ltb, ltb-true}
-use Rattle.answers.specs.Refusals.{unless_refused}
 use Rattle.table_registers.specs.Registers.{registers, table_size, torque_enable, every_byte}
 use Rattle.table_items.specs.Items.{value_in_range}
 use Rattle.table_rules.specs.Rules.{least_to_write, covers, every_touched, limits_kept, stored, read_rule, write_rule}
 use Rattle.table_rules.specs.Stages.{items_rule}
-use Rattle.table_rules.specs.Outcomes.{is_done, refusal_of, in_table}
-use Rattle.table_rules.specs.declared.Outcome.{Outcome}
-use Rattle.table_rules.specs.declared.Outcome.TheVariants.{Done, DataRange, DataLength, DataLimit, NoAccess, NotTable}
+use Rattle.table_rules.specs.Outcomes.{in_table}
 
 pub least_two : (table : List ℕ) → 2 ≤ least_to_write table
 least_two table = by_torque (eqb (get_or table torque_enable.address 0) 0)
@@ -27,80 +25,53 @@ least_two table = by_torque (eqb (get_or table torque_enable.address 0) 0)
 pub least_some : (table : List ℕ) → 1 ≤ least_to_write table
 least_some table = let h = least_two table in omega arith
 
-pub done_none : (o : Outcome) → is_done o ≡ true → refusal_of o ≡ none
-done_none Done e = refl
-done_none DataRange e = absurd (false≢true e)
-done_none DataLength e = absurd (false≢true e)
-done_none DataLimit e = absurd (false≢true e)
-done_none NoAccess e = absurd (false≢true e)
-done_none NotTable e = absurd (false≢true e)
-
-none_done : (o : Outcome) → refusal_of o ≡ none → is_done o ≡ true
-none_done Done e = refl
-none_done DataRange e = absurd (some-ne-none 0x04 e)
-none_done DataLength e = absurd (some-ne-none 0x05 e)
-none_done DataLimit e = absurd (some-ne-none 0x06 e)
-none_done NoAccess e = absurd (some-ne-none 0x07 e)
-none_done NotTable e = absurd (some-ne-none 21 e)
-
--- what an outcome leaves of a buffer
-pub refused_out : (o : Outcome) → is_done o ≡ false → (old out : List ℕ) → unless_refused (refusal_of o) old out ≡ old
-refused_out Done e old out = absurd (true≢false e)
-refused_out DataRange e old out = refl
-refused_out DataLength e old out = refl
-refused_out DataLimit e old out = refl
-refused_out NoAccess e old out = refl
-refused_out NotTable e old out = refl
-
 -- a refusal by one of two stages stands, whatever stage comes after them
-not_done : (o : Outcome) → is_done o ≡ false → (c r : Bool) (next : Option ℕ)
-    → refusal_of o ≡ cond c (cond r none (some 0x04)) (some 0x05) → refusal_of o ≡ cond c (cond r next (some 0x04)) (some 0x05)
-not_done o e false r next h = h
-not_done o e true false next h = h
-not_done o e true true next h = absurd (false≢true (sym e ∙ none_done o h))
+still_refused : (number : ℕ) (c r : Bool) (next : Option ℕ)
+    → Some number ≡ cond c (cond r None (Some 0x04)) (Some 0x05) → Some number ≡ cond c (cond r next (Some 0x04)) (Some 0x05)
+still_refused number false r next h = h
+still_refused number true false next h = h
+still_refused number true true next h = absurd (none-some number (sym h))
 
 -- a stage that did not refuse
-stage_passed : (b : Bool) (number : ℕ) (next : Option ℕ) → cond b next (some number) ≡ none → (b ≡ true) × (next ≡ none)
+stage_passed : (b : Bool) (number : ℕ) (next : Option ℕ) → cond b next (Some number) ≡ None → (b ≡ true) × (next ≡ None)
 stage_passed true number next e = (refl, e)
-stage_passed false number next e = absurd (some-ne-none number e)
+stage_passed false number next e = absurd (none-some number (sym e))
 
 -- each item that is touched is covered whole, where the items are good
-pub items_covered : (address n : ℕ) (new : List ℕ) (o : Outcome) → is_done o ≡ true → refusal_of o ≡ items_rule address n new
-    → every_touched address n (covers address n) registers ≡ true
+pub items_covered : (address n : ℕ) (new : List ℕ) → None ≡ items_rule address n new → every_touched address n (covers address n) registers ≡ true
 unfolding items_rule
-items_covered address n new o e h =
-    (stage_passed (every_touched address n (covers address n) registers) 0x05 _ (sym h ∙ done_none o e)).0
+items_covered address n new h = (stage_passed (every_touched address n (covers address n) registers) 0x05 _ (sym h)).0
 
 module _ (table : List ℕ) (address : ℕ) (bytes : List ℕ) where
-  pub not_table : (length table ≡ table_size → ⊥) → some 21 ≡ in_table table (write_rule table address bytes)
+  pub not_table : (length table ≡ table_size → ⊥) → Some 21 ≡ in_table table (write_rule table address bytes)
   not_table h = rw (ne_eqb (length table) table_size h)
 
-  pub no_data : length table ≡ table_size → length bytes ≡ 0 → some 0x05 ≡ in_table table (write_rule table address bytes)
+  pub no_data : length table ≡ table_size → length bytes ≡ 0 → Some 0x05 ≡ in_table table (write_rule table address bytes)
   unfolding write_rule
   no_data h e = rw (eq-eqb (length table) table_size h, le-ltb 0 (length bytes) (omega arith))
 
   module _ (sized : length table ≡ table_size) (some-data : length bytes ≡ 0 → ⊥) where
-    pub no_access : every_byte (least_to_write table) address (length bytes) ≡ false → some 0x07 ≡ in_table table (write_rule table address bytes)
+    pub no_access : every_byte (least_to_write table) address (length bytes) ≡ false → Some 0x07 ≡ in_table table (write_rule table address bytes)
     unfolding write_rule
     no_access e = rw (eq-eqb (length table) table_size sized, lt-ltb 0 (length bytes) (omega arith), e)
 
     module _ (access : every_byte (least_to_write table) address (length bytes) ≡ true) where
-      pub by_items : (o : Outcome) → is_done o ≡ false → refusal_of o ≡ items_rule address (length bytes) (stored table address bytes)
-          → refusal_of o ≡ in_table table (write_rule table address bytes)
+      pub by_items : (number : ℕ) → Some number ≡ items_rule address (length bytes) (stored table address bytes)
+          → Some number ≡ in_table table (write_rule table address bytes)
       unfolding write_rule items_rule
-      by_items o e h =
+      by_items number h =
           rw (eq-eqb (length table) table_size sized, lt-ltb 0 (length bytes) (omega arith), access)
-          (not_done o e (every_touched address (length bytes) (covers address (length bytes)) registers)
+          (still_refused number (every_touched address (length bytes) (covers address (length bytes)) registers)
           (every_touched address (length bytes) (value_in_range (stored table address bytes)) registers) _ h)
 
       -- the items are good, so the limits decide
-      pub by_limits : (o : Outcome) → is_done o ≡ true → refusal_of o ≡ items_rule address (length bytes) (stored table address bytes)
+      pub by_limits : None ≡ items_rule address (length bytes) (stored table address bytes)
           → in_table table (write_rule table address bytes)
-          ≡ cond (limits_kept address (length bytes) (stored table address bytes)) none (some 0x06)
+          ≡ cond (limits_kept address (length bytes) (stored table address bytes)) None (Some 0x06)
       unfolding write_rule items_rule
-      by_limits o e h =
-          let c = stage_passed (every_touched address (length bytes) (covers address (length bytes)) registers) 0x05 _ (sym h ∙ done_none o e) in
-          let r = stage_passed (every_touched address (length bytes) (value_in_range (stored table address bytes)) registers) 0x04 none c.1 in
+      by_limits h =
+          let c = stage_passed (every_touched address (length bytes) (covers address (length bytes)) registers) 0x05 _ (sym h) in
+          let r = stage_passed (every_touched address (length bytes) (value_in_range (stored table address bytes)) registers) 0x04 None c.1 in
           rw (eq-eqb (length table) table_size sized, lt-ltb 0 (length bytes) (omega arith), access, c.0, r.0)
 
 -- ---- what was not refused
@@ -113,7 +84,7 @@ pub record GoodWrite (table : List ℕ) (address : ℕ) (bytes : List ℕ) : Typ
   pub in_range_lem : every_touched address (length bytes) (value_in_range (stored table address bytes)) registers ≡ true
   pub limits : limits_kept address (length bytes) (stored table address bytes) ≡ true
 
-pub good_write : (table : List ℕ) (address : ℕ) (bytes : List ℕ) → in_table table (write_rule table address bytes) ≡ none
+pub good_write : (table : List ℕ) (address : ℕ) (bytes : List ℕ) → in_table table (write_rule table address bytes) ≡ None
     → GoodWrite table address bytes
 unfolding write_rule
 good_write table address bytes e =
@@ -140,11 +111,11 @@ pub record GoodRead (table : List ℕ) (address n : ℕ) : Type 0 where
   pub some_bytes : 0 < n
   pub access : every_byte 1 address n ≡ true
 
-pub good_read : (table : List ℕ) (address n : ℕ) → in_table table (read_rule address n) ≡ none → GoodRead table address n
+pub good_read : (table : List ℕ) (address n : ℕ) → in_table table (read_rule address n) ≡ None → GoodRead table address n
 unfolding read_rule
 good_read table address n e =
     let t = stage_passed (eqb (length table) table_size) 21 _ e in
     let d = stage_passed (ltb 0 n) 0x05 _ t.1 in
-    let a = stage_passed (every_byte 1 address n) 0x07 none d.1 in
+    let a = stage_passed (every_byte 1 address n) 0x07 None d.1 in
     let z = ltb-true 0 n d.0 in
     record { sized = eqb-true (length table) table_size t.0; some_bytes = omega arith; access = a.0 }

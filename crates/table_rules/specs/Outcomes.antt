@@ -1,35 +1,30 @@
 -- What becomes of a read or a write, as a number of RULES.
-use Rattle.std.specs.Prelude.{Bool, true, false, cond, List, [], ◌∷◌, ℕ, eqb, length}
-use Rattle.std.proofs.Math.Option.{Option, none, some}
+use Rattle.std.specs.Prelude.{None, Option, Some, Result, Ok, Err}
+use Rattle.std.specs.Prelude.{cond, List, [], ◌∷◌, ℕ, eqb, length}
 use Rattle.answers.specs.Refusals.{number_of, first_failing, unless_refused}
 use Rattle.answers.specs.declared.Refusal.{Refusal}
 use Rattle.answers.specs.declared.Refusal.TheVariants.{NotATable}
 use Rattle.table_registers.specs.Registers.{table_size}
-use Rattle.table_rules.specs.declared.Outcome.{Outcome}
-use Rattle.table_rules.specs.declared.Outcome.TheVariants.{Done, DataRange, DataLength, DataLimit, NoAccess, NotTable}
+use Rattle.table_rules.specs.declared.Denied.{Denied}
+use Rattle.table_rules.specs.declared.Denied.TheVariants.{DataRange, DataLength, DataLimit, NoAccess, NotTable}
 
--- the numbers of the outcomes: error numbers of a status packet, and 21, which is the caller's fault [K5 N5 N11]
-abbrev pub refusal_of : Outcome → Option ℕ
-refusal_of Done = none
-refusal_of DataRange = some 0x04
-refusal_of DataLength = some 0x05
-refusal_of DataLimit = some 0x06
-refusal_of NoAccess = some 0x07
-refusal_of NotTable = some (number_of NotATable)
+-- error numbers of a status packet, and 21, which is the caller's fault [K5 N5 N11]
+abbrev pub denial_number : Denied → ℕ
+denial_number DataRange = 0x04
+denial_number DataLength = 0x05
+denial_number DataLimit = 0x06
+denial_number NoAccess = 0x07
+denial_number NotTable = number_of NotATable
 
--- [K5]
-abbrev pub is_done : Outcome → Bool
-is_done Done = true
-is_done DataRange = false
-is_done DataLength = false
-is_done DataLimit = false
-is_done NoAccess = false
-is_done NotTable = false
+-- the number where it is denied [K5]
+abbrev pub refusal_of : {A : Type 0} → Result A Denied → Option ℕ
+refusal_of (Ok done) = None
+refusal_of (Err denied) = Some (denial_number denied)
 
 -- A table of another size is refused before anything else, and stays as it is: every function on a table goes by these.
 -- [N5 N13]
 abbrev pub in_table : List ℕ → Option ℕ → Option ℕ
-in_table table next = cond (eqb (length table) table_size) next (some (number_of NotATable))
+in_table table next = cond (eqb (length table) table_size) next (Some (number_of NotATable))
 
 -- the refusal of a change that any table takes [N5 N13]
 abbrev pub size_refusal : List ℕ → Option Refusal

@@ -1,7 +1,7 @@
 -- The read rule and the write rule, by stages. A stage looks at all touched bytes or items before the next one comes, and the
 -- first that applies refuses. Error numbers: 04 data range, 05 data length, 06 data limit, 07 access.
+use Rattle.std.specs.Prelude.{Option}
 use Rattle.std.specs.Prelude.{Bool, true, not, cond, ◌&&◌, ◌||◌, List, [], ◌∷◌, ℕ, ◌+◌, leb, ltb, eqb, length, get_or}
-use Rattle.std.proofs.Math.Option.{Option}
 use Rattle.std.specs.Int.Signed.{le_z}
 use Rattle.answers.specs.Refusals.{first_failing}
 use Rattle.lists.specs.Write.{placed}

@@ -1,6 +1,6 @@
 -- The parts of the write rule that its private functions answer.
+use Rattle.std.specs.Prelude.{Option}
 use Rattle.std.specs.Prelude.{Bool, not, ◌&&◌, ◌||◌, List, [], ◌∷◌, ℕ, ◌+◌, leb, ltb}
-use Rattle.std.proofs.Math.Option.{Option}
 use Rattle.answers.specs.Refusals.{first_failing}
 use Rattle.table_registers.specs.Registers.{registers}
 use Rattle.table_items.specs.Items.{value_in_range}

@@ -8,38 +8,24 @@ ghost use Rattle.table_registers.specs.Rows.{one_or_four};
 ghost use Rattle.lists.specs.Numbers.{number_at};
 ghost use Rattle.table_items.specs.Items.{signed, value_at};
 ghost use Rattle.table_rules.specs.Rules.{covers, every_touched, least_to_write, touches_limits, limits_kept, stored, write_rule};
-ghost use Rattle.table_rules.specs.Outcomes.{is_done, refusal_of, in_table};
+ghost use Rattle.table_rules.specs.Outcomes.{refusal_of, in_table};
 ghost use Rattle.table_rules.specs.Limits.{limits_in};
 ghost use Rattle.table_rules.specs.Stages.{whole, items_rule};
 
 use table_items::SIGNED_BYTES;
 use table_registers::{
-    PERMITS_RAM_WRITE, PERMITS_ROM_WRITE, REG_GOAL_POSITION, REG_MAX_POSITION, REG_MIN_POSITION,
-    REG_TORQUE_ENABLE, Row, SIZE_GOAL_POSITION, SIZE_MAX_POSITION, SIZE_MIN_POSITION, TABLE_BYTES,
+    Access, REG_GOAL_POSITION, REG_MAX_POSITION, REG_MIN_POSITION, REG_TORQUE_ENABLE, Row,
+    SIZE_GOAL_POSITION, SIZE_MAX_POSITION, SIZE_MIN_POSITION, TABLE_BYTES,
 };
 
-// What became of a read or a write: an error of the status packet where it is not done, or a table of another size.
-#[derive(Clone, Copy)]
-pub enum Outcome {
-    Done,
+// Why a read or a write is denied: an error of the status packet, or a table of another size.
+#[derive(Clone, Copy, PartialEq, Eq, Debug)]
+pub enum Denied {
     DataRange,
     DataLength,
     DataLimit,
     NoAccess,
     NotTable,
-}
-
-pub fn is_done(outcome: Outcome) -> bool
-    ensures { result ≡ is_done outcome }
-{
-    match outcome {
-        Outcome::Done => true,
-        Outcome::DataRange => false,
-        Outcome::DataLength => false,
-        Outcome::DataLimit => false,
-        Outcome::NoAccess => false,
-        Outcome::NotTable => false,
-    }
 }
 
 // The four bytes at k as a signed number.
@@ -55,13 +41,11 @@ fn word_after(table: &[u8], address: usize, bytes: &[u8], a: usize) -> i32
     requires { (address + length bytes.now ≤ length table.now) × (a + 4 ≤ length table.now) × (whole address (length bytes.now) a ≡ true) }
     ensures { result ≡ signed (number_at (stored table.now address bytes.now) a 4) }
 {
-    if a < address {
-        return signed_at(table, a);
+    if (address..address + bytes.len()).contains(&a) {
+        signed_at(bytes, a - address)
+    } else {
+        signed_at(table, a)
     }
-    if a - address < bytes.len() {
-        return signed_at(bytes, a - address);
-    }
-    signed_at(table, a)
 }
 
 // The limits of the position.
@@ -84,20 +68,42 @@ pub fn limits_in(table: &[u8]) -> PositionLimits
     }
 }
 
-// The bytes from `address` up to `end` have a byte of the register of `size` bytes at `start`.
-fn touched(start: usize, size: usize, address: usize, end: usize) -> bool
-    requires { start + size ≤ table_size }
-    ensures { result ≡ (ltb start end && ltb address (start + size)) }
-{
-    start < end && address < start + size
+// Bytes of the table, from `start` up to `end`.
+#[derive(Clone, Copy)]
+struct Span {
+    start: usize,
+    end: usize,
 }
 
-// They have all its bytes.
-fn covered(start: usize, size: usize, address: usize, end: usize) -> bool
-    requires { start + size ≤ table_size }
-    ensures { result ≡ (leb address start && leb (start + size) end) }
-{
-    address <= start && start + size <= end
+const MIN_POSITION: Span = Span {
+    start: REG_MIN_POSITION,
+    end: REG_MIN_POSITION + SIZE_MIN_POSITION,
+};
+
+const MAX_POSITION: Span = Span {
+    start: REG_MAX_POSITION,
+    end: REG_MAX_POSITION + SIZE_MAX_POSITION,
+};
+
+const GOAL_POSITION: Span = Span {
+    start: REG_GOAL_POSITION,
+    end: REG_GOAL_POSITION + SIZE_GOAL_POSITION,
+};
+
+impl Span {
+    // They have a byte of the others.
+    fn touches(self, others: Span) -> bool
+        ensures { result ≡ (ltb others.start self.end && ltb self.start others.end) }
+    {
+        others.start < self.end && self.start < others.end
+    }
+
+    // They have all of them.
+    fn covers(self, others: Span) -> bool
+        ensures { result ≡ (leb self.start others.start && leb others.end self.end) }
+    {
+        self.start <= others.start && others.end <= self.end
+    }
 }
 
 // The value that is written to the register, at k in the data, is in its range.
@@ -105,39 +111,42 @@ fn in_range(bytes: &[u8], k: usize, row: Row) -> bool
     requires { (k + row.bytes ≤ length bytes.now) × (one_or_four row.bytes ≡ true) }
     ensures { result ≡ (le_z row.low (value_at bytes.now k row.bytes) && le_z (value_at bytes.now k row.bytes) row.high) }
 {
-    let low = row.low;
-    let high = row.high;
-    if row.bytes == SIGNED_BYTES {
-        return table_items::within(signed_at(bytes, k), low, high);
-    }
-    table_items::within(bytes[k] as i32, low, high)
+    let value = if row.bytes == SIGNED_BYTES {
+        signed_at(bytes, k)
+    } else {
+        i32::from(bytes[k])
+    };
+    table_items::within(value, row.low, row.high)
 }
 
 // The stages that go by items, in one walk over the touched registers: an item that is covered in part comes before any value
 // out of range. Each touched byte can be written, so that each has a register; and the value of an item that is covered is in the
 // data, so that the table is not read.
-fn judge_items(table: &[u8], address: usize, bytes: &[u8]) -> Outcome
+fn judge_items(table: &[u8], address: usize, bytes: &[u8]) -> Result<(), Denied>
     requires { (0 < length bytes.now) × (address + length bytes.now ≤ length table.now) × (every_byte 2 address (length bytes.now) ≡ true) }
     ensures { refusal_of result ≡ items_rule address (length bytes.now) (stored table.now address bytes.now) }
 {
-    let end = address + bytes.len();
+    let written = Span {
+        start: address,
+        end: address + bytes.len(),
+    };
     let mut good = true;
     let mut a = address;
-    while a < end {
-        let row = table_registers::register_at(a);
-        if !covered(row.start, row.bytes, address, end) {
-            return Outcome::DataLength;
+    while a < written.end {
+        let Some(row) = table_registers::register_at(a) else {
+            unreachable!()
+        };
+        let item = Span {
+            start: row.start,
+            end: row.start + row.bytes,
+        };
+        if !written.covers(item) {
+            return Err(Denied::DataLength);
         }
-        if !in_range(bytes, row.start - address, row) {
-            good = false;
-        }
-        a = row.start + row.bytes;
+        good &= in_range(bytes, item.start - address, row);
+        a = item.end;
     }
-    if good {
-        Outcome::Done
-    } else {
-        Outcome::DataRange
-    }
+    if good { Ok(()) } else { Err(Denied::DataRange) }
 }
 
 // The write has a byte of a limit of the position, or of the goal position.
@@ -145,14 +154,11 @@ fn touches_limits(address: usize, n: usize) -> bool
     requires { address + n ≤ table_size }
     ensures { result ≡ touches_limits address n }
 {
-    let end = address + n;
-    if touched(REG_MIN_POSITION, SIZE_MIN_POSITION, address, end) {
-        return true;
-    }
-    if touched(REG_MAX_POSITION, SIZE_MAX_POSITION, address, end) {
-        return true;
-    }
-    touched(REG_GOAL_POSITION, SIZE_GOAL_POSITION, address, end)
+    let written = Span {
+        start: address,
+        end: address + n,
+    };
+    written.touches(MIN_POSITION) || written.touches(MAX_POSITION) || written.touches(GOAL_POSITION)
 }
 
 // Where it has, the goal position lies between the limits.
@@ -175,32 +181,29 @@ fn least_to_write(table: &[u8]) -> u8
     ensures { result ≡ least_to_write table.now }
 {
     if table[REG_TORQUE_ENABLE] == 0 {
-        PERMITS_ROM_WRITE
+        Access::RomWrite as u8
     } else {
-        PERMITS_RAM_WRITE
+        Access::RamWrite as u8
     }
 }
 
 // The write rule, on a table that stays as it is. [M5 T3 T6-T11]
-pub fn judge(table: &[u8], address: u16, bytes: &[u8]) -> Outcome
+pub fn judge(table: &[u8], address: u16, bytes: &[u8]) -> Result<(), Denied>
     ensures { refusal_of result ≡ in_table table.now (write_rule table.now address bytes.now) }
 {
     if table.len() != TABLE_BYTES {
-        return Outcome::NotTable;
+        return Err(Denied::NotTable);
     }
-    if bytes.len() == 0 {
-        return Outcome::DataLength;
+    if bytes.is_empty() {
+        return Err(Denied::DataLength);
     }
     let at = address as usize;
     if !table_registers::every_byte(least_to_write(table), at, bytes.len()) {
-        return Outcome::NoAccess;
+        return Err(Denied::NoAccess);
     }
-    let items = judge_items(table, at, bytes);
-    if !is_done(items) {
-        return items;
-    }
+    judge_items(table, at, bytes)?;
     if !limits_kept(table, at, bytes) {
-        return Outcome::DataLimit;
+        return Err(Denied::DataLimit);
     }
-    Outcome::Done
+    Ok(())
 }

@@ -5,71 +5,67 @@
 //   2  a segment: prints its events, as `line` does, and after each the device's reply, `status SLOT BYTES` or `silent`, or
 //      `refused` if its ID is above 252; then `stored ADDRESS VALUE` for each byte of the control table that has changed
 // Reading stops at a record that is cut short or of another form. The last line, `end BYTES`, has the count of bytes before it.
-// Before the first device the control table is all 0.
+// Before the first device the control table is all 0. A write that fails is passed over.
 #![tactic(auto)]
 
-use answers::Answer;
-use device::Replied;
+ghost use Rattle.std.specs.Prelude.{◌<◌, length, IfSome};
+
+use device_dispatch::Heard;
 use device_instructions::RegisteredWrite;
 use device_status::{MIN_REPLY, Reply};
 use packet_front::{MAX_BODY, MAX_PACKET};
-use reader_core::{MAX_HELD, Step, StepEvent};
-use table_registers::TABLE_BYTES;
+use reader_core::{Event, MAX_HELD, ProtocolTwo};
+use table_registers::{REG_ID, TABLE_BYTES};
 
-fn size(x: u8) -> usize {
-    x as usize
+#[derive(Clone, Copy)]
+enum Record<'a> {
+    Text(&'a [u8]),
+    Device { id: u8, position: u16 },
+    Segment(&'a [u8]),
 }
 
-// The first n bytes, or all if there are fewer.
-fn first(bytes: &[u8], n: usize) -> &[u8] {
-    if n <= bytes.len() { &bytes[..n] } else { bytes }
-}
-
-// A write that fails is passed over, here and below.
-fn print_end(rt: &impl Print) {
-    let _ = rt.write_all(b"\n");
+// The first record, and the input behind it; None where it is cut short or of another form.
+fn first_record(input: &[u8]) -> Option<(Record<'_>, &[u8])>
+    ensures { IfSome result (λ found. length found.1.now < length input.now) }
+{
+    let [kind, count, rest @ ..] = input else {
+        return None;
+    };
+    let (bytes, rest) = rest.split_at_checked(usize::from(*count))?;
+    let record = match (*kind, bytes) {
+        (0, text) => Record::Text(text),
+        (1, [id, low, high]) => Record::Device {
+            id: *id,
+            position: u16::from_le_bytes([*low, *high]),
+        },
+        (2, segment) => Record::Segment(segment),
+        _ => return None,
+    };
+    Some((record, rest))
 }
 
 fn print_text(rt: &impl Print, text: &[u8]) {
     let _ = rt.write_all(text);
-    print_end(rt);
-}
-
-fn print_device(rt: &impl Print, id: u8, position: u64) {
-    let _ = println!(rt; "device {id} {position}");
+    let _ = rt.write_all(b"\n");
 }
 
 // A packet's body is never empty.
 fn print_packet(rt: &impl Print, id: u8, body: &[u8]) {
-    let _ = print!(rt; "packet {id}");
-    if 0 < body.len() {
-        let _ = print!(rt; " {} {}", body[0], body.len() - 1);
-    }
-    print_end(rt);
-}
-
-fn print_bad_checksum(rt: &impl Print, id: u8) {
-    let _ = println!(rt; "crc {id}");
-}
-
-fn print_bytes(rt: &impl Print, bytes: &[u8]) {
-    for byte in bytes {
-        let _ = print!(rt; " {:02x}", *byte);
-    }
+    let _ = match body {
+        [instruction, parameters @ ..] => println!(rt;
+            "packet {id} {instruction} {}",
+            parameters.len()
+        ),
+        [] => println!(rt; "packet {id}"),
+    };
 }
 
 fn print_status(rt: &impl Print, slot: usize, status: &[u8]) {
     let _ = print!(rt; "status {slot}");
-    print_bytes(rt, status);
-    print_end(rt);
-}
-
-fn print_silence(rt: &impl Print) {
-    print_text(rt, b"silent");
-}
-
-fn print_refusal(rt: &impl Print) {
-    print_text(rt, b"refused");
+    for byte in status {
+        let _ = print!(rt; " {byte:02x}");
+    }
+    print_text(rt, b"");
 }
 
 // The reply is sent.
@@ -77,221 +73,139 @@ fn print_reply(rt: &impl Print, reply: Reply) {
     let mut out = [0u8; MIN_REPLY];
     let slot = reply.slot;
     match device_status::send(reply, &mut out) {
-        Answer::Count(n) => {
-            if n == 0 {
-                print_silence(rt);
-            } else {
-                print_status(rt, slot, first(&out, n));
-            }
-        }
-        Answer::Refused(_) => print_refusal(rt),
+        Ok(0) => print_text(rt, b"silent"),
+        Ok(n) => print_status(rt, slot, &out[..n.min(out.len())]),
+        Err(_) => print_text(rt, b"refused"),
     }
-}
-
-fn print_answer(rt: &impl Print, refused: Replied, reply: Reply) {
-    match refused {
-        Replied::Sent(_, _) => print_reply(rt, reply),
-        Replied::Refused(_) => print_refusal(rt),
-    }
-}
-
-fn print_stored(rt: &impl Print, address: usize, value: u8) {
-    let _ = println!(rt; "stored {address} {value}");
 }
 
 fn print_changes(rt: &impl Print, before: &[u8; TABLE_BYTES], after: &[u8; TABLE_BYTES]) {
-    let mut i = 0;
-    while i < TABLE_BYTES {
-        if before[i] != after[i] {
-            print_stored(rt, i, after[i]);
+    for (address, (old, new)) in before.iter().zip(after).enumerate() {
+        if old != new {
+            let _ = println!(rt; "stored {address} {new}");
         }
-        i += 1;
     }
 }
 
-// The device hears a packet's body or a bad checksum.
-fn answer(
-    rt: &impl Print,
-    table: &mut [u8; TABLE_BYTES],
+// The device that hears the segments: its control table, and the write that waits for Action.
+#[derive(Clone, Copy)]
+struct Device {
+    table: [u8; TABLE_BYTES],
     registered: RegisteredWrite,
-    heard: device_dispatch::Heard,
-    id: u8,
-    body: &[u8],
-) -> RegisteredWrite {
-    let before = *table;
-    let carried = device::carry_out(table, registered, heard, id, body);
-    let refused = carried.refused;
-    let reply = carried.reply;
-    let kept = carried.registered;
-    print_answer(rt, refused, reply);
-    print_changes(rt, &before, table);
-    kept
 }
 
-fn unstuffed(got: Answer) -> usize {
-    match got {
-        Answer::Count(n) => n,
-        Answer::Refused(_) => 0,
-    }
-}
-
-// A packet's body, unstuffed, has at most 1,022 bytes.
-fn hear_packet(
-    rt: &impl Print,
-    table: &mut [u8; TABLE_BYTES],
-    registered: RegisteredWrite,
-    id: u8,
-    found: &[u8],
-) -> RegisteredWrite {
-    let mut body = [0u8; MAX_BODY];
-    let n = unstuffed(packet::unstuff(found, &mut body));
-    let part = first(&body, n);
-    print_packet(rt, id, part);
-    let heard = device_dispatch::Heard::Packet;
-    answer(rt, table, registered, heard, id, part)
-}
-
-fn hear_bad_checksum(
-    rt: &impl Print,
-    table: &mut [u8; TABLE_BYTES],
-    registered: RegisteredWrite,
-    id: u8,
-) -> RegisteredWrite {
-    print_bad_checksum(rt, id);
-    let heard = device_dispatch::Heard::BadChecksum;
-    answer(rt, table, registered, heard, id, b"")
-}
-
-fn is_event(event: StepEvent) -> bool {
-    match event {
-        StepEvent::Packet { .. } => true,
-        StepEvent::BadChecksum { .. } => true,
-        StepEvent::Silent => false,
-        StepEvent::Refused(_) => false,
-    }
-}
-
-fn hear_event(
-    rt: &impl Print,
-    table: &mut [u8; TABLE_BYTES],
-    registered: RegisteredWrite,
-    event: StepEvent,
-    found: &[u8; MAX_PACKET],
-) -> RegisteredWrite {
-    match event {
-        StepEvent::Packet { id, size } => hear_packet(
-            rt,
-            table,
-            registered,
-            id,
-            first(found, size),
-        ),
-        StepEvent::BadChecksum { id } => hear_bad_checksum(rt, table, registered, id),
-        StepEvent::Silent => registered,
-        StepEvent::Refused(_) => registered,
-    }
-}
-
-// A feeding call or, when the segment is over, a gap call.
-fn next(
-    over: bool,
-    held: &mut [u8; MAX_HELD],
-    count: usize,
-    rest: &[u8],
-    found: &mut [u8; MAX_PACKET],
-) -> Step {
-    if over {
-        reader_core::gap_in(held, count, found)
-    } else {
-        reader_core::feed_in(held, count, rest, found)
-    }
-}
-
-// Feeds the segment until a call gives no event, and then ends it: gap calls until nothing is left. A loop must be bounded to be
-// proved to end: this one would stop after 2^64 - 1 calls.
-fn hear_segment(
-    rt: &impl Print,
-    segment: &[u8],
-    table: &mut [u8; TABLE_BYTES],
-    waiting: RegisteredWrite,
-) -> RegisteredWrite {
-    let mut held = [0u8; MAX_HELD];
-    let mut found = [0u8; MAX_PACKET];
-    let mut registered = waiting;
-    let mut count = 0;
-    let mut at = 0;
-    let mut over = false;
-    let mut left: u64 = 18446744073709551615;
-    while 0 < left {
-        let step = next(over, &mut held, count, &segment[at..], &mut found);
-        count = step.held;
-        at += buffers::least(step.taken, segment.len() - at);
-        let event = step.event;
-        if is_event(event) {
-            registered = hear_event(rt, table, registered, event, &found);
-        } else if over {
-            break;
-        } else {
-            over = true;
+impl Device {
+    fn blank() -> Self {
+        Device {
+            table: [0u8; TABLE_BYTES],
+            registered: RegisteredWrite::none(),
         }
-        left -= 1;
     }
-    registered
-}
 
-fn new_device(rt: &impl Print, table: &mut [u8; TABLE_BYTES], id: u8, low: u8, high: u8) {
-    let position = (low as u16) + (high as u16) * 256;
-    table_access::fresh(table);
-    table_access::measure(table, position as i32, 0);
-    table[7] = id;
-    print_device(rt, id, position as u64);
-}
+    fn new(id: u8, position: u16) -> Self {
+        let mut device = Device::blank();
+        let _ = table_access::fresh(&mut device.table);
+        let _ = table_access::measure(&mut device.table, i32::from(position), 0);
+        device.table[REG_ID] = id;
+        device
+    }
 
-fn is_known(kind: u8, n: usize) -> bool {
-    kind == 0 || kind == 2 || (kind == 1 && n == 3)
-}
-
-// The registered write as the record leaves it; the record is of a known form.
-fn record(
-    rt: &impl Print,
-    kind: u8,
-    bytes: &[u8],
-    table: &mut [u8; TABLE_BYTES],
-    registered: RegisteredWrite,
-) -> RegisteredWrite {
-    if kind == 0 {
-        print_text(rt, bytes);
-        registered
-    } else if kind == 1 {
-        if bytes.len() == 3 {
-            new_device(rt, table, bytes[0], bytes[1], bytes[2]);
+    // It hears a packet's body or a bad checksum, and replies.
+    fn answer(&mut self, rt: &impl Print, heard: Heard, id: u8, body: &[u8]) {
+        let before = self.table;
+        match device::carry_out(&mut self.table, &mut self.registered, heard, id, body) {
+            Ok(carried) => print_reply(rt, carried.reply),
+            Err(_) => print_text(rt, b"refused"),
         }
-        device_instructions::dropped()
-    } else {
-        hear_segment(rt, bytes, table, registered)
+        print_changes(rt, &before, &self.table);
+    }
+
+    // A packet's body, unstuffed, has at most 1,022 bytes.
+    fn hear_packet(&mut self, rt: &impl Print, id: u8, packet: &[u8]) {
+        let mut body = [0u8; MAX_BODY];
+        let n = packet::unstuff(packet, &mut body).unwrap_or(0);
+        let body = &body[..n.min(body.len())];
+        print_packet(rt, id, body);
+        self.answer(rt, Heard::Packet, id, body);
+    }
+
+    fn hear_bad_checksum(&mut self, rt: &impl Print, id: u8) {
+        let _ = println!(rt; "crc {id}");
+        self.answer(rt, Heard::BadChecksum, id, b"");
+    }
+
+    fn hear(&mut self, rt: &impl Print, event: Event, packet: &[u8; MAX_PACKET]) {
+        match event {
+            Event::Packet { id, size } => self.hear_packet(
+                rt,
+                id,
+                &packet[..size.min(packet.len())],
+            ),
+            Event::BadChecksum { id } => self.hear_bad_checksum(rt, id),
+        }
+    }
+
+    // Feeds the segment until a call gives no event, and then ends it: gap calls until nothing is left. A loop must be bounded to
+    // be proved to end: these would stop after 2^64 - 1 calls.
+    fn hear_segment(&mut self, rt: &impl Print, segment: &[u8]) {
+        let mut held = [0u8; MAX_HELD];
+        let mut packet = [0u8; MAX_PACKET];
+        let mut count = 0;
+        let mut rest = segment;
+        for _ in 0..u64::MAX {
+            let Ok(step) = reader_core::feed::<ProtocolTwo, _, _>(
+                &mut held,
+                count,
+                rest,
+                &mut packet,
+            ) else {
+                return;
+            };
+            count = step.held;
+            rest = &rest[step.taken.min(rest.len())..];
+            let Some(event) = step.event else { break };
+            self.hear(rt, event, &packet);
+        }
+        for _ in 0..u64::MAX {
+            let Ok(step) = reader_core::gap::<ProtocolTwo, _, _>(&mut held, count, &mut packet)
+            else {
+                return;
+            };
+            count = step.held;
+            let Some(event) = step.event else { break };
+            self.hear(rt, event, &packet);
+        }
+    }
+
+    fn follow(&mut self, rt: &impl Print, record: Record<'_>) {
+        match record {
+            Record::Text(text) => print_text(rt, text),
+            Record::Device { id, position } => {
+                *self = Device::new(id, position);
+                let _ = println!(rt; "device {id} {position}");
+            }
+            Record::Segment(segment) => self.hear_segment(rt, segment),
+        }
     }
 }
 
 // Returns the count of bytes in the records that were read.
-fn records(rt: &impl Print, input: &[u8], table: &mut [u8; TABLE_BYTES]) -> usize {
-    let mut registered = device_instructions::dropped();
-    let mut at = 0;
-    while 2 <= input.len() - at {
-        let n = size(input[at + 1]);
-        let kind = input[at];
-        if input.len() - at - 2 < n || !is_known(kind, n) {
-            break;
-        }
-        registered = record(rt, kind, &input[at + 2..at + 2 + n], table, registered);
-        at += 2 + n;
+fn follow_records(rt: &impl Print, input: &[u8]) -> usize {
+    let mut device = Device::blank();
+    let mut rest = input;
+    while let Some((record, behind)) = first_record(rest) {
+        device.follow(rt, record);
+        rest = behind;
     }
-    at
+    input.len() - rest.len()
 }
 
 fn main(rt: HostRuntime) {
     let mut buffer = [0u8; 65536];
-    let n = input::read(&mut rt.stdin(), &mut buffer).count;
-    let mut table = [0u8; TABLE_BYTES];
-    let read = records(&rt, &buffer[..n], &mut table);
+    let n = match input::read(&mut rt.stdin(), &mut buffer) {
+        Ok(n) => n,
+        Err(failed) => failed.after,
+    };
+    let read = follow_records(&rt, &buffer[..n]);
     let _ = println!(rt; "end {read}");
 }

@@ -10,13 +10,5 @@ use Rattle.capi.proofs.Carried.{by_parts}
 use Rattle.fits.proofs.Slots.{device_fits}
 use Rattle.capi.proofs.dxl_carry_out.Goals as goal
 
-pub returns : goal.returns
-returns c =
-    let e = c.carry_out.ensures in
-    let q = c.carried.ensures ∙ by_parts _ _ _ _ _ _ e.refused_value e.reply_value e.registered_value in
-    rw (sym c.heard_by-heard.ensures, sym c.id_of_kind-heard_id.ensures) record {
-      value = q;
-      table_after = e.table_after;
-      device_promises = (device_promises, split, stays_accepted, goal_within_limits, limit_tests, device_fits);
-      registered_after = ap₂ state_of e.table_after (ap (λ (x : CarriedNumbers). x.registered) q);
-    }
+pub returns-clause-device_promises : goal.returns-clause-device_promises
+returns-clause-device_promises c = (device_promises, split, stays_accepted, goal_within_limits, limit_tests, device_fits)

@@ -12,8 +12,8 @@ use Rattle.capi.proofs.dxl_carry_out_packet.Goals as goal
 
 pub returns : goal.returns
 returns c =
-    let e = c.carry_out.ensures in
-    let q = c.carried_packet.ensures ∙ by_parts _ _ _ _ _ _ e.refused_value e.reply_value e.registered_value in record {
+    let e = c.carry_out-answer.ensures in
+    let q = c.carried.ensures ∙ by_parts _ _ _ _ _ _ e.refused_value e.reply_value e.registered_after in record {
       value = q;
       table_after = (e.table_after, e.body_after);
       device_promises = (device_promises, split, exchange_promises, stays_accepted, goal_within_limits, device_fits);

@@ -11,11 +11,11 @@ use Rattle.capi.proofs.dxl_device.Goals as goal
 
 pub returns : goal.returns
 returns c =
-    let e = c.hear.ensures in
-    let q = c.response.ensures ∙ ap₂ device_numbers e.replied_value e.registered_value in
+    let e = c.hear-answer.ensures in
+    let q = c.response.ensures ∙ ap₂ device_numbers e.answer_value e.registered_after in
     rw (sym c.heard_by-heard.ensures, sym c.id_of_kind-heard_id.ensures) record {
       value = q;
       table_after = (e.table_after, e.out_after);
       device_promises = (device_promises, stays_accepted, goal_within_limits, limit_tests, device_fits);
-      registered_after = ap₂ state_of e.table_after (its_registered _ e.replied_value e.registered_value c.response.ensures);
+      registered_after = ap₂ state_of e.table_after (its_registered _ e.answer_value e.registered_after c.response.ensures);
     }

@@ -12,10 +12,10 @@ use Rattle.capi.proofs.dxl_exchange.Goals as goal
 
 pub returns : goal.returns
 returns c =
-    let e = c.answer.ensures in
-    let q = c.response.ensures ∙ ap₂ device_numbers e.replied_value e.registered_value in record {
+    let e = c.answer-answer.ensures in
+    let q = c.response.ensures ∙ ap₂ device_numbers e.answer_value e.registered_after in record {
       value = q;
       table_after = (e.table_after, e.body_after, e.out_after);
       device_promises = (device_promises, exchange_promises, stays_accepted, goal_within_limits, cases_hold, device_fits);
-      registered_after = ap₂ state_of e.table_after (its_registered _ e.replied_value e.registered_value c.response.ensures);
+      registered_after = ap₂ state_of e.table_after (its_registered _ e.answer_value e.registered_after c.response.ensures);
     }

@@ -7,6 +7,6 @@ use Rattle.capi.proofs.dxl_log_last.Goals as goal
 pub returns : goal.returns
 returns c =
     record {
-      value = c.found.ensures ∙ ap found_numbers c.last.ensures;
+      value = c.from.ensures ∙ ap found_numbers c.last.ensures;
       log_promises = (log_promises, found_fits);
     }

@@ -8,7 +8,7 @@ use Rattle.capi.proofs.dxl_log_salvage.Goals as goal
 pub returns : goal.returns
 returns c =
     let e = c.salvage in record {
-      value = c.salvaged.ensures ∙ ap salvaged_numbers e.ensures.value;
+      value = c.from.ensures ∙ ap salvaged_numbers e.ensures.value;
       out_after = e.ensures.out_after;
       report_after = e.ensures.report_after;
       salvage = (salvage_promises, salvage_cases, salvaged_fits);

@@ -8,14 +8,16 @@ use Prim.Native.Nat.{ℕ}
 use Rattle.device_calls.specs.Calls.{state_of}
 use Rattle.device_calls.proofs.Stays.{stays_accepted}
 use Rattle.device_calls.proofs.GoalWithinLimits.{goal_within_limits}
-use Rattle.answers.specs.Answers.{exported}
+use Rattle.table_rules.specs.Outcomes.{size_refusal}
+use Rattle.answers.specs.Answers.{exported_done}
+use Rattle.capi.proofs.Done.{done_is}
 use Rattle.capi.proofs.dxl_measure.Goals as goal
 
 pub returns : goal.returns
 returns c =
     let e = c.measure in
     let left = e.ensures.table_after ∙ ap (λ (z : ℤ). measure_out c.args.table.now z c.args.hardware_error) (to_z-of_z {w = w32} c.ranges.position) in record {
-      value = to_z-of_z {w = w64} (record { sfits = c.exported.type_inv }) ∙ c.exported.ensures ∙ ap exported e.ensures.value;
+      value = to_z-of_z {w = w64} (record { sfits = c.exported_done.type_inv }) ∙ c.exported_done.ensures ∙ ap exported_done e.ensures.value ∙ done_is (size_refusal c.args.table.now);
       table_after = left;
       w_after = (λ w. ap (λ (t : List ℕ). state_of t w) left);
       stays_accepted = (stays_accepted, goal_within_limits);

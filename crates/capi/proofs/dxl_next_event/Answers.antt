@@ -12,7 +12,7 @@ use Rattle.capi.proofs.dxl_next_event.Goals as goal
 pub returns : goal.returns
 returns c =
     record {
-      value = c.next.ensures ∙ ap next_numbers c.next_event.ensures;
+      value = c.from.ensures ∙ ap next_numbers c.next_event.ensures;
       plain_promises = (plain_promises records (λ r. r.count ≤ 1030) held_in (follows Two), event_fits);
       burst_detected = burst_detected;
     }

@@ -7,7 +7,7 @@ returns c =
     let e = c.feed-fed.ensures in
     let f = e.step_value in
     record {
-      step_value = c.step.ensures ∙ ap step_numbers f.0;
+      step_value = c.from.ensures ∙ ap step_numbers f.0;
       packet_value = f.1;
       reader_value = f.2;
       every_protocol = e.every_protocol;

@@ -1,17 +1,28 @@
-use mathlib.Core.Path.{ap, ◌∙◌}
+use mathlib.Core.Path.{◌≡◌, sym, ap, ◌∙◌}
 use Rattle.numbers.specs.Exported.{step_numbers}
 use Rattle.packet_protocols.specs.declared.Protocol.TheVariants.{One}
-use Rattle.reader_records.specs.Records.{step_in, packet_in}
+use Rattle.reader_records.specs.Records.{held_by, step_in, packet_in}
 use Rattle.reader_records.proofs.Records.{record_left, every_protocol}
 use Rattle.fits.proofs.Steps.{steps_fit}
 use Rattle.capi_v1.proofs.dxl_p1_feed.Goals as goal
+use Rattle.capi_v1.proofs.dxl_p1_feed.Goals.{in-Ok, in_default}
 
 pub returns : goal.returns
 unfolding step_in packet_in
 returns c =
-    let e = c.feed_p1-step.ensures in record {
-      value = c.step.ensures ∙ ap step_numbers e.0;
-      count_after = record_left One c.feed_p1-step.result _ _ _ e.0 e.1;
+    let e = c.feed-step.ensures in
+    let answer : c.from.result ≡ step_numbers c.feed-step.result =
+    elim c.match-step.branch [
+      | in-Ok w ↦ c.from.ensures ∙ ap step_numbers (w.step-is ∙ sym w.in-Ok.is)
+      | in_default w ↦ c.from.ensures ∙ ap step_numbers w.step-is
+    ] in
+    let count : c.match-step.count ≡ held_by c.args.count.now c.feed-step.result =
+    elim c.match-step.branch [
+      | in-Ok w ↦ w.count-is ∙ ap (held_by c.args.count.now) (sym w.in-Ok.is)
+      | in_default w ↦ w.count-is ∙ ap (held_by c.args.count.now) (sym w.in_default.is)
+    ] in record {
+      value = answer ∙ ap step_numbers e.0;
+      count_after = rw count (record_left One c.feed-step.result _ _ _ e.0 e.1);
       packet_after = e.2;
       every_protocol = (every_protocol, steps_fit);
     }

@@ -4,8 +4,5 @@ use lib.Bits.{bit_xor}
 use Rattle.crc.specs.Product.{product}
 use Rattle.crc16_flips.proofs.times.Given as goal
 
-abbrev pub invariant-loop-bits : goal.invariant-loop-bits
-invariant-loop-bits l = (l.x < 2 ^ 16) × (bit_xor l.sum (product l.bits l.x l.y) ≡ product 16 l.a l.b)
-
-abbrev pub decreases-loop-bits : goal.decreases-loop-bits
-decreases-loop-bits l = l.bits
+abbrev pub invariant-loop : goal.invariant-loop
+invariant-loop l = (l.x < 2 ^ 16) × (bit_xor l.sum (product (16 - l.counter) l.x l.y) ≡ product 16 l.a l.b)

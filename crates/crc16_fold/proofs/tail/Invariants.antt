@@ -1,12 +1,8 @@
-use Prim.Native.Nat.{◌-◌, ◌^◌, ◌<◌}
-use lib.ListN.{length, drop}
+use Prim.Native.Nat.{◌^◌, ◌<◌}
 use Rattle.crc.specs.Crc.{crc_from}
 use Rattle.crc.proofs.Laws.{Passed}
 use Rattle.crc16_fold.specs.Fold.{register_of}
 use Rattle.crc16_fold.proofs.tail.Given as goal
 
-abbrev pub invariant-loop-i : goal.invariant-loop-i
-invariant-loop-i l = (l.u < 2 ^ 36) × Passed (crc_from (register_of l.number l.parity) (drop l.from l.bytes)) l.bytes l.i (register_of l.u l.p)
-
-abbrev pub decreases-loop-i : goal.decreases-loop-i
-decreases-loop-i l = length l.bytes - l.i
+abbrev pub invariant-loop-byte : goal.invariant-loop-byte
+invariant-loop-byte l = (l.u < 2 ^ 36) × Passed (crc_from (register_of l.number l.parity) l.bytes) l.bytes l.byte-index (register_of l.u l.p)

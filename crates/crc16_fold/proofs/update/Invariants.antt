@@ -1,12 +1,12 @@
-use Prim.Native.Nat.{◌-◌, ◌^◌, ◌≤◌, ◌<◌}
+use mathlib.Core.Path.{◌≡◌}
+use Prim.Native.Nat.{◌^◌, ◌<◌}
 use lib.ListN.{length}
 use Rattle.crc.specs.Crc.{crc_from}
-use Rattle.crc.proofs.Laws.{Passed}
 use Rattle.crc16_fold.specs.Fold.{register_of}
 use Rattle.crc16_fold.proofs.update.Given as goal
 
-abbrev pub invariant-loop-i : goal.invariant-loop-i
-invariant-loop-i l = (l.i ≤ length l.bytes) × (l.u < 2 ^ 36) × Passed (crc_from l.start l.bytes) l.bytes l.i (register_of l.u l.p)
+abbrev pub invariant-loop-eight : goal.invariant-loop-eight
+invariant-loop-eight l = (l.u < 2 ^ 36) × (crc_from (register_of l.u l.p) l.rest ≡ crc_from l.start l.bytes)
 
-abbrev pub decreases-loop-i : goal.decreases-loop-i
-decreases-loop-i l = length l.bytes - l.i
+abbrev pub decreases-loop-eight : goal.decreases-loop-eight
+decreases-loop-eight l = length l.rest

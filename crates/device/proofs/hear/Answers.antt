@@ -1,54 +1,35 @@
-use mathlib.Core.Path.{ap, ◌∙◌}
-use native.Mathlib.Omega.{arith}
+use Rattle.std.specs.Prelude.{None}
+use mathlib.Core.Path.{◌≡◌, sym, ap, ◌∙◌}
+use Rattle.answers.proofs.Laws.{counted}
 use Rattle.device_status.specs.Sending.{status_answer, status_out}
 use Rattle.device_status.specs.declared.Reply.{Reply}
-use Rattle.device.specs.Answers.{with_slot, state_refusal}
-use Rattle.device.specs.Split.{SameAsOne}
-use Rattle.device.proofs.Calls.{fault_answered, no_fault, short_refused}
+use Rattle.device.specs.Answers.{with_slot, call_refusal}
+use Rattle.device.specs.declared.CarriedOut.{CarriedOut}
+use Rattle.device.proofs.Calls.{accepted}
 use Rattle.device.proofs.Split.{with_room}
 use Rattle.device.proofs.hear.Goals as goal
-use Rattle.device.proofs.hear.Goals.{After-carry_out-carried}
+use Rattle.device.proofs.hear.Goals.{In_ok-call_refusal}
 
-pub returns-then-out-lt-MIN_REPLY : goal.returns-then-out-lt-MIN_REPLY
-returns-then-out-lt-MIN_REPLY c =
+passes : (t : In_ok-call_refusal) → call_refusal t.args.table.now t.args.registered.now t.args.out.now ≡ None
+passes t = (counted (call_refusal t.args.table.now t.args.registered.now t.args.out.now) _ _ (sym t.in_ok-call_refusal.ensures)).0
+
+pub dispatch-carried-requires : goal.dispatch-carried-requires
+dispatch-carried-requires c = (accepted _ _ _ (passes (goal.at.dispatch-carried-requires c).In_ok-call_refusal)).sized
+
+pub returns-clause-answer_value : goal.returns-clause-answer_value
+returns-clause-answer_value c =
     let a = c.args in
-    let q = short_refused a.table.now a.registered a.out.now (omega arith) c.call_refusal.result c.call_refusal.ensures in
-    record {
-      replied_value = q.answers _;
-      registered_value = q.keeps _ _;
-      table_after = q.leaves _ _;
-      out_after = q.leaves _ _;
-    }
+    let p = passes (goal.at.returns-clause-answer_value c).In_ok-call_refusal in
+    let same = with_room a.table.now a.registered.now a.heard a.id a.body.now a.out.now (accepted _ _ _ p).room in
+    let reply = ap (λ (x : CarriedOut). x.reply) c.dispatch-carried.ensures.value in
+    c.send.ensures.value
+    ∙ ap (λ (x : Reply). with_slot (status_answer x a.out.now) x.slot) reply
+    ∙ (rw (same.refusals ∙ p) at same.as_one.same_answer_lem)
 
--- the two calls, where the reply buffer has room
-both : (r : After-carry_out-carried) → let a = r.args in
-    SameAsOne a.table.now a.registered a.heard a.id a.body.now a.out.now
-both r =
-    let a = r.args in
-    (with_room a.table.now a.registered a.heard a.id a.body.now a.out.now (omega arith)).as_one
-
-pub returns-in_default : goal.returns-in_default
-returns-in_default c =
+pub returns-clause-out_after : goal.returns-clause-out_after
+returns-clause-out_after c =
     let a = c.args in
-    let e = c.carry_out-carried.ensures in
-    let s = both (goal.at.returns-in_default c).After-carry_out-carried in
-    let q = fault_answered (state_refusal a.table.now a.registered) c.carry_out-carried.result.refused e.refused_value _ c.in_default.is in
-    record {
-      replied_value = q.stops _ _ ∙ s.same_answer_lem;
-      registered_value = e.registered_value ∙ s.same_registered_lem;
-      table_after = e.table_after ∙ s.same_table;
-      out_after = q.leaves _ _ ∙ s.same_reply;
-    }
-
-pub returns : goal.returns
-returns c =
-    let a = c.args in
-    let e = c.carry_out-carried.ensures in
-    let s = both (goal.at.returns c).After-carry_out-carried in
-    let f = no_fault (state_refusal a.table.now a.registered) c.carry_out-carried.result.refused e.refused_value _ _ c.in-Sent.is in
-    let q = rw f at e.reply_value in record {
-      replied_value = c.send.ensures.value ∙ ap (λ (x : Reply). with_slot (status_answer x a.out.now) x.slot) q ∙ rw f at s.same_answer_lem;
-      registered_value = e.registered_value ∙ s.same_registered_lem;
-      table_after = e.table_after ∙ s.same_table;
-      out_after = c.send.ensures.out_after ∙ ap (λ (x : Reply). status_out x a.out.now) q ∙ rw f at s.same_reply;
-    }
+    let p = passes (goal.at.returns-clause-out_after c).In_ok-call_refusal in
+    let same = with_room a.table.now a.registered.now a.heard a.id a.body.now a.out.now (accepted _ _ _ p).room in
+    let reply = ap (λ (x : CarriedOut). x.reply) c.dispatch-carried.ensures.value in
+    c.send.ensures.out_after ∙ ap (λ (x : Reply). status_out x a.out.now) reply ∙ (rw (same.refusals ∙ p) at same.as_one.same_reply)

@@ -1,11 +1,7 @@
 use mathlib.Core.Path.{refl}
 use Rattle.device_instructions.specs.Instructions.{factory_reset}
-use Rattle.device_instructions.proofs.Sized.{not_done}
 use Rattle.device_instructions.proofs.Options.{option_is, option_other}
 use Rattle.device_instructions.proofs.factory_reset.Goals as goal
-
-pub returns-then-table-ne-TABLE_BYTES : goal.returns-then-table-ne-TABLE_BYTES
-returns-then-table-ne-TABLE_BYTES c = let a = c.args in let both = not_done a.table.now a.registered (factory_reset a.table.now a.registered a.option) _ _ c.if-table-ne-TABLE_BYTES.true c.without_data.ensures refl in record { value = both.0; table_after = both.1 }
 
 pub returns-in-255 : goal.returns-in-255
 unfolding factory_reset
@@ -20,4 +16,4 @@ unfolding factory_reset
 returns-in-2 c = let both = option_is _ _ c.if-table-ne-TABLE_BYTES.false _ _ _ 0x02 _ refl c.in-2.is c.reset_with-in-2.ensures.value c.reset_with-in-2.ensures.table_after in record { value = both.0; table_after = both.1 }
 
 pub returns-in_default : goal.returns-in_default
-returns-in_default c = let n = c.in_default.in_default-own.rest in let both = option_other _ _ c.if-table-ne-TABLE_BYTES.false _ _ _ n.0.0.1 n.0.1 n.1 c.without_data-in_default.ensures refl in record { value = both.0; table_after = both.1 }
+returns-in_default c = let n = c.in_default.in_default-own.rest in let both = option_other _ _ c.if-table-ne-TABLE_BYTES.false _ _ _ n.0.0.1 n.0.1 n.1 refl refl in record { value = both.0; table_after = both.1 }

@@ -1,19 +1,16 @@
-use mathlib.Core.List.{[]}
-use mathlib.Core.Path.{sym, ap, ◌∙◌}
-use Prim.Native.Nat.{ℕ}
-use Rattle.device_instructions.specs.Results.{done_with}
+use mathlib.Core.Path.{◌∙◌}
+use Rattle.device_instructions.proofs.Denied.{denied}
 use Rattle.device_instructions.proofs.Effects.{read_refused, read_done}
 use Rattle.device_instructions.proofs.read.Goals as goal
 
-pub returns-then-not-is_done : goal.returns-then-not-is_done
-returns-then-not-is_done c =
+pub returns-in_err-bytes : goal.returns-in_err-bytes
+returns-in_err-bytes c =
     λ w.
-    ap (λ (error : ℕ). done_with error [] w) c.error_of.ensures
-    ∙ read_refused c.args.table.now w c.args.address c.args.count c.read-reading.result.outcome c.read-reading.ensures.outcome_value
-    (sym c.is_done.ensures ∙ c.if-not-is_done.true)
+    denied c.from_residual.result c.in_err-bytes.field-0.0 c.from_residual.ensures.1 w
+    ∙ read_refused c.args.table.now w c.args.address c.args.count _ c.in_err-bytes.ensures.outcome_value
 
 pub returns : goal.returns
 returns c =
     λ w.
-    read_done c.args.table.now w c.args.address c.args.count c.read-reading.result.outcome c.read-reading.ensures.outcome_value
-    (sym c.is_done.ensures ∙ c.if-not-is_done.false) c.read-reading.result.bytes c.read-reading.ensures.bytes_value
+    rw c.from.ensures
+    (read_done c.args.table.now w c.args.address c.args.count c.in_ok-bytes.ensures.outcome_value c.in_ok-bytes.bytes c.in_ok-bytes.ensures.bytes_value)

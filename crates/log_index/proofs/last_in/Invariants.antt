@@ -1,13 +1,8 @@
+use Rattle.std.specs.Prelude.{None}
 use mathlib.Core.Path.{◌≡◌}
-use Prim.Native.Nat.{◌-◌}
-use lib.ListN.{length}
-use Rattle.reader_plain.proofs.Left.{left}
-use Rattle.log_index.specs.Last.{last_packet}
-use Rattle.log_index.proofs.Rounds.{or_else}
+use Rattle.log_index.specs.Events.{events_left}
+use Rattle.log_index.proofs.Rounds.{last_by}
 use Rattle.log_index.proofs.last_in.Given as goal
 
-abbrev pub invariant-loop-offset : goal.invariant-loop-offset
-invariant-loop-offset l = or_else (last_packet l.wanted (left l.segment 0)) l.initial.last ≡ or_else (last_packet l.wanted (left l.segment l.from)) l.last
-
-abbrev pub decreases-loop-offset : goal.decreases-loop-offset
-decreases-loop-offset l = length l.segment - l.from
+abbrev pub invariant-loop-event : goal.invariant-loop-event
+invariant-loop-event l = last_by l.wanted None (events_left l.segment 0) ≡ last_by l.wanted l.last (events_left l.event-iterator.segment.now l.event-iterator.from)

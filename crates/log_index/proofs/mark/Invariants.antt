@@ -1,12 +1,7 @@
 use mathlib.Core.Path.{◌≡◌}
-use Prim.Native.Nat.{◌-◌}
-use lib.ListN.{length}
-use Rattle.reader_plain.proofs.Left.{left}
-use Rattle.log_index.specs.Marks.{marked}
+use Rattle.log_index.specs.Events.{events_left}
+use Rattle.log_index.proofs.Rounds.{marked_by}
 use Rattle.log_index.proofs.mark.Given as goal
 
-abbrev pub invariant-loop-next : goal.invariant-loop-next
-invariant-loop-next l = marked l.number l.initial.index (left l.segment 0) ≡ marked l.number l.index (left l.segment l.from)
-
-abbrev pub decreases-loop-next : goal.decreases-loop-next
-decreases-loop-next l = length l.segment - l.from
+abbrev pub invariant-loop-event : goal.invariant-loop-event
+invariant-loop-event l = marked_by l.number l.initial.index (events_left l.segment 0) ≡ marked_by l.number l.index (events_left l.event-iterator.segment.now l.event-iterator.from)

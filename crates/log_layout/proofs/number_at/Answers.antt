@@ -1,14 +1,15 @@
-use mathlib.Core.Path.{sym, ◌∙◌}
-use native.Mathlib.Omega.{arith}
-use Rattle.lists.proofs.Numbers.{four_bytes}
-use Rattle.log_layout.proofs.Rounds.{u32_behind, u32_tail}
+use mathlib.Core.Path.{ap, ◌∙◌}
+use Prim.Native.Nat.{ℕ}
+use mathlib.Core.List.{List}
+use Rattle.lists.proofs.Numbers.{read_is, four_bytes}
+use Rattle.log_layout.specs.Layout.{u32_at}
+use Rattle.log_layout.proofs.Rounds.{u32_here}
 use Rattle.log_layout.proofs.number_at.Goals as goal
 
-pub returns-then-file-offset : goal.returns-then-file-offset
-returns-then-file-offset c = let a = c.args in sym (u32_behind a.file.now a.offset (omega arith))
+pub returns-in_default : goal.returns-in_default
+returns-in_default c =
+    rw (c.byte_at.ensures, c.byte_at-in_default.ensures, c.byte_at-in_default-2.ensures, c.byte_at-in_default-3.ensures) at c.from_le_bytes.ensures ∙ read_is _ _ _ _ ∙ four_bytes _ 0 ∙ ap (λ (s : List ℕ). u32_at s 0) c.behind.ensures ∙ u32_here _ _
 
-pub returns-then-file-offset-lt4 : goal.returns-then-file-offset-lt4
-returns-then-file-offset-lt4 c = let a = c.args in c.cut_number.ensures ∙ u32_tail a.file.now a.offset
-
-pub returns : goal.returns
-returns c = c.number_of.ensures ∙ four_bytes _ _
+pub returns-in-len4-up : goal.returns-in-len4-up
+returns-in-len4-up c =
+    c.from_le_bytes-in-len4-up.ensures ∙ read_is _ _ _ _ ∙ four_bytes _ 0 ∙ ap (λ (s : List ℕ). u32_at s 0) c.behind.ensures ∙ u32_here _ _

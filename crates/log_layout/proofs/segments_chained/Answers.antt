@@ -1,25 +1,27 @@
+use mathlib.Core.Path.{◌≡◌, sym, ap, ◌∙◌}
+use mathlib.Core.List.{List}
+use Prim.Native.Nat.{◌+◌}
+use lib.ListN.{length}
 use borrow.Author.Rules.{rules}
-use mathlib.Core.Path.{◌≡◌, sym, ◌∙◌}
-use Prim.Native.Nat.{◌-◌}
-use Rattle.log_layout.specs.Layout.{entries, chained}
-use Rattle.log_layout.proofs.Rounds.{chained_apart, chained_next}
+use Rattle.log_layout.specs.Log.{LogEntry}
+use Rattle.log_layout.specs.Layout.{entry_of, chained}
+use Rattle.log_layout.proofs.Rounds.{left_end, chained_apart, chained_next}
 use Rattle.log_layout.proofs.segments_chained.Goals as goal
 
-pub returns-then-number_at-start : goal.returns-then-number_at-start
-returns-then-number_at-start c =
-    let l = c.loop-left in
-    sym (l.invariant.1 ∙ chained_apart _ _ l.left (l.left - 1) (search rules) _ _ (λ e. c.if-number_at-start.true (c.number_at.ensures ∙ e)))
+pub returns-then-next-end : goal.returns-then-next-end
+returns-then-next-end c =
+    let l = c.loop-number in
+    sym (l.invariant ∙ chained_apart c.args.file.now c.args.count l.number (search rules) l.end _ (search rules))
 
-pub loop-left-preserved : goal.loop-left-preserved
-loop-left-preserved c = (
-  search rules,
-  let l = c.loop-left in
-      l.invariant.1 ∙ chained_next _ _ l.left (l.left - 1) (search rules) _ _ (sym c.number_at.ensures ∙ c.if-number_at-start.false)
-      ∙ rw c.number_at-in-loop-left.ensures,
-)
+pub loop-number-preserved : goal.loop-number-preserved
+loop-number-preserved c =
+    let l = c.loop-number in
+    let f = c.args.file.now in
+    let e : l.end + (entry_of f l.number).1 ≡ c.end-end.result = search rules in
+    l.invariant ∙ chained_next f c.args.count l.number (search rules) l.end _ (search rules) ∙ rw e
 
 pub returns : goal.returns
-unfolding chained entries
+unfolding chained
 returns c =
-    let z : c.loop-left.left ≡ 0 = search rules in
-    sym (c.loop-left.invariant.1 ∙ rw z)
+    let l = c.loop-number in
+    sym (l.invariant ∙ ap (λ (es : List LogEntry). chained es l.end (length c.args.file.now)) (left_end c.args.file.now c.args.count l.number (search rules)))

@@ -33,20 +33,20 @@ loop-i-init c =
     leb-true _ _ (sym c.has_room.ensures ∙ c.if-not-has_room.false) in
     let p = 16 + 8 * a.segments in
     let e : p + 0 ≡ p = omega arith in
-    (search rules, refl, h, rw e (fill_from _ _ _ (omega (arith, h))))
+    (refl, h, rw e (fill_from _ _ _ (omega (arith, h))))
 
 pub loop-i-preserved : goal.loop-i-preserved
 loop-i-preserved c =
     let l = c.loop-i in
     let a = c.args in
     let n : length a.index ≡ 254 = search rules in
-    let f = fill_index _ _ l.out _ a.index (16 + 8 * a.segments) l.i (search rules) l.invariant.3 (omega (arith, l.invariant.2)) c.put_number.ensures in
-    (search rules, fill_length _ _ _ _ _ f, l.invariant.2, f)
+    let f = fill_index _ _ l.out _ a.index (16 + 8 * a.segments) l.i (search rules) l.invariant.2 (omega (arith, l.invariant.1)) c.put_number.ensures in
+    (fill_length _ _ _ _ _ f, l.invariant.1, f)
 
 pub returns : goal.returns
 returns c =
     let l = c.loop-i in
     let a = c.args in
     let n : length a.index ≡ 254 = search rules in
-    filled_end a.out.now _ l.out (16 + 8 * a.segments) _ _ (omega (arith, l.invariant.2)) (numbers_end a.index l.i (search rules)) l.invariant.3
-    ∙ sym (put_fits _ _ _ _ l.invariant.2)
+    filled_end a.out.now _ l.out (16 + 8 * a.segments) _ _ (omega (arith, l.invariant.1)) (numbers_end a.index l.i (search rules)) l.invariant.2
+    ∙ sym (put_fits _ _ _ _ l.invariant.1)

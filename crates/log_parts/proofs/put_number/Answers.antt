@@ -1,19 +1,13 @@
+use mathlib.Core.Path.{ap, ◌∙◌}
 use native.Mathlib.Omega.{arith}
-use lib.ListN.{length-set}
-use Rattle.log_parts.proofs.Numbers.{four_sets}
-use borrow.Author.Rules.{rules}
+use lib.ListN.{take}
+use Rattle.std.proofs.lemmas.Grind.{common_steps}
+use Rattle.lists.proofs.Numbers.{written_first, bytes_length}
 use Rattle.log_parts.proofs.put_number.Goals as goal
-
-pub bounds-out-at-2 : goal.bounds-out-at-2
-bounds-out-at-2 c = simp length-set (omega arith)
-
-pub bounds-out-at-3 : goal.bounds-out-at-3
-bounds-out-at-3 c = simp length-set (omega arith)
-
-pub bounds-out-at-4 : goal.bounds-out-at-4
-bounds-out-at-4 c = simp length-set (omega arith)
 
 pub returns : goal.returns
 returns c =
-    let a = c.args in
-    four_sets a.out.now c.bytes_of-bytes.result a.at a.value c.bytes_of-bytes.ensures (search rules)
+    let v = c.args.value in
+    let e = c.copy_from_slice.ensures.after ∙ ap (take 4) c.to_le_bytes.ensures ∙ written_first v in
+    let n = bytes_length 4 v in
+    rw e (grind (arith, common_steps))

@@ -1,7 +1,10 @@
-use mathlib.Core.Path.{◌≡◌}
+use mathlib.Core.Path.{◌≡◌, ap, ◌∙◌}
 use Prim.Native.Nat.{◌≤◌}
 use native.Mathlib.Omega.{arith}
 use lib.ListN.{length}
+use Rattle.log_index.specs.Last.{index_size}
+use Rattle.log_index.proofs.Index.{index_length}
+use Rattle.log_salvage.proofs.Rounds.{index_differs}
 use Rattle.log_kept.specs.Kept.{entry_count}
 use Rattle.log_kept.specs.Sorting.{counts}
 use Rattle.log_salvage.proofs.Answer.{counted_size, counted_left, counted_kept, figures_are}
@@ -38,12 +41,14 @@ pub overflow_sub-result-2 : goal.overflow_sub-result-2
 overflow_sub-result-2 c =
     let a = c.args in
     let e : a.sorted ≡ counts a.file.now (entry_count a.file.now) = search rules in
-    counted_left a.file.now a.sorted e (search rules) _ c.entry_count-count.ensures
+    rw c.segments_offset.ensures (counted_left a.file.now a.sorted e (search rules) _ c.entry_count-count.ensures)
 
 pub returns : goal.returns
 returns c =
     let a = c.args in
     let l = c.put_log-index in
     let e : a.sorted ≡ counts a.file.now (entry_count a.file.now) = search rules in
-    let both = figures_are a.file.now a.out.now _ a.sorted _ _ _ _ e c.entry_count-count.ensures l.ensures.value c.index_changed.ensures l.ensures.out_after c.header_changed.ensures in
-    record { value = both.0; out_after = both.1 }
+    let marks = ap length l.ensures.value ∙ index_length index_size 0 _ in
+    let changed = c.index_changed.ensures ∙ index_differs _ l.result _ marks in
+    let both = figures_are a.file.now a.out.now _ a.sorted _ _ _ _ e c.entry_count-count.ensures l.ensures.value changed l.ensures.out_after c.header_changed.ensures in
+    record { value = rw c.segments_offset.ensures both.0; out_after = both.1 }

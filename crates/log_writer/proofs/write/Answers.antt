@@ -4,16 +4,17 @@ use borrow.Author.Tests.{eqb-true}
 use Rattle.answers.specs.declared.Refusal.TheVariants.{BadLog, NoRoom}
 use Rattle.log_writer.proofs.Parts.{refused_sum, refused_long, refused_room, not_refused, refusing, writing, written_length}
 use Rattle.log_writer.proofs.write.Goals as goal
+use Rattle.log_writer.proofs.write.Goals.{then-not-adds_up-via-then-not-adds_up, then-not-adds_up-via-else-not-adds_up+then-lengths-gt-MOST_SEGMENTS}
 
 pub returns-then-not-adds_up : goal.returns-then-not-adds_up
 returns-then-not-adds_up c =
-    let a = c.args in let both = refusing a.bytes.now a.lengths.now a.out.now BadLog
-    (refused_sum _ _ _ (sym c.adds_up.ensures ∙ c.if-not-adds_up.true)) in record { value = both.0; out_after = both.1 }
-
-pub returns-then-lengths-gt-MOST_SEGMENTS : goal.returns-then-lengths-gt-MOST_SEGMENTS
-returns-then-lengths-gt-MOST_SEGMENTS c =
-    let a = c.args in let both = refusing a.bytes.now a.lengths.now a.out.now BadLog
-    (refused_long _ _ _ (sym c.adds_up.ensures ∙ c.if-not-adds_up.false) (omega (arith, c.if-lengths-gt-MOST_SEGMENTS.true))) in record { value = both.0; out_after = both.1 }
+    let a = c.args in
+    let both = refusing a.bytes.now a.lengths.now a.out.now BadLog
+    (elim c.then-not-adds_up.branch [
+      | then-not-adds_up-via-then-not-adds_up w ↦ refused_sum a.bytes.now a.lengths.now a.out.now (sym c.adds_up.ensures ∙ w.if-not-adds_up.true)
+      | then-not-adds_up-via-else-not-adds_up+then-lengths-gt-MOST_SEGMENTS w ↦ refused_long a.bytes.now a.lengths.now a.out.now (sym c.adds_up.ensures ∙ w.if-not-adds_up.false) (omega (arith, w.if-lengths-gt-MOST_SEGMENTS.true))
+    ]) in
+    record { value = both.0; out_after = both.1 }
 
 pub returns-then-first-bytes : goal.returns-then-first-bytes
 returns-then-first-bytes c =

@@ -53,5 +53,5 @@ returns-in_default c =
 pub returns : goal.returns
 returns c =
     let good : well_stuffed (body_of c.args.packet.now) ≡ true =
-    (checked_good _ _ (ap checked (sym c.body.ensures) ∙ sym c.check.ensures ∙ c.in-Good.is)).0 in
+    (checked_good _ _ (ap checked (sym c.body.ensures) ∙ sym c.check.ensures ∙ c.in-Some.is)).0 in
     rw (enough (goal.at.returns c).After-word, sum_test (goal.at.returns c).After-word ∙ eq-eqb _ _ c.if-crc-word.false, good)

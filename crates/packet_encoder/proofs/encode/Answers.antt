@@ -13,16 +13,16 @@ use Rattle.packet_encoder.specs.Writing.{packet_of}
 use Rattle.packet_encoder.specs.Encoding.{encode_refusal}
 use Rattle.packet_encoder.proofs.Writing.{packet_length}
 use Rattle.packet_encoder.proofs.encode.Goals as goal
-use Rattle.packet_encoder.proofs.encode.Goals.{In-Within}
+use Rattle.packet_encoder.proofs.encode.Goals.{In-Some}
 
 -- what is known once the length is measured
-module _ (p : In-Within) where
+module _ (p : In-Some) where
   good : good_id p.args.id ≡ true
   good = sym p.good_id.ensures ∙ p.if-not-good_id.false
 
   measured : (length (stuff (p.args.instruction ∷ p.args.params.now)) ≤ 1022)
-      × (length (stuff (p.args.instruction ∷ p.args.params.now)) ≡ p.in-Within.n)
-  measured = is_within 1022 _ _ (sym p.stuffed_len.ensures ∙ p.in-Within.is)
+      × (length (stuff (p.args.instruction ∷ p.args.params.now)) ≡ p.in-Some.n)
+  measured = is_within 1022 _ _ (sym p.stuffed_len.ensures ∙ p.in-Some.is)
 
 pub returns-then-not-good_id : goal.returns-then-not-good_id
 unfolding encode_refusal
@@ -47,38 +47,25 @@ returns-in_default c =
       out_after = rw (g, l);
     }
 
-pub returns-then-out-at : goal.returns-then-out-at
-unfolding encode_refusal
-returns-then-out-at c =
-    let a = c.args in
-    let b = a.instruction ∷ a.params.now in
-    let m = measured (goal.at.returns-then-out-at c).In-Within in
-    let l = le-leb (length (stuff b) + 2) 1024 (omega arith) in
-    let r = lt-leb (a.at + length (packet_of a.id b)) (length a.out.now) (omega (arith, packet_length a.id b, c.if-out-at.true)) in
-    record {
-      value = rw (good (goal.at.returns-then-out-at c).In-Within, l, r);
-      out_after = rw (good (goal.at.returns-then-out-at c).In-Within, l, r);
-    }
-
 pub overflow_add-n : goal.overflow_add-n
-overflow_add-n c = omega (arith, measured (goal.at.overflow_add-n c).In-Within)
+overflow_add-n c = omega (arith, measured (goal.at.overflow_add-n c).In-Some)
 
-pub returns-then-out-at-2 : goal.returns-then-out-at-2
+pub returns-then-saturating_sub-n : goal.returns-then-saturating_sub-n
 unfolding encode_refusal
-returns-then-out-at-2 c =
+returns-then-saturating_sub-n c =
     let a = c.args in
     let b = a.instruction ∷ a.params.now in
-    let m = measured (goal.at.returns-then-out-at-2 c).In-Within in
+    let m = measured (goal.at.returns-then-saturating_sub-n c).In-Some in
     let l = le-leb (length (stuff b) + 2) 1024 (omega arith) in
-    let r = lt-leb (a.at + length (packet_of a.id b)) (length a.out.now) (omega (arith, packet_length a.id b, c.if-out-at-2.true)) in
+    let r = lt-leb (a.at + length (packet_of a.id b)) (length a.out.now) (omega (arith, packet_length a.id b, c.if-saturating_sub-n.true)) in
     record {
-      value = rw (good (goal.at.returns-then-out-at-2 c).In-Within, l, r);
-      out_after = rw (good (goal.at.returns-then-out-at-2 c).In-Within, l, r);
+      value = rw (good (goal.at.returns-then-saturating_sub-n c).In-Some, l, r);
+      out_after = rw (good (goal.at.returns-then-saturating_sub-n c).In-Some, l, r);
     }
 
 pub write_packet-requires : goal.write_packet-requires
 write_packet-requires c =
-    let m = measured (goal.at.write_packet-requires c).In-Within in
+    let m = measured (goal.at.write_packet-requires c).In-Some in
     (sym m.1, omega arith, simp (length-take, length-drop) (omega arith))
 
 pub returns : goal.returns
@@ -86,13 +73,13 @@ unfolding encode_refusal
 returns c =
     let a = c.args in
     let b = a.instruction ∷ a.params.now in
-    let m = measured (goal.at.returns c).In-Within in
-    let h = c.if-out-at.false in
+    let m = measured (goal.at.returns c).In-Some in
+    let h : a.at ≤ length a.out.now = omega arith in
     let l = le-leb (length (stuff b) + 2) 1024 (omega arith) in
     let r =
     le-leb (a.at + length (packet_of a.id b)) (length a.out.now)
-    (omega (arith, packet_length a.id b, c.if-out-at-2.false)) in
-    let n : length (packet_of a.id b) ≡ c.in-Within.n + 9 = omega (arith, packet_length a.id b) in record {
-      value = rw (good (goal.at.returns c).In-Within, l, r, n);
-      out_after = rw (good (goal.at.returns c).In-Within, l, r) (tail_placed a.at a.out.now _ (packet_of a.id b) h c.write_packet.ensures);
+    (omega (arith, packet_length a.id b, c.if-saturating_sub-n.false)) in
+    let n : length (packet_of a.id b) ≡ c.in-Some.n + 9 = omega (arith, packet_length a.id b) in record {
+      value = rw (good (goal.at.returns c).In-Some, l, r, n);
+      out_after = rw (good (goal.at.returns c).In-Some, l, r) (tail_placed a.at a.out.now _ (packet_of a.id b) h c.write_packet.ensures);
     }

@@ -1,25 +1,18 @@
-use mathlib.Core.Path.{ap, ◌∙◌}
-use mathlib.Core.List.{[], ◌∷◌, ◌++◌}
-use Prim.Native.Nat.{ℕ}
-use native.Mathlib.Numerals.{add-one}
-use native.Mathlib.Omega.{arith}
-use lib.ListN.{take, length-set}
+use Rattle.std.proofs.Common.{◌∷◌, [], ◌++◌, take, ap, ℕ, ◌∙◌, arith}
+use Rattle.std.proofs.lemmas.Slice.{put_mid-paste}
 use Rattle.lists.specs.Write.{overwritten}
 use Rattle.crc.specs.Crc.{crc_from}
 use Rattle.packet.proofs.Header.{after_header}
 use Rattle.packet_encoder.specs.Writing.{with_checksum, low, high}
-use Rattle.packet_encoder.proofs.Lists.{set_two}
+use Rattle.packet_encoder.proofs.Lists.{pasted}
 use Rattle.packet_encoder.proofs.write_checksum.Goals as goal
-
-pub bounds-out-end-2 : goal.bounds-out-end-2
-bounds-out-end-2 c = simp length-set (omega arith)
 
 pub returns : goal.returns
 unfolding with_checksum
 returns c =
     let a = c.args in
     let s = take a.end a.out.now in
-    rw (add-one)
-    (set_two a.out.now a.end _ _ c.requires.1
-    ∙ ap (λ (x : ℕ). overwritten a.out.now (s ++ low x ∷ high x ∷ []))
-    (c.checksum-crc.ensures ∙ ap (crc_from 0) (after_header a.out.now a.end c.requires.2 c.requires.0)))
+    let sum = c.checksum-crc.ensures ∙ ap (crc_from 0) (after_header a.out.now a.end c.requires.2 c.requires.0) in
+    put_mid-paste a.end _ a.out.now _ _ 2 (c.copy_from_slice.ensures.after ∙ c.to_le_bytes.ensures) (omega arith) (omega arith)
+    ∙ pasted a.out.now _ a.end 2 (omega arith) c.requires.1
+    ∙ ap (λ (x : ℕ). overwritten a.out.now (s ++ low x ∷ high x ∷ [])) sum

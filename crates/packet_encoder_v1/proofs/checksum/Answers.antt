@@ -1,4 +1,4 @@
-use native.Mathlib.Omega.{arith}
+use Rattle.std.proofs.Common.{arith}
 use Rattle.packet_v1.specs.Packet.{sum}
 use Rattle.packet_encoder_v1.proofs.checksum.Goals as goal
 

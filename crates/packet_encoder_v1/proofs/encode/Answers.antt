@@ -27,38 +27,26 @@ returns-then-not-good_id c =
       out_after = rw e;
     }
 
-pub returns-then-n-gt253 : goal.returns-then-n-gt253
+pub returns-then-n-gt-MOST_PARAMETERS : goal.returns-then-n-gt-MOST_PARAMETERS
 unfolding encode_refusal
-returns-then-n-gt253 c =
+returns-then-n-gt-MOST_PARAMETERS c =
     let a = c.args in
-    let l = lt-leb (length (a.instruction ∷ a.params.now) + 1) 255 (omega (arith, c.if-n-gt253.true)) in
+    let l = lt-leb (length (a.instruction ∷ a.params.now) + 1) 255 (omega (arith, c.if-n-gt-MOST_PARAMETERS.true)) in
     record {
-      value = rw (good (goal.at.returns-then-n-gt253 c).Else-not-good_id, l);
-      out_after = rw (good (goal.at.returns-then-n-gt253 c).Else-not-good_id, l);
+      value = rw (good (goal.at.returns-then-n-gt-MOST_PARAMETERS c).Else-not-good_id, l);
+      out_after = rw (good (goal.at.returns-then-n-gt-MOST_PARAMETERS c).Else-not-good_id, l);
     }
 
-pub returns-then-out-at : goal.returns-then-out-at
+pub returns-then-saturating_sub-n : goal.returns-then-saturating_sub-n
 unfolding encode_refusal
-returns-then-out-at c =
+returns-then-saturating_sub-n c =
     let a = c.args in
     let b = a.instruction ∷ a.params.now in
-    let l = le-leb (length b + 1) 255 (omega (arith, c.if-n-gt253.false)) in
-    let r = lt-leb (a.at + length (packet_of a.id b)) (length a.out.now) (omega (arith, packet_length a.id b, c.if-out-at.true)) in
+    let l = le-leb (length b + 1) 255 (omega (arith, c.if-n-gt-MOST_PARAMETERS.false)) in
+    let r = lt-leb (a.at + length (packet_of a.id b)) (length a.out.now) (omega (arith, packet_length a.id b, c.if-saturating_sub-n.true)) in
     record {
-      value = rw (good (goal.at.returns-then-out-at c).Else-not-good_id, l, r);
-      out_after = rw (good (goal.at.returns-then-out-at c).Else-not-good_id, l, r);
-    }
-
-pub returns-then-out-at-2 : goal.returns-then-out-at-2
-unfolding encode_refusal
-returns-then-out-at-2 c =
-    let a = c.args in
-    let b = a.instruction ∷ a.params.now in
-    let l = le-leb (length b + 1) 255 (omega (arith, c.if-n-gt253.false)) in
-    let r = lt-leb (a.at + length (packet_of a.id b)) (length a.out.now) (omega (arith, packet_length a.id b, c.if-out-at-2.true)) in
-    record {
-      value = rw (good (goal.at.returns-then-out-at-2 c).Else-not-good_id, l, r);
-      out_after = rw (good (goal.at.returns-then-out-at-2 c).Else-not-good_id, l, r);
+      value = rw (good (goal.at.returns-then-saturating_sub-n c).Else-not-good_id, l, r);
+      out_after = rw (good (goal.at.returns-then-saturating_sub-n c).Else-not-good_id, l, r);
     }
 
 pub returns : goal.returns
@@ -66,10 +54,10 @@ unfolding encode_refusal
 returns c =
     let a = c.args in
     let b = a.instruction ∷ a.params.now in
-    let l = le-leb (length b + 1) 255 (omega (arith, c.if-n-gt253.false)) in
+    let l = le-leb (length b + 1) 255 (omega (arith, c.if-n-gt-MOST_PARAMETERS.false)) in
     let r =
-    le-leb (a.at + length (packet_of a.id b)) (length a.out.now) (omega (arith, packet_length a.id b, c.if-out-at-2.false)) in
+    le-leb (a.at + length (packet_of a.id b)) (length a.out.now) (omega (arith, packet_length a.id b, c.if-saturating_sub-n.false)) in
     let n : length (packet_of a.id b) ≡ length a.params.now + 6 = omega (arith, packet_length a.id b) in record {
       value = rw (good (goal.at.returns c).Else-not-good_id, l, r, n);
-      out_after = rw (good (goal.at.returns c).Else-not-good_id, l, r) (tail_placed a.at a.out.now _ (packet_of a.id b) c.if-out-at.false c.write_packet.ensures);
+      out_after = rw (good (goal.at.returns c).Else-not-good_id, l, r) (tail_placed a.at a.out.now _ (packet_of a.id b) (omega arith) c.write_packet.ensures);
     }

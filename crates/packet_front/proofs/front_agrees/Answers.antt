@@ -1,11 +1,12 @@
-use mathlib.Core.Path.{sym, ◌∙◌}
-use Rattle.packet_front.specs.Header.{header_agrees, front_agrees}
+use Rattle.std.proofs.Common.{arith}
+use Rattle.std.proofs.lemmas.Grind.{common_steps}
+use Rattle.packet_front.specs.Header.{front_agrees}
 use Rattle.packet_front.proofs.front_agrees.Goals as goal
 
-pub returns-then-not-header_agrees : goal.returns-then-not-header_agrees
+pub returns-then-header_agrees : goal.returns-then-header_agrees
 unfolding front_agrees
-returns-then-not-header_agrees c = rw (sym c.header_agrees.ensures ∙ c.if-not-header_agrees.true)
+returns-then-header_agrees c = grind (arith, common_steps)
 
-pub returns : goal.returns
+pub returns-else-header_agrees : goal.returns-else-header_agrees
 unfolding front_agrees
-returns c = rw (sym c.header_agrees.ensures ∙ c.if-not-header_agrees.false) c.id_agrees.ensures
+returns-else-header_agrees c = grind (arith, common_steps)

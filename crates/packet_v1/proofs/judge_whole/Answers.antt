@@ -1,9 +1,5 @@
-use mathlib.Core.Path.{◌≡◌, ap, ◌∙◌}
-use Prim.Native.Nat.{ℕ, ◌-◌, ◌%◌}
-use native.Mathlib.Omega.{arith}
-use lib.Dec.{eqb}
-use lib.ListN.{length, take, drop, get_or}
-use borrow.Author.Tests.{eq-eqb, ne_eqb, le-leb, lt-leb}
+use Rattle.std.proofs.Common.{◌≡◌, ℕ, ◌-◌, ◌%◌, eqb, length, take, drop, get_or, ap, ◌∙◌, arith}
+use Rattle.std.proofs.lemmas.Bool.{eq-eqb, ne_eqb, le-leb}
 use Rattle.packet_v1.specs.Packet.{sum, checksum_right}
 use Rattle.packet_v1.proofs.judge_whole.Goals as goal
 use Rattle.packet_v1.proofs.judge_whole.Goals.{After-sum_from}
@@ -18,9 +14,6 @@ sum_test p =
     let e : sum (take (length w - 3) (drop 2 w)) % 256 ≡ p.sum_from.result =
     ap (λ (n : ℕ). sum (take n (drop 2 w)) % 256) k ∙ omega (arith, p.sum_from.ensures) in
     ap (λ (n : ℕ). eqb (get_or w (length w - 1) 0) (255 - n)) e
-
-pub returns-then-n-lt-V1_MIN_PACKET : goal.returns-then-n-lt-V1_MIN_PACKET
-returns-then-n-lt-V1_MIN_PACKET c = rw (lt-leb 6 (length c.args.packet.now) c.if-n-lt-V1_MIN_PACKET.true)
 
 pub returns-then-packet-end : goal.returns-then-packet-end
 returns-then-packet-end c =

@@ -1,14 +1,12 @@
-use native.Mathlib.Omega.{arith}
-use lib.ListN.{length}
-use borrow.Author.Tests.{le-ltb, lt-ltb}
-use borrow.Author.Rules.{rules}
+use Rattle.std.proofs.Common.{arith}
+use Rattle.std.proofs.lemmas.Grind.{common_steps}
 use Rattle.packet_v1.specs.Verdict.{may_begin}
 use Rattle.packet_v1.proofs.may_begin.Goals as goal
 
-pub returns-then-s-eq0 : goal.returns-then-s-eq0
+pub returns-then-not-is_empty : goal.returns-then-not-is_empty
 unfolding may_begin
-returns-then-s-eq0 c = rw (le-ltb 0 (length c.args.s.now) (omega (arith, c.if-s-eq0.true)))
+returns-then-not-is_empty c = grind (arith, common_steps)
 
-pub returns : goal.returns
+pub returns-else-not-is_empty : goal.returns-else-not-is_empty
 unfolding may_begin
-returns c = rw (lt-ltb 0 (length c.args.s.now) (search rules))
+returns-else-not-is_empty c = grind (arith, common_steps)

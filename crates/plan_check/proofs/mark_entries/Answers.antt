@@ -10,4 +10,4 @@ pub returns-in_default : goal.returns-in_default
 returns-in_default c = λ some. absurd (none_found c.args.params.now (omega (arith, c.if-params-le-LIST.false)) (sym c.sync_search.ensures ∙ c.in_default.is) some)
 
 pub mark_list-requires : goal.mark_list-requires
-mark_list-requires c = (c.requires.0, c.requires.1, some_found c.args.params.now _ _ (omega (arith, c.if-params-le-LIST.false)) (sym c.sync_search.ensures ∙ c.in-At.is))
+mark_list-requires c = (c.requires.0, c.requires.1, some_found c.args.params.now _ _ (omega (arith, c.if-params-le-LIST.false)) (sym c.in-Some.ensures))

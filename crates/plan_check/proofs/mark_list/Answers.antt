@@ -1,15 +1,16 @@
-use mathlib.Core.Path.{◌≡◌, sym, ap, ◌∙◌}
+use mathlib.Core.Path.{◌≡◌, ap, ◌∙◌}
+use mathlib.Core.Bool.{true, false}
 use Prim.Native.Nat.{ℕ, ◌+◌, ◌≤◌}
 use native.Mathlib.Omega.{arith}
 use lib.IntN.{ℤ, pos}
-use lib.ListN.{length, get_or}
+use lib.ListN.{get_or, set}
 use mir.Syntax.{w32}
 use mir.Val.{to_z, of_z}
 use mir.Facts.{to_z-of_z}
-use borrow.Author.Rules.{rules, sfits_of}
+use borrow.Author.Rules.{sfits_of}
 use Rattle.lists.specs.Numbers.{number_at}
 use Rattle.plan_check.specs.Checking.{fits}
-use Rattle.plan_check.proofs.Marks.{marking_start, whole, known, marking_new, marking_other, marking_end}
+use Rattle.plan_check.proofs.Marks.{Marking, marking_start, whole, known, marking_new, marking_other, marking_end}
 use Rattle.plan_check.proofs.mark_list.Goals as goal
 use Rattle.plan_check.proofs.mark_list.Goals.{After-entry_fits, In-loop-at}
 
@@ -21,12 +22,6 @@ module _ (c : In-loop-at) where
   id_known : get_or c.args.params.now c.loop-at.at 0 ≤ 252
   id_known =
       known c.args.goals.now c.args.params.now c.args.stood.now c.requires.2 c.loop-at.stood c.loop-at.at c.loop-at.invariant c.loop-at-test.true
-
-pub overflow_cast-id : goal.overflow_cast-id
-overflow_cast-id c = omega (arith, id_known (goal.at.overflow_cast-id c).In-loop-at)
-
-pub offset_bounds-goals-id : goal.offset_bounds-goals-id
-offset_bounds-goals-id c = omega (arith, id_known (goal.at.offset_bounds-goals-id c).In-loop-at)
 
 pub bounds-goals-id : goal.bounds-goals-id
 bounds-goals-id c = omega (arith, id_known (goal.at.bounds-goals-id c).In-loop-at, c.requires.0)
@@ -46,17 +41,10 @@ module _ (c : After-entry_fits) where
   held = to_z-of_z {w = w32} (sfits_of c.entry_fits-arg-1.given)
 
   stated : let a = c.args in
-      c.entry_fits.result ≡ fits (get_or a.goals.now id (pos 0)) (get_or c.loop-at.stood id 0) (number_at a.params.now (c.loop-at.at + 1) 4)
+      c.entry_fits.result ≡ fits (get_or a.goals.now id (pos 0)) (get_or c.loop-at.stood id false) (number_at a.params.now (c.loop-at.at + 1) 4)
   stated =
       let a = c.args in
-      c.entry_fits.ensures ∙ ap (λ (g : ℤ). fits g (get_or c.loop-at.stood id 0) (number_at a.params.now (c.loop-at.at + 1) 4)) held
-
-  fits_whole : c.loop-at.at + 5 ≤ length c.args.params.now
-  fits_whole =
-      whole c.args.goals.now c.args.params.now c.args.stood.now c.requires.2 c.loop-at.stood c.loop-at.at c.loop-at.invariant c.loop-at-test.true
-
-pub shape_of-stood-then-not-entry_fits : goal.shape_of-stood-then-not-entry_fits
-shape_of-stood-then-not-entry_fits c = c.loop-at.invariant.long ∙ sym c.requires.1
+      c.entry_fits.ensures ∙ ap (λ (g : ℤ). fits g (get_or c.loop-at.stood id false) (number_at a.params.now (c.loop-at.at + 1) 4)) held
 
 pub returns-then-not-entry_fits : goal.returns-then-not-entry_fits
 returns-then-not-entry_fits c =
@@ -66,19 +54,19 @@ returns-then-not-entry_fits c =
 pub bounds-stood-id-in-loop-at : goal.bounds-stood-id-in-loop-at
 bounds-stood-id-in-loop-at c = omega (arith, id_known (goal.at.bounds-stood-id-in-loop-at c).In-loop-at, c.loop-at.invariant.long)
 
-pub overflow_add-at : goal.overflow_add-at
-overflow_add-at c = let h = fits_whole (goal.at.overflow_add-at c).After-entry_fits in search rules
-
-pub loop-at-smaller : goal.loop-at-smaller
-loop-at-smaller c = omega (arith, fits_whole (goal.at.loop-at-smaller c).After-entry_fits)
+-- the IDs so far, and this one
+marked : (c : After-entry_fits) → c.entry_fits.result ≡ true → Marking c.args.goals.now c.args.params.now c.args.stood.now (set c.loop-at.stood (get_or c.args.params.now c.loop-at.at 0) true) (c.loop-at.at + 5)
+marked c passed =
+    marking_new c.args.goals.now c.args.params.now c.args.stood.now c.requires.2 c.loop-at.stood c.loop-at.at c.loop-at.invariant
+    c.loop-at-test.true c.requires.0 c.entry_fits.result (stated c) passed
 
 pub loop-at-preserved : goal.loop-at-preserved
-loop-at-preserved c =
-    marking_new c.args.goals.now c.args.params.now c.args.stood.now c.requires.2 c.loop-at.stood c.loop-at.at c.loop-at.invariant
-    c.loop-at-test.true c.requires.0 c.entry_fits.result (stated (goal.at.loop-at-preserved c).After-entry_fits) c.if-not-entry_fits.false
-
-pub shape_of-stood : goal.shape_of-stood
-shape_of-stood c = c.loop-at.invariant.long ∙ sym c.requires.1
+loop-at-preserved c = marked (goal.at.loop-at-preserved c).After-entry_fits c.if-not-entry_fits.false
 
 pub returns : goal.returns
 returns c = marking_end c.args.goals.now c.args.params.now c.args.stood.now c.requires.2 c.loop-at.stood c.loop-at.at c.loop-at.invariant c.loop-at-test.false
+
+pub returns-else-not-entry_fits : goal.returns-else-not-entry_fits
+returns-else-not-entry_fits c =
+    marking_end c.args.goals.now c.args.params.now c.args.stood.now c.requires.2 _ (c.loop-at.at + 5)
+    (marked (goal.at.returns-else-not-entry_fits c).After-entry_fits c.if-not-entry_fits.false) (omega arith)

@@ -8,7 +8,7 @@ use Rattle.packet.specs.Packet.{body_of}
 use Rattle.plan_check.specs.Checking.{BodySays}
 use Rattle.plan_check.proofs.Bodies.{never_refused, body_taken, packet_says}
 use Rattle.plan_check.proofs.mark_packet.Goals as goal
-use Rattle.plan_check.proofs.mark_packet.Goals.{In-Count}
+use Rattle.plan_check.proofs.mark_packet.Goals.{In-Ok}
 
 pub returns-then-packet : goal.returns-then-packet
 returns-then-packet c = λ g. absurd (c.if-packet.true g.to_all)
@@ -20,17 +20,17 @@ returns-in_default c =
     c.in_default.is)
 
 -- the buffer, once the body is in it
-taken : (k : In-Count) → let n = k.in-Count.n in
+taken : (k : In-Ok) → let n = k.in-Ok.n in
     let out = k.unstuff.new.out in
     (n ≤ length out) × (take n out ≡ unstuff (body_of k.args.packet.now))
 taken k =
-    body_taken k.args.packet.now _ k.requires.2 refl k.unstuff.result _ _ k.unstuff.ensures.value k.in-Count.is k.unstuff.ensures.out_after
+    body_taken k.args.packet.now _ k.requires.2 refl k.unstuff.result _ _ k.unstuff.ensures.value k.in-Ok.is k.unstuff.ensures.out_after
 
 pub slice_bounds-mark_body-end : goal.slice_bounds-mark_body-end
-slice_bounds-mark_body-end c = sym (length-take-le _ _ (taken (goal.at.slice_bounds-mark_body-end c).In-Count).0)
+slice_bounds-mark_body-end c = sym (length-take-le _ _ (taken (goal.at.slice_bounds-mark_body-end c).In-Ok).0)
 
 pub returns : goal.returns
 returns c =
     packet_says c.args.goals.now c.args.stood.now c.args.packet.now c.mark_body.new.stood c.mark_body.result c.requires.2
     c.if-packet.false
-    (subst (λ (l : List ℕ). BodySays c.args.goals.now c.args.stood.now l c.mark_body.new.stood c.mark_body.result) (taken (goal.at.returns c).In-Count).1 c.mark_body.ensures)
+    (subst (λ (l : List ℕ). BodySays c.args.goals.now c.args.stood.now l c.mark_body.new.stood c.mark_body.result) (taken (goal.at.returns c).In-Ok).1 c.mark_body.ensures)

@@ -14,7 +14,7 @@ few : (a : Start) → length (take a.args.count a.args.held.now) ≤ a.args.coun
 few a = omega (arith, length-take a.args.count a.args.held.now)
 
 pub returns-then-count-gt-MAX_HELD : goal.returns-then-count-gt-MAX_HELD
-returns-then-count-gt-MAX_HELD c = rw (lt-leb _ 1030 c.if-count-gt-MAX_HELD.true) (c.stepped.ensures, refl, refl)
+returns-then-count-gt-MAX_HELD c = rw (lt-leb _ 1030 c.if-count-gt-MAX_HELD.true) (refl, refl, refl)
 
 pub clear_reached-requires : goal.clear_reached-requires
 unfolding call

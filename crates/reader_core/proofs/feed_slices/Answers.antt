@@ -160,8 +160,8 @@ returns-in-Packet c =
     let full = filled_full c.args.protocol _ _ _ _ _ (filled (goal.at.returns-in-Packet c).After-fill) _ c.in-Full.is in
     let j = c.judge_longest.ensures in record {
       delivered = full_packet c.args.protocol _ _ _ c.fill.new.held _ _ c.loop-seen.invariant.3 full.2 full.1 (size g same' full) _ _ _ _ _
-          (was_packet _ _ _ (sym j.value ∙ c.in-Packet.is)) c.stepped.ensures c.id_in-id.ensures j.packet_after.0;
-      spared = to_spared_full g same' full _ _ _ _ (ap (λ (x : Step). x.taken) c.stepped.ensures) j.packet_after.1;
+          (was_packet _ _ _ (sym j.value ∙ c.in-Packet.is)) refl c.id_in-id.ensures j.packet_after.0;
+      spared = to_spared_full g same' full _ _ _ _ refl j.packet_after.1;
     }
 
 pub returns-in-BadChecksum : goal.returns-in-BadChecksum
@@ -171,8 +171,8 @@ returns-in-BadChecksum c =
     let full = filled_full c.args.protocol _ _ _ _ _ (filled (goal.at.returns-in-BadChecksum c).After-fill) _ c.in-Full.is in
     let j = c.judge_longest.ensures in record {
       delivered = full_bad c.args.protocol _ _ _ c.fill.new.held _ _ c.loop-seen.invariant.3 full.2 full.1 (size g same' full) _ _ _ _ _
-          (was_bad _ _ _ (sym j.value ∙ c.in-BadChecksum.is)) c.stepped-in-BadChecksum.ensures refl j.packet_after.1;
-      spared = to_spared_full g same' full _ _ _ _ (ap (λ (x : Step). x.taken) c.stepped-in-BadChecksum.ensures) j.packet_after.1;
+          (was_bad _ _ _ (sym j.value ∙ c.in-BadChecksum.is)) refl refl j.packet_after.1;
+      spared = to_spared_full g same' full _ _ _ _ refl j.packet_after.1;
     }
 
 pub loop-seen-smaller : goal.loop-seen-smaller

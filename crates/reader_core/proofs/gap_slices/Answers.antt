@@ -39,7 +39,7 @@ slice_bounds-scan_closed-end-2 c = sym (length-take-le _ _ (search rules))
 pub returns-in-Waiting : goal.returns-in-Waiting
 returns-in-Waiting c =
     let w = gap_nothing c.args.protocol _ _ _ _ _ (rw c.in-Waiting.is at c.scan_closed-seen.ensures)
-    c.stepped.ensures in
+    refl in
     let both = to_spared (goal.at.returns-in-Waiting c).Start _ _ _ _ refl w (record { held_stays = refl; bytes_stay = refl }) in
     record { delivered = both.0; spared = both.1 }
 

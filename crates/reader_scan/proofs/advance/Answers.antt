@@ -1,6 +1,6 @@
 use mathlib.Core.Path.{◌≡◌, sym, ◌∙◌}
 use mathlib.Core.Logic.{◌⊎◌, inl, inr}
-use Prim.Native.Nat.{ℕ, ◌+◌, ◌≤◌, ◌<◌}
+use Prim.Native.Nat.{ℕ, ◌+◌, ◌≤◌, ◌<◌, max}
 use native.Mathlib.Omega.{arith}
 use lib.ListN.{length, drop}
 use Rattle.packet_rules.specs.declared.Front.{Front}
@@ -27,7 +27,6 @@ module _ (f : After-next_start-at) where
 
 pub returns-then-chunk-at : goal.returns-then-chunk-at
 returns-then-chunk-at c =
-    rw c.ending.ensures
     (sought_end (rules_of c.args.protocol) (laws c.args.protocol) (settled_by (shape_of c.args.protocol)) (settles c.args.protocol) c.args.chunk.now (c.next_start-at.result) c.loop-protocol.end (sought (goal.at.returns-then-chunk-at c).After-next_start-at) (inr c.if-chunk-at.true))
 
 -- what the look at the offset tells
@@ -40,7 +39,6 @@ module _ (l : After-peek-front) where
 
 pub returns-in-Waiting : goal.returns-in-Waiting
 returns-in-Waiting c =
-    rw c.ending-in-Waiting.ensures
     (sought_end (rules_of c.args.protocol) (laws c.args.protocol) (settled_by (shape_of c.args.protocol)) (settles c.args.protocol) c.args.chunk.now (c.next_start-at.result) c.loop-protocol.end (sought (goal.at.returns-in-Waiting c).After-next_start-at) (inl (stated (goal.at.returns-in-Waiting c).After-peek-front _ c.in-Waiting.is).0))
 
 -- all bytes of a packet are there
@@ -49,6 +47,9 @@ fits l n e = fits_at l.args.protocol l.args.chunk.now l.next_start-at.result l.p
 
 pub overflow_add-at : goal.overflow_add-at
 overflow_add-at c = omega (arith, fits (goal.at.overflow_add-at c).After-peek-front _ c.in-Whole.is)
+
+later : (a b m : ℕ) → m ≡ max a b → (a ≤ m) × (b ≤ m) × ((m ≡ a) ⊎ (m ≡ b))
+later a b m e = (omega arith, omega arith, grind arith)
 
 -- behind the arms that go on: the front is as before, and where it is whole the bytes up to the end settle the offset too
 module _ (k : Joined-front) where
@@ -63,7 +64,7 @@ module _ (k : Joined-front) where
         → (k.loop-protocol.end ≤ k.match-front.end) × (k.next_start-at.result + settled ≤ k.match-front.end) × ((k.match-front.end ≡ k.loop-protocol.end) ⊎ (k.match-front.end ≡ k.next_start-at.result + settled))
     settling n e = elim k.match-front.branch [
       | in-Nothing w ↦ let z = sym w.in-Nothing.is ∙ sym same ∙ e in cc
-      | in-Whole w ↦ let z : settled ≡ w.in-Whole.size = told (Whole _) w.in-Whole.is in rw (w.end-is, z) w.greatest-end.ensures
+      | in-Whole w ↦ let z : settled ≡ w.in-Whole.size = told (Whole _) w.in-Whole.is in rw (w.end-is, z) (later _ _ _ w.max-end.ensures)
     ]
 
     unsettled : ((n : ℕ) → k.match-front.front ≡ Whole n → ⊥)
@@ -94,7 +95,6 @@ pub returns-in-Packet : goal.returns-in-Packet
 returns-in-Packet c =
     let k = (goal.at.returns-in-Packet c).Joined-front in
     let b = settling k (stated (goal.at.returns-in-Packet c).After-peek-front) _ c.in-Whole-front.is in
-    rw c.ending-in-Packet.ensures
     (sought_packet (rules_of c.args.protocol) (laws c.args.protocol) (settled_by (shape_of c.args.protocol)) (settles c.args.protocol) c.args.chunk.now (c.next_start-at.result) c.loop-protocol.end (sought (goal.at.returns-in-Packet c).After-next_start-at) c.match-front.end (some (goal.at.returns-in-Packet c).After-peek-front) b.0
     b.1 b.2 _ (some_lacking c.args.protocol) (judgement (goal.at.returns-in-Packet c).After-judge_whole (same k) _ c.in-Packet.is))
 
@@ -102,7 +102,6 @@ pub returns-in-BadChecksum : goal.returns-in-BadChecksum
 returns-in-BadChecksum c =
     let k = (goal.at.returns-in-BadChecksum c).Joined-front in
     let b = settling k (stated (goal.at.returns-in-BadChecksum c).After-peek-front) _ c.in-Whole-front.is in
-    rw c.ending-in-BadChecksum.ensures
     (sought_bad (rules_of c.args.protocol) (laws c.args.protocol) (settled_by (shape_of c.args.protocol)) (settles c.args.protocol) c.args.chunk.now (c.next_start-at.result) c.loop-protocol.end (sought (goal.at.returns-in-BadChecksum c).After-next_start-at) c.match-front.end (some (goal.at.returns-in-BadChecksum c).After-peek-front) b.0
     b.1 b.2 _ (some_longest c.args.protocol) (some_lacking c.args.protocol) (judgement (goal.at.returns-in-BadChecksum c).After-judge_whole (same k) _ c.in-BadChecksum.is))
 

@@ -32,7 +32,6 @@ pub returns-then-s-at : goal.returns-then-s-at
 returns-then-s-at c =
     let i = start (goal.at.returns-then-s-at c).After-next_start-at in
     let l = c.if-s-at.true in
-    rw c.wanting.ensures
     (scan_end (rules_of c.args.protocol) (laws c.args.protocol) _ c.args.s.now _ (c.next_start-at.result) i.0 i.3 l i.2, λ h. absurd (omega arith))
 
 -- what the look at the offset tells
@@ -43,8 +42,7 @@ module _ (l : After-peek-front) where
 pub returns-in-Waiting : goal.returns-in-Waiting
 returns-in-Waiting c =
     let i = start (goal.at.returns-in-Waiting c).After-next_start-at in
-    let w = stated (goal.at.returns-in-Waiting c).After-peek-front _ c.in-Waiting.is in
-    rw c.wanting-in-Waiting.ensures (
+    let w = stated (goal.at.returns-in-Waiting c).After-peek-front _ c.in-Waiting.is in (
       scan_waits (rules_of c.args.protocol) (laws c.args.protocol) c.args.s.now _ c.next_start-at.result i.0 c.if-s-at.false w.0 i.3,
       λ _. scan_wants (rules_of c.args.protocol) (laws c.args.protocol) c.args.s.now _ c.next_start-at.result i.0 c.if-s-at.false w.0 _ w.1,
     )
@@ -71,13 +69,11 @@ module _ (j : After-judge_whole) where
 pub returns-in-Packet : goal.returns-in-Packet
 returns-in-Packet c =
     let i = start (goal.at.returns-in-Packet c).After-next_start-at in
-    rw c.wanting-in-Packet.ensures
     (scan_packet (rules_of c.args.protocol) (laws c.args.protocol) _ c.args.s.now _ (c.next_start-at.result) i.0 i.3 _ c.if-s-at.false (judgement (goal.at.returns-in-Packet c).After-judge_whole _ c.in-Packet.is), refl)
 
 pub returns-in-BadChecksum : goal.returns-in-BadChecksum
 returns-in-BadChecksum c =
     let i = start (goal.at.returns-in-BadChecksum c).After-next_start-at in
-    rw c.wanting-in-BadChecksum.ensures
     (scan_bad (rules_of c.args.protocol) (laws c.args.protocol) _ c.args.s.now _ (c.next_start-at.result) i.0 i.3 _ (some_longest c.args.protocol) c.if-s-at.false (judgement (goal.at.returns-in-BadChecksum c).After-judge_whole _ c.in-BadChecksum.is), refl)
 
 pub loop-protocol-smaller : goal.loop-protocol-smaller

@@ -1,13 +1,11 @@
 use mathlib.Core.Path.{◌≡◌, sym, ap, ◌∙◌}
 use mathlib.Core.List.{◌∷◌}
-use Prim.Native.Nat.{◌-◌}
 use native.Mathlib.Omega.{arith}
 use lib.ListN.{length}
 use borrow.Author.Tests.{le-leb, lt-leb}
 use Rattle.stuffing.specs.Stuffing.{stuff_after, stuff}
 use Rattle.stuffing.proofs.Laws.{length_stuff}
 use Rattle.stuffing_writer.proofs.Rounds.{stuff_plain, stuff_marked, stuff_end}
-use borrow.Author.Rules.{rules}
 use Rattle.stuffing_writer.proofs.stuffed_len.Goals as goal
 use Rattle.stuffing_writer.proofs.stuffed_len.Goals.{then-ends_mark, else-ends_mark}
 
@@ -17,15 +15,9 @@ returns-then-most-rest c =
     simp (lt-leb (length (stuff (a.first ∷ a.rest.now))) a.most
     (omega (arith, length_stuff (a.first ∷ a.rest.now))))
 
-pub overflow_add-n : goal.overflow_add-n
-overflow_add-n c = omega (arith, c.well_formed.1.0.1)
-
 pub loop-i-init : goal.loop-i-init
 unfolding stuff_after
-loop-i-init c = (search rules, omega arith, omega arith)
-
-pub overflow_add-n-then-ends_mark : goal.overflow_add-n-then-ends_mark
-overflow_add-n-then-ends_mark c = omega (arith, c.well_formed.1.0.1)
+loop-i-init c = (omega arith, omega arith)
 
 pub loop-i-preserved : goal.loop-i-preserved
 loop-i-preserved c =
@@ -34,8 +26,8 @@ loop-i-preserved c =
     let t = c.loop-i-test.true in
     let m = c.ends_mark.ensures in
     elim c.if-ends_mark.branch [
-      | then-ends_mark w ↦ (search rules, omega arith, omega (arith, ap length (stuff_marked a.first a.rest.now h.i (sym m ∙ w.if-ends_mark.true) t)))
-      | else-ends_mark w ↦ (search rules, omega arith, omega (arith, ap length (stuff_plain a.first a.rest.now h.i (sym m ∙ w.if-ends_mark.false) t)))
+      | then-ends_mark w ↦ (omega arith, omega (arith, ap length (stuff_marked a.first a.rest.now h.i (sym m ∙ w.if-ends_mark.true) t)))
+      | else-ends_mark w ↦ (omega arith, omega (arith, ap length (stuff_plain a.first a.rest.now h.i (sym m ∙ w.if-ends_mark.false) t)))
     ]
 
 pub returns-then-n-most : goal.returns-then-n-most

@@ -7,9 +7,5 @@ use Rattle.stuffing_writer.proofs.Rounds.{stuffed_at}
 use Rattle.stuffing_writer.proofs.stuffed_len.Given as goal
 
 abbrev pub invariant-loop-i : goal.invariant-loop-i
-invariant-loop-i l = (l.i ≤ length l.rest)
-    × (l.n ≤ length l.rest + 1 + l.i)
+invariant-loop-i l = (l.n ≤ length l.rest + 1 + l.i)
     × (l.n + length (stuffed_at l.first l.rest l.i) ≡ length (stuff (l.first ∷ l.rest)) + (length l.rest - l.i))
-
-abbrev pub decreases-loop-i : goal.decreases-loop-i
-decreases-loop-i l = length l.rest - l.i

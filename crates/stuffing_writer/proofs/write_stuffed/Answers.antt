@@ -1,6 +1,6 @@
 use mathlib.Core.Path.{◌≡◌, refl, sym, ◌∙◌}
 use mathlib.Core.List.{[], List, ◌∷◌}
-use Prim.Native.Nat.{ℕ, ◌+◌, ◌-◌, ◌<◌, min}
+use Prim.Native.Nat.{ℕ, ◌+◌, ◌<◌, min}
 use native.Mathlib.Nat.{pos_of_ne-zero}
 use native.Mathlib.Omega.{arith}
 use lib.ListN.{length, take, get_or, set, length-set}
@@ -26,16 +26,16 @@ module _ (p : At-loop-i) where
   kept = fill_length _ _ _ _ _ p.loop-i.invariant.1 ∙ length-set p.args.out.now 0 _
 
   some : 0 < length p.args.out.now
-  some = pos_of_ne-zero p.if-out-eq0.false
+  some = search rules
 
-pub returns-then-out-eq0 : goal.returns-then-out-eq0
-returns-then-out-eq0 c =
+pub returns-then-is_empty : goal.returns-then-is_empty
+returns-then-is_empty c =
     let a = c.args in
-    let e = empty a.out.now (stuff (a.first ∷ a.rest.now)) c.if-out-eq0.true in record { value = e.0; out_after = e.1 }
+    let e = empty a.out.now (stuff (a.first ∷ a.rest.now)) (search rules) in record { value = e.0; out_after = e.1 }
 
 pub loop-i-init : goal.loop-i-init
 unfolding stuff_after
-loop-i-init c = (search rules, fill_first c.args.out.now c.args.first _ (pos_of_ne-zero c.if-out-eq0.false))
+loop-i-init c = (search rules, fill_first c.args.out.now c.args.first _ (search rules))
 
 pub shape_of-out-then-out-j : goal.shape_of-out-then-out-j
 shape_of-out-then-out-j c = kept (goal.at.shape_of-out-then-out-j c).At-loop-i

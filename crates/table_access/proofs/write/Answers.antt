@@ -1,37 +1,37 @@
-use mathlib.Core.Path.{◌≡◌, sym, ap, ◌∙◌}
-use mathlib.Core.Option.{Option, none}
-use Prim.Native.Nat.{ℕ}
+use Rattle.std.specs.Prelude.{Option}
+use Rattle.std.proofs.lemmas.Result.{err_from_is_err_and}
+use mathlib.Core.Path.{◌≡◌, sym, ap}
+use Prim.Native.Nat.{ℕ, ◌+◌, ◌-◌, ◌≤◌}
+use native.Mathlib.Omega.{arith}
+use lib.ListN.{length}
+use borrow.Author.Rules.{rules}
 use Rattle.answers.specs.Refusals.{unless_refused}
-use Rattle.buffers.proofs.Parts.{placed_whole}
-use Rattle.table_rules.specs.Rules.{stored, write_rule}
-use Rattle.table_rules.specs.Outcomes.{in_table}
-use Rattle.table_rules.proofs.WriteStages.{done_none, refused_out}
+use Rattle.table_rules.specs.Rules.{stored}
 use Rattle.table_access.proofs.Theorems.{write_inside}
 use Rattle.table_access.proofs.write.Goals as goal
-use Rattle.table_access.proofs.write.Goals.{Else-not-is_done}
+use Rattle.table_access.proofs.write.Goals.{In_ok-judge}
 
-pub returns-then-not-is_done : goal.returns-then-not-is_done
-returns-then-not-is_done c =
+pub returns-in_err-judge : goal.returns-in_err-judge
+returns-in_err-judge c =
     let a = c.args in
-    let j = c.judge-outcome in
-    let out = refused_out j.result (sym c.is_done.ensures ∙ c.if-not-is_done.true) a.table.now (stored a.table.now a.address a.bytes.now) in
+    let p = err_from_is_err_and c.from_residual.result c.from_residual.ensures.1 in
     record {
-      result_value = j.ensures;
-      table_after = sym (rw j.ensures at out);
+      result_value = rw (p.1, p.2) c.in_err-judge.ensures;
+      table_after = ap (λ (o : Option ℕ). unless_refused o a.table.now (stored a.table.now a.address a.bytes.now)) c.in_err-judge.ensures;
     }
 
--- the write was good
-good : (c : Else-not-is_done)
-    → let a = c.args in
-    in_table a.table.now (write_rule a.table.now a.address a.bytes.now) ≡ none
-good c =
-    sym c.judge-outcome.ensures ∙ done_none c.judge-outcome.result (sym c.is_done.ensures ∙ c.if-not-is_done.false)
+inside : (c : In_ok-judge) → c.args.address + length c.args.bytes.now ≤ length c.args.table.now
+inside c = write_inside c.args.table.now c.args.address c.args.bytes.now (sym c.in_ok-judge.ensures)
+
+pub slice_bounds-copy_from_slice-end : goal.slice_bounds-copy_from_slice-end
+slice_bounds-copy_from_slice-end c = let i = inside (goal.at.slice_bounds-copy_from_slice-end c).In_ok-judge in search rules
 
 pub returns : goal.returns
 returns c =
     let a = c.args in
-    let inside = write_inside a.table.now a.address a.bytes.now (good (goal.at.returns c).Else-not-is_done) in
+    let size : a.address + length a.bytes.now - a.address ≡ length a.bytes.now = omega arith in
     record {
-      result_value = sym (good (goal.at.returns c).Else-not-is_done);
-      table_after = c.place.ensures ∙ placed_whole a.table.now a.bytes.now a.address inside ∙ ap (λ (o : Option ℕ). unless_refused o a.table.now (stored a.table.now a.address a.bytes.now)) (sym (good (goal.at.returns c).Else-not-is_done));
+      result_value = c.in_ok-judge.ensures;
+      table_after = rw (c.copy_from_slice.ensures.after, size)
+          (ap (λ (o : Option ℕ). unless_refused o a.table.now (stored a.table.now a.address a.bytes.now)) c.in_ok-judge.ensures);
     }

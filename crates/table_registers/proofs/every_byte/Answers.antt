@@ -1,9 +1,15 @@
-use mathlib.Core.Path.{◌≡◌, sym, ap, ◌∙◌}
+use mathlib.Core.Path.{◌≡◌, refl, sym, ap, ◌∙◌}
+use Rattle.std.specs.Prelude.{Some}
+use Rattle.table_registers.specs.Rows.{row_at}
 use Prim.Native.Nat.{ℕ, ◌+◌, ◌-◌, ◌≤◌, ◌<◌}
 use native.Mathlib.Omega.{arith}
 use borrow.Author.Rules.{rules}
+use denote.Enum.Declared.{tag_of}
+use Rattle.table_registers.specs.contracts.Access.{the_type}
+use Rattle.table_registers.specs.declared.Access.{Access}
+use Rattle.table_registers.specs.declared.Access.TheVariants.{Read, RomWrite, RamWrite}
 use Rattle.table_registers.specs.Registers.{table_size, end_of, permits, every_byte}
-use Rattle.table_registers.proofs.Rows.{nth, place, found_permits, found_end, found_after, found_inside}
+use Rattle.table_registers.proofs.Rows.{nth, place, number_of, found_permits, found_end, found_after, found_inside, none_permits}
 use Rattle.table_registers.proofs.Permits.{every_made, every_fails, run_ends, run_goes_on}
 use Rattle.table_registers.proofs.every_byte.Goals as goal
 use Rattle.table_registers.proofs.every_byte.Goals.{Else-row-least}
@@ -13,11 +19,30 @@ returns-then-least-eq0 c =
     let a = c.args in
     sym (ap (λ (l : ℕ). every_byte l a.address a.n) c.if-least-eq0.true ∙ every_made 0 a.address a.n (λ k h. omega arith))
 
+-- no register has the byte
+pub returns-in_default : goal.returns-in_default
+returns-in_default c =
+    let h = c.loop-left in
+    let p = none_permits h.a (sym c.in_default.is ∙ c.register_at.ensures) in
+    let l = c.if-least-eq0.false in
+    sym (sym h.invariant ∙ every_fails _ h.a h.left (omega arith) (omega arith))
+
+-- the number of a variant
+tag_is : (p : Access) → tag_of the_type p + 1 ≡ number_of p
+tag_is Read = refl
+tag_is RomWrite = refl
+tag_is RamWrite = refl
+
 pub returns-then-row-least : goal.returns-then-row-least
 returns-then-row-least c =
     let h = c.loop-left in
-    let p = found_permits _ h.a c.register_at-row.ensures in
+    let p = found_permits _ h.a (sym c.in-Some.is ∙ c.register_at.ensures) in
+    let t = tag_is c.in-Some.row.permits in
     sym (sym h.invariant ∙ every_fails _ h.a h.left (omega arith) (omega arith))
+
+-- the register that was found
+found : (c : Else-row-least) → Some c.in-Some.row ≡ row_at c.loop-left.a
+found c = sym c.in-Some.is ∙ c.register_at.ensures
 
 -- something is asked
 asked : (c : Else-row-least) → 1 ≤ c.args.least
@@ -26,26 +51,29 @@ asked c = let h = c.if-least-eq0.false in omega arith
 -- the register permits enough
 granted : (c : Else-row-least)
     → c.args.least ≤ permits c.loop-left.a
-granted c = let p = found_permits _ c.loop-left.a c.register_at-row.ensures in omega arith
+granted c =
+    let p = found_permits _ c.loop-left.a (found c) in
+    let t = tag_is c.in-Some.row.permits in
+    omega arith
 
 -- and the run goes up to its end
 bounds : (c : Else-row-least)
-    → let row = c.register_at-row.result in
+    → let row = c.in-Some.row in
     (c.loop-left.a < row.start + row.bytes) × (row.start + row.bytes ≤ table_size)
 bounds c =
     let p = granted c in (
-      found_after _ c.loop-left.a c.register_at-row.ensures (omega arith),
-      found_inside _ c.loop-left.a c.register_at-row.ensures (omega arith),
+      found_after _ c.loop-left.a (found c) (omega arith),
+      found_inside _ c.loop-left.a (found c) (omega arith),
     )
 
 run_end : (c : Else-row-least)
-    → let row = c.register_at-row.result in
+    → let row = c.in-Some.row in
     let a = c.loop-left.a in
     a + (row.start + row.bytes - a) ≡ end_of (nth (place a))
 run_end c =
     let p = granted c in
     let b = bounds c in
-    let e = found_end _ c.loop-left.a c.register_at-row.ensures (omega arith) in
+    let e = found_end _ c.loop-left.a (found c) (omega arith) in
     omega arith
 
 pub overflow_add-run : goal.overflow_add-run

@@ -1,5 +1,4 @@
 use mathlib.Core.Path.{◌≡◌}
-use Prim.Native.Nat.{◌-◌}
 use Rattle.table_registers.specs.Registers.{every_byte}
 use Rattle.table_registers.proofs.every_byte.Given as goal
 

@@ -1,57 +1,31 @@
+use mathlib.Core.Path.{◌≡◌, ap, ◌∙◌}
+use mathlib.Core.Bool.{cond}
 use native.Mathlib.Omega.{arith}
-use lib.ListN.{length-set}
+use lib.ListN.{set, length-append, length-take, length-drop}
+use borrow.Rule.Slice.PartMut.{put_mid}
 use Rattle.lists.specs.Numbers.{bytes_of}
 use Rattle.table_registers.specs.Registers.{registers}
-use Rattle.table_resets.proofs.Resets.{refused, not_refused, rom_stores}
+use Rattle.lists.proofs.Numbers.{written_is}
+use Rattle.table_resets.proofs.Resets.{filled, rom_stores}
 use Rattle.table_resets.proofs.reset_rom.Goals as goal
+use Rattle.table_resets.proofs.reset_rom.Goals.{then-not-keeps_id, else-not-keeps_id, then-not-keeps_baud, else-not-keeps_baud}
 
-pub returns-then-table-ne-TABLE_BYTES : goal.returns-then-table-ne-TABLE_BYTES
-returns-then-table-ne-TABLE_BYTES c = let both = refused c.args.table.now _ c.if-table-ne-TABLE_BYTES.true in record { value = both.0; table_after = both.1 }
-
-pub bounds-table-20 : goal.bounds-table-20
-bounds-table-20 c = simp length-set (omega arith)
-
-pub bounds-table : goal.bounds-table
-bounds-table c = simp length-set (omega arith)
-
-pub bounds-table-2 : goal.bounds-table-2
-bounds-table-2 c = simp length-set (omega arith)
-
-pub bounds-table-3 : goal.bounds-table-3
-bounds-table-3 c = simp length-set (omega arith)
-
-pub bounds-table-48 : goal.bounds-table-48
-bounds-table-48 c = simp length-set (omega arith)
-
-pub bounds-table-4 : goal.bounds-table-4
-bounds-table-4 c = simp length-set (omega arith)
-
-pub bounds-table-5 : goal.bounds-table-5
-bounds-table-5 c = simp length-set (omega arith)
-
-pub bounds-table-6 : goal.bounds-table-6
-bounds-table-6 c = simp length-set (omega arith)
-
-pub bounds-table-52 : goal.bounds-table-52
-bounds-table-52 c = simp length-set (omega arith)
-
-pub bounds-table-9 : goal.bounds-table-9
-bounds-table-9 c = simp length-set (omega arith)
-
-pub bounds-table-10 : goal.bounds-table-10
-bounds-table-10 c = simp length-set (omega arith)
-
-pub bounds-table-11 : goal.bounds-table-11
-bounds-table-11 c = simp length-set (omega arith)
-
-pub shape_of-table : goal.shape_of-table
-shape_of-table c = simp length-set
-
-pub returns : goal.returns
+pub returns-clause-table_after : goal.returns-clause-table_after
 unfolding registers bytes_of
-returns c =
-    let a = c.args in
-    record {
-      value = not_refused a.table.now c.if-table-ne-TABLE_BYTES.false;
-      table_after = rom_stores a.table.now c.if-table-ne-TABLE_BYTES.false a.keeps_id a.keeps_baud _ _ c.kept_or.ensures c.kept_or-2.ensures;
-    }
+returns-clause-table_after c =
+    let table = c.args.table.now in
+    let l = c.if-table-ne-TABLE_BYTES.false in
+    let id : c.if-not-keeps_id.table ≡ cond c.args.keeps_id table (set table 7 1) = elim c.if-not-keeps_id.branch [
+      | then-not-keeps_id w ↦ rw w.if-not-keeps_id.true w.table-is
+      | else-not-keeps_id w ↦ rw w.if-not-keeps_id.false w.table-is
+    ] in
+    let kept = c.if-not-keeps_id.table in
+    let baud : c.if-not-keeps_baud.table ≡ cond c.args.keeps_baud kept (set kept 8 1) = elim c.if-not-keeps_baud.branch [
+      | then-not-keeps_baud w ↦ rw w.if-not-keeps_baud.true w.table-is
+      | else-not-keeps_baud w ↦ rw w.if-not-keeps_baud.false w.table-is
+    ] in
+    let first = filled c.if-not-keeps_baud.table _ 20 4 (c.fill.ensures.after (λ y e. e)) (omega arith) in
+    let most = c.copy_from_slice.ensures.after ∙ c.to_le_bytes-most.ensures ∙ written_is _ ∙ ap (bytes_of 4) c.from.ensures in
+    let last = filled (put_mid 48 4 (put_mid 20 4 c.if-not-keeps_baud.table c.fill.new.self) c.copy_from_slice.new.self) _ 52 4
+    (c.fill-2.ensures.after (λ y e. e)) (rw (first, most) (simp (length-append, length-take, length-drop) (omega arith))) in
+    rw (first, most, last, baud, id) (rom_stores table l c.args.keeps_id c.args.keeps_baud)

@@ -111,10 +111,12 @@ fn all_stood(goals: &[i32], stood: &[bool]) -> bool
     requires { (length goals.now ≡ 253) × (length stood.now ≡ 253) }
     ensures { SaysWhether result ((id : ℕ) → id < 253 → past goals.now stood.now id ≡ wanted goals.now id) }
 {
-    goals
-        .iter()
-        .zip(stood)
-        .all(|(&goal, &stood)| goal < 0 || stood)
+    for id in 0..plan::IDS {
+        if goals[id] >= 0 && !stood[id] {
+            return false;
+        }
+    }
+    true
 }
 
 // Packet after packet, to the end.

@@ -22,7 +22,13 @@ const MOST_PARAMS: usize = 1019;
 fn count_wanted(goals: &[i32]) -> usize
     ensures { result ≡ length (filter (λ goal. le_z (pos 0) goal) goals.now) }
 {
-    goals.iter().filter(|goal| **goal >= 0).count()
+    let mut n = 0;
+    for id in 0..goals.len() {
+        if goals[id] >= 0 {
+            n += 1;
+        }
+    }
+    n
 }
 
 // An ID and the four bytes of its goal, to the start of out.

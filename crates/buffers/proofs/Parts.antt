@@ -21,9 +21,9 @@ pub placed_whole : (old new : List ℕ) (at : ℕ) → at + length new ≤ lengt
 placed_whole old new at h = ap (λ (s : List ℕ). placed old at s) (take_all (length old - at) new (omega arith))
 
 -- and over all of a part nothing of it stays
-pub placed_over : (old new : List ℕ) → length new ≡ length old → placed old 0 (take (length old - 0) new) ≡ new
-placed_over old new e =
-    placed_whole old new 0 (omega arith) ∙ ap (λ (s : List ℕ). new ++ s) (drop_of_length-le old {i = length new} (omega arith)) ∙ append-nil new
+pub placed_over : (old new buffer : List ℕ) → buffer ≡ placed old 0 (take (length old - 0) new) → length new ≡ length old → buffer ≡ new
+placed_over old new buffer b e =
+    b ∙ placed_whole old new 0 (omega arith) ∙ ap (λ (s : List ℕ). new ++ s) (drop_of_length-le old {i = length new} (omega arith)) ∙ append-nil new
 
 -- ---- what stays behind a write
 

@@ -66,7 +66,7 @@ fn byte_at(s: &[u8], i: usize) -> u8
 fn behind(file: &[u8], offset: usize) -> &[u8]
     ensures { result.now ≡ drop offset file.now }
 {
-    file.get(offset..).unwrap_or(&[])
+    file.get(offset..).unwrap_or(&file[..0])
 }
 
 // The number of 32 bits at an offset, low byte first. Bytes behind the file's end count as 0. [I1]

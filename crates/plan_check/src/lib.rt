@@ -70,13 +70,14 @@ fn mark_entries(goals: &[i32], params: &[u8], stood: &mut [bool]) -> bool
 fn has_head(body: &[u8]) -> bool
     ensures { SaysWhether result (take 5 body.now ≡ plan_head) }
 {
-    body.starts_with(&[
+    let head = [
         Instruction::SyncWrite as u8,
         plan::ADDRESS,
         0,
         plan::LENGTH,
         0,
-    ])
+    ];
+    body.starts_with(&head)
 }
 
 // Marks the IDs of an unstuffed body; false if it is not one that a plan may have here.

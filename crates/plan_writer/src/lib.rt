@@ -37,7 +37,7 @@ fn write_entry(id: u8, goal: i32, out: &mut [u8])
     ensures { out.new ≡ overwritten out.old (entry_bytes (id, unsigned goal)) }
 {
     out[0] = id;
-    out[1..5].copy_from_slice(&goal.to_le_bytes());
+    buffers::place(&mut out[1..5], 0, &goal.to_le_bytes());
 }
 
 // The first k entries of the wanted IDs from `from` on, to the start of out. Returns where to go on.
@@ -63,7 +63,8 @@ fn write_head(out: &mut [u8])
     requires { 4 ≤ length out.old }
     ensures { out.new ≡ overwritten out.old (116 ∷ 0 ∷ 4 ∷ 0 ∷ []) }
 {
-    out[..4].copy_from_slice(&[plan::ADDRESS, 0, plan::LENGTH, 0]);
+    let head = [plan::ADDRESS, 0, plan::LENGTH, 0];
+    buffers::place(&mut out[..4], 0, &head);
 }
 
 // Address and length, then the entries.

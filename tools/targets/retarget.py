@@ -2,20 +2,15 @@
 
 Of Rattle's module these go: datalayout, triple, processor and stack probes of x86-64. Each export dxl_X becomes the internal
 raw_dxl_X, and what it gets by value it gets by a pointer, to the private copy that the layer makes. Where a pair of numbers is loaded
-as a whole, each is loaded by itself, from where x86-64 has it: other processors may have the second one elsewhere. The two addresses
-whose distance is asked before bytes are moved become numbers of 64 bits. Of the layer these go: its
+as a whole, each is loaded by itself, from where x86-64 has it: other processors may have the second one elsewhere. Of the layer these go: its
 declarations of raw_dxl_X, once they have been compared with the module's functions, and what its calls say of how small numbers are
 extended. Nothing else is changed.
 """
 import re
 import sys
 
-# Where a pointer is a number, or the text is for one processor, the module might mean another thing with pointers of 32 bits. So might
-# data of its own; constant bytes, as those of a header, mean the same everywhere.
-BYTES = r"^@static\.\d+ = private unnamed_addr constant \[\d+ x i8\] (?:zeroinitializer|c), align 1$"
-# How far one place lies behind another is asked in this one way, before bytes are moved; an address of 32 bits made longer answers it.
-BEHIND = (r"^  (%[\w.]+) = ptrtoaddr (ptr %[\w.]+) to i64\n  (%[\w.]+) = ptrtoaddr (ptr %[\w.]+) to i64\n"
-          r"(?=  (%[\w.]+) = sub i64 \1, \3\n  %[\w.]+ = icmp ult i64 \5, %[\w.]+$)")
+# Where a pointer is a number, or the text is for one processor, the module might mean another thing with pointers of 32 bits. Data of
+# its own, which it does not have either, would have to be looked at.
 BOUND = ["ptrtoaddr", "ptrtoint", "inttoptr", "asm", "addrspace", "thread_local", "fp128", "x86_fp80"]
 # A pair is a function's answer or is taken apart, and is read from memory in this one way.
 PAIR = r"\{ (\w+), (\w+) \}"
@@ -66,8 +61,7 @@ def apart(found):
 
 def of_module(module):
     """Rattle's module without its target, its exports internal."""
-    code = re.sub(r'"[^"\n]*"|;[^\n]*', "", module)  # without names, strings and comments
-    code = re.sub(BEHIND, "", re.sub(BYTES, "", code, flags=re.M), flags=re.M)
+    code = re.sub(r'"[^"\n]*"|;[^\n]*', "", module)  # without names and comments
     if found := re.search(rf"\b(?:{'|'.join(BOUND)})\b|^@.*", code, flags=re.M):
         stop(found[0])
     module = re.sub(r"^(?:target|source_filename) .*\n", "", module, flags=re.M)
@@ -77,7 +71,6 @@ def of_module(module):
     for left in ("byval", "sret", "x86", "target-features"):
         if left in module:
             stop(left)
-    module = re.sub(BEHIND, r"  \1 = ptrtoint \2 to i64\n  \3 = ptrtoint \4 to i64\n", module, flags=re.M)
     module = re.sub(LOADED, apart, module, flags=re.M)
     for line in module.splitlines():
         if "{ " in re.sub(HANDED_ON, "", re.sub(r'"[^"]*"|;.*| \{$|^attributes .*|^!.*', "", line)):

@@ -1,9 +1,9 @@
 -- Parts of lists: one taken the other way round, what has room, and what stays.
 use mathlib.Core.Path.{◌≡◌, refl, sym, ap, ◌∙◌}
-use mathlib.Core.List.{List}
+use mathlib.Core.List.{List, ◌++◌, append-nil}
 use Prim.Native.Nat.{ℕ, ◌+◌, ◌-◌, ◌≤◌}
 use native.Mathlib.Omega.{arith}
-use lib.ListN.{length, take, drop}
+use lib.ListN.{length, take, drop, drop_of_length-le}
 use lib.Seq.{length-take-le, take-add, take_all, drop_at, drop-drop}
 use Rattle.lists.specs.Write.{overwritten, placed}
 
@@ -19,6 +19,11 @@ part_is a e s h k =
 pub placed_whole : (old new : List ℕ) (at : ℕ) → at + length new ≤ length old
     → placed old at (take (length old - at) new) ≡ placed old at new
 placed_whole old new at h = ap (λ (s : List ℕ). placed old at s) (take_all (length old - at) new (omega arith))
+
+-- and over all of a part nothing of it stays
+pub placed_over : (old new buffer : List ℕ) → buffer ≡ placed old 0 (take (length old - 0) new) → length new ≡ length old → buffer ≡ new
+placed_over old new buffer b e =
+    b ∙ placed_whole old new 0 (omega arith) ∙ ap (λ (s : List ℕ). new ++ s) (drop_of_length-le old {i = length new} (omega arith)) ∙ append-nil new
 
 -- ---- what stays behind a write
 

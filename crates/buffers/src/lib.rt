@@ -11,7 +11,9 @@ pub fn place(buffer: &mut [u8], at: usize, src: &[u8])
 {
     if at < buffer.len() {
         let n = src.len().min(buffer.len() - at);
-        buffer[at..at + n].copy_from_slice(&src[..n]);
+        for i in 0..n {
+            buffer[at + i] = src[i];
+        }
     }
 }
 

@@ -38,7 +38,7 @@ fn reply_to(table: &[u8], own: u8, level: u8, reacted: Reacted) -> Reply
     let Some(at) = reacted.reply else {
         return device_status::silence();
     };
-    if level < at.level as u8 {
+    if level < at.level {
         return device_status::silence();
     }
     let error = number_in(reacted.outcome);

@@ -29,7 +29,7 @@ level_number All = 2
 
 abbrev pub replying_of : Option ReplyAt → ReplyRule
 replying_of None = silent
-replying_of (Some at) = speaks (level_number at.level) at.slot
+replying_of (Some at) = speaks at.level at.slot
 
 -- an answer of the code, with the registered write that it left
 abbrev pub told : Reacted → RegisteredWrite → Told

@@ -5,7 +5,7 @@
 ghost use Rattle.std.specs.Prelude.{◌≡◌};
 ghost use Rattle.device_instructions.specs.Results.{done_in};
 ghost use Rattle.device_replies.specs.Replies.{silent, own_only};
-ghost use Rattle.device_replies.specs.Results.{level_number, reacted_by, told};
+ghost use Rattle.device_replies.specs.Results.{level_number, reacted_by, replying_of, told};
 
 use device_instructions::{Fault, ReplyData};
 
@@ -17,10 +17,10 @@ pub enum Level {
     All = 2,
 }
 
-// An answer: from which status return level on, and in which reply slot.
+// An answer: from which status return level on, which is any number, and in which reply slot.
 #[derive(Clone, Copy, PartialEq, Eq, Debug)]
 pub struct ReplyAt {
-    pub level: Level,
+    pub level: u8,
     pub slot: usize,
 }
 
@@ -29,6 +29,14 @@ pub struct ReplyAt {
 pub struct Reacted {
     pub outcome: Result<ReplyData, Fault>,
     pub reply: Option<ReplyAt>,
+}
+
+// An answer to the own ID only, from any level on. What was done does not matter: it stands beside the answer in `Reacted`, whatever
+// it is. [D10 D31 D34]
+pub fn own_only(all: bool, level: u8) -> Option<ReplyAt>
+    ensures { replying_of result ≡ own_only all level }
+{
+    (!all).then_some(ReplyAt { level, slot: 0 })
 }
 
 impl Reacted {
@@ -48,7 +56,7 @@ impl Reacted {
     {
         Reacted {
             outcome,
-            reply: (!all).then_some(ReplyAt { level, slot: 0 }),
+            reply: own_only(all, level as u8),
         }
     }
 }

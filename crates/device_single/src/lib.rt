@@ -36,7 +36,7 @@ pub fn heard_ping(table: &[u8], all: bool, params: &[u8]) -> Reacted
         return refused;
     }
     let slot = if all { usize::from(table[REG_ID]) } else { 0 };
-    let level = Level::Ping;
+    let level = Level::Ping as u8;
     Reacted {
         outcome: device_instructions::ping(table),
         reply: Some(ReplyAt { level, slot }),

@@ -16,7 +16,7 @@ use table_registers::{REG_ID, TABLE_BYTES};
 pub fn sync_read_by(table: &[u8], slot: usize, address: u16, count: u16) -> Reacted
     ensures { (w : _) → told result w ≡ reacted_of (sized_effect table.now w (sync_read_by table.now w slot address count)) }
 {
-    let level = Level::Read;
+    let level = Level::Read as u8;
     Reacted {
         outcome: device_instructions::read(table, address, count),
         reply: Some(ReplyAt { level, slot }),

@@ -1,14 +1,15 @@
 -- One round of the loops over a directory and over an index.
-use mathlib.Core.Path.{◌≡◌, refl, ap, ◌∙◌}
+use mathlib.Core.Path.{◌≡◌, refl, sym, ap, ◌∙◌}
 use mathlib.Core.Bool.{false}
 use mathlib.Core.List.{List, [], ◌∷◌}
 use Prim.Native.Nat.{ℕ, zero, suc, ◌+◌, ◌*◌, ◌-◌, ◌≤◌, ◌<◌}
 use native.Mathlib.Omega.{arith}
 use lib.Dec.{leb}
-use lib.ListN.{drop}
-use lib.Seq.{drop-drop}
+use lib.ListN.{length, take, drop, length-drop, drop_of_length-le}
+use lib.Seq.{drop-drop, take_all}
 use borrow.Author.Tests.{eq-eqb, ne_eqb}
 use Rattle.std.specs.List.{list_all, range_with_len}
+use Rattle.lists.specs.Numbers.{number_at}
 use Rattle.lists.proofs.Numbers.{number_drop}
 use Rattle.log_index.specs.Last.{index_size}
 use Rattle.log_layout.specs.Log.{LogEntry, index_offset}
@@ -19,6 +20,15 @@ u32_here s p = number_drop 4 p 0 s ∙ ap (u32_at s) (sum p)
   where
     sum : (p : ℕ) → p + 0 ≡ p
     sum p = omega arith
+
+-- behind the end of the file, and of what is left of it
+pub u32_behind : (s : List ℕ) (p : ℕ) → length s ≤ p → u32_at s p ≡ 0
+unfolding number_at
+u32_behind s p h = sym (u32_here s p) ∙ ap (λ (l : List ℕ). u32_at l 0) (drop_of_length-le s h)
+
+pub u32_tail : (s : List ℕ) (p : ℕ) → u32_at (take (length s - p) (drop p s)) 0 ≡ u32_at s p
+u32_tail s p =
+    ap (λ (l : List ℕ). u32_at l 0) (take_all (length s - p) (drop p s) (omega (arith, length-drop p s))) ∙ u32_here s p
 
 module _ (s : List ℕ) (p : ℕ) where
   -- the first of the numbers that are left, and the first of the entries

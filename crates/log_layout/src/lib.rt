@@ -66,21 +66,22 @@ fn byte_at(s: &[u8], i: usize) -> u8
 fn behind(file: &[u8], offset: usize) -> &[u8]
     ensures { result.now ≡ drop offset file.now }
 {
-    file.get(offset..).unwrap_or(&[])
+    file.get(offset..).unwrap_or(&file[..0])
 }
 
 // The number of 32 bits at an offset, low byte first. Bytes behind the file's end count as 0. [I1]
 pub fn number_at(file: &[u8], offset: usize) -> u32
     ensures { result ≡ u32_at file.now offset }
 {
-    match behind(file, offset) {
-        [a, b, c, d, ..] => u32::from_le_bytes([*a, *b, *c, *d]),
-        cut => u32::from_le_bytes([
+    match file.get(offset..) {
+        Some([a, b, c, d, ..]) => u32::from_le_bytes([*a, *b, *c, *d]),
+        Some(cut) => u32::from_le_bytes([
             byte_at(cut, 0),
             byte_at(cut, 1),
             byte_at(cut, 2),
             byte_at(cut, 3),
         ]),
+        None => 0,
     }
 }
 

@@ -22,7 +22,7 @@ fn put_number(out: &mut [u8], at: usize, value: usize)
     requires { at + 4 ≤ length out.old }
     ensures { out.new ≡ placed out.old at (bytes_of 4 value) }
 {
-    out[at..at + 4].copy_from_slice(&value.to_le_bytes()[..4]);
+    buffers::place(&mut out[at..at + 4], 0, &value.to_le_bytes()[..4]);
 }
 
 fn header_in(out: &mut [u8], segments: usize)

@@ -28,10 +28,15 @@ event_numbers taken (Some (Packet id n)) = record { taken = taken; count = n; ki
 event_numbers taken (Some (BadChecksum id)) = record { taken = taken; count = 0; kind = 2; id = id }
 event_numbers taken None = record { taken = taken; count = 0; kind = 0; id = 0 }
 
+-- [N9 N11]
+abbrev pub answer_numbers : ℕ → Result (Option Event) Refusal → StepNumbers
+answer_numbers taken (Ok event) = event_numbers taken event
+answer_numbers taken (Err refusal) = record { taken = taken; count = 0; kind = number_of refusal; id = 0 }
+
 -- [G5]
 abbrev pub step_numbers : Result Step Refusal → StepNumbers
 step_numbers (Ok s) = event_numbers s.taken s.event
-step_numbers (Err refusal) = record { taken = 0; count = 0; kind = number_of refusal; id = 0 }
+step_numbers (Err refusal) = answer_numbers 0 (Err refusal)
 
 -- what the plain reader answers: where the event begins, of a packet its byte count, where reading goes on, the kind (1 a packet, 2 a
 -- bad checksum) and the ID; all 0 where there is no event [G5 N11 R3-R5]

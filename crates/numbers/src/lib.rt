@@ -5,7 +5,7 @@ ghost use Rattle.std.specs.Prelude.{◌≡◌};
 ghost use Rattle.std.specs.Result.{result_unwrap_or};
 ghost use Rattle.device_status.specs.Status.{silence};
 ghost use Rattle.device.specs.Results.{nothing_sent};
-ghost use Rattle.numbers.specs.Exported.{step_numbers, next_numbers, device_numbers, carried_numbers, found_numbers, salvaged_numbers, tested_number};
+ghost use Rattle.numbers.specs.Exported.{answer_numbers, step_numbers, next_numbers, device_numbers, carried_numbers, found_numbers, salvaged_numbers, tested_number};
 
 use answers::Refusal;
 use device::Sent;
@@ -82,40 +82,32 @@ pub struct SalvagedNumbers {
     pub header: u8,
 }
 
-// The packet's bytes are in the caller's buffer.
+// The bytes taken stand beside a refusal too. The packet's bytes are in the caller's buffer. [G5 N9 N11]
+pub fn step(taken: usize, event: Result<Option<Event>, Refusal>) -> StepNumbers
+    ensures { result ≡ answer_numbers taken event }
+{
+    let (count, kind, id) = match event {
+        Ok(Some(Event::Packet { id, size })) => (size, 1, id),
+        Ok(Some(Event::BadChecksum { id })) => (0, 2, id),
+        Ok(None) => (0, 0, 0),
+        Err(refusal) => (0, u8::from(refusal), 0),
+    };
+    StepNumbers {
+        taken,
+        count,
+        kind,
+        id,
+    }
+}
+
+// A refused step has taken nothing.
 impl From<Result<Step, Refusal>> for StepNumbers {
     ghost from_gives = { λ answer numbers. numbers ≡ step_numbers answer };
 
     fn from(answer: Result<Step, Refusal>) -> StepNumbers {
-        let step = match answer {
-            Ok(step) => step,
-            Err(refusal) => return StepNumbers {
-                taken: 0,
-                count: 0,
-                kind: u8::from(refusal),
-                id: 0,
-            },
-        };
-        let taken = step.taken;
-        match step.event {
-            Some(Event::Packet { id, size }) => StepNumbers {
-                taken,
-                count: size,
-                kind: 1,
-                id,
-            },
-            Some(Event::BadChecksum { id }) => StepNumbers {
-                taken,
-                count: 0,
-                kind: 2,
-                id,
-            },
-            None => StepNumbers {
-                taken,
-                count: 0,
-                kind: 0,
-                id: 0,
-            },
+        match answer {
+            Ok(Step { taken, event, .. }) => step(taken, Ok(event)),
+            Err(refusal) => step(0, Err(refusal)),
         }
     }
 }
@@ -192,21 +184,28 @@ pub fn response(answer: Result<Sent, Refusal>, kept: RegisteredWrite) -> DeviceN
     }
 }
 
+// Each reply is answered as it stands, beside a refusal too. [D50 G5 N11]
+pub fn carried_beside(
+    refused: Result<(), Refusal>,
+    reply: Reply,
+    registered: RegisteredWrite,
+) -> CarriedNumbers
+    ensures { result ≡ carried_numbers (nothing_sent refused) reply registered }
+{
+    CarriedNumbers {
+        refusal: answers::exported_done(refused),
+        reply,
+        registered,
+    }
+}
+
 // The reply that waits, which is silence beside a refusal.
 pub fn carried(answer: Result<Reply, Refusal>, registered: RegisteredWrite) -> CarriedNumbers
     ensures { result ≡ carried_numbers (nothing_sent answer) (result_unwrap_or answer silence) registered }
 {
     match answer {
-        Ok(reply) => CarriedNumbers {
-            refusal: 0,
-            reply,
-            registered,
-        },
-        Err(refusal) => CarriedNumbers {
-            refusal: answers::exported_refusal(refusal),
-            reply: device_status::silence(),
-            registered,
-        },
+        Ok(reply) => carried_beside(Ok(()), reply, registered),
+        Err(refusal) => carried_beside(Err(refusal), device_status::silence(), registered),
     }
 }
 

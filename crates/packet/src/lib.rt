@@ -16,7 +16,7 @@ pub fn body(packet: &[u8]) -> &[u8]
     ensures { result.now ≡ body_of packet.now }
 {
     if packet.len() < 9 {
-        &[]
+        &packet[..0]
     } else {
         &packet[7..packet.len() - 2]
     }

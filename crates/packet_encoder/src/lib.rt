@@ -17,7 +17,8 @@ fn write_front(id: u8, n: usize, instruction: u8, out: &mut [u8])
     ensures { out.new ≡ overwritten (set out.old 7 instruction) (front id n) }
 {
     let [low, high] = ((n + 2) as u16).to_le_bytes();
-    out[..8].copy_from_slice(&[0xFF, 0xFF, 0xFD, 0x00, id, low, high, instruction]);
+    let front = [0xFF, 0xFF, 0xFD, 0x00, id, low, high, instruction];
+    buffers::place(&mut out[..8], 0, &front);
 }
 
 // Writes the checksum of the first `end` bytes, which begin with the header, right after them.
@@ -26,7 +27,7 @@ fn write_checksum(out: &mut [u8], end: usize)
     ensures { out.new ≡ overwritten out.old (with_checksum (take end out.old)) }
 {
     let crc = packet::checksum(&out[4..end]);
-    out[end..end + 2].copy_from_slice(&crc.to_le_bytes());
+    buffers::place(&mut out[end..end + 2], 0, &crc.to_le_bytes());
 }
 
 // Writes the stuffed body of n bytes to the start of out, which has room for it and begins with the instruction. Where nothing is

@@ -18,7 +18,7 @@ fn write_front(id: u8, count: u8, instruction: u8, out: &mut [u8])
     requires { 5 ≤ length out.old }
     ensures { out.new ≡ overwritten out.old (0xFF ∷ 0xFF ∷ id ∷ count ∷ instruction ∷ []) }
 {
-    out[..5].copy_from_slice(&[0xFF, 0xFF, id, count, instruction]);
+    buffers::place(&mut out[..5], 0, &[0xFF, 0xFF, id, count, instruction]);
 }
 
 // The checksum, computed from what is written and not from the buffer, which has just been stored to.

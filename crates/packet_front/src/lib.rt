@@ -51,7 +51,8 @@ fn header_agrees(s: &[u8]) -> bool
     if 4 <= s.len() {
         has_header(s)
     } else {
-        [0xFF, 0xFF, 0xFD].starts_with(s)
+        let front = [0xFF, 0xFF, 0xFD];
+        front.starts_with(s)
     }
 }
 

@@ -70,13 +70,14 @@ fn mark_entries(goals: &[i32], params: &[u8], stood: &mut [bool]) -> bool
 fn has_head(body: &[u8]) -> bool
     ensures { SaysWhether result (take 5 body.now ≡ plan_head) }
 {
-    body.starts_with(&[
+    let head = [
         Instruction::SyncWrite as u8,
         plan::ADDRESS,
         0,
         plan::LENGTH,
         0,
-    ])
+    ];
+    body.starts_with(&head)
 }
 
 // Marks the IDs of an unstuffed body; false if it is not one that a plan may have here.
@@ -111,10 +112,12 @@ fn all_stood(goals: &[i32], stood: &[bool]) -> bool
     requires { (length goals.now ≡ 253) × (length stood.now ≡ 253) }
     ensures { SaysWhether result ((id : ℕ) → id < 253 → past goals.now stood.now id ≡ wanted goals.now id) }
 {
-    goals
-        .iter()
-        .zip(stood)
-        .all(|(&goal, &stood)| goal < 0 || stood)
+    for id in 0..plan::IDS {
+        if goals[id] >= 0 && !stood[id] {
+            return false;
+        }
+    }
+    true
 }
 
 // Packet after packet, to the end.

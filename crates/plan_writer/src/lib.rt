@@ -22,7 +22,13 @@ const MOST_PARAMS: usize = 1019;
 fn count_wanted(goals: &[i32]) -> usize
     ensures { result ≡ length (filter (λ goal. le_z (pos 0) goal) goals.now) }
 {
-    goals.iter().filter(|goal| **goal >= 0).count()
+    let mut n = 0;
+    for id in 0..goals.len() {
+        if goals[id] >= 0 {
+            n += 1;
+        }
+    }
+    n
 }
 
 // An ID and the four bytes of its goal, to the start of out.
@@ -31,7 +37,7 @@ fn write_entry(id: u8, goal: i32, out: &mut [u8])
     ensures { out.new ≡ overwritten out.old (entry_bytes (id, unsigned goal)) }
 {
     out[0] = id;
-    out[1..5].copy_from_slice(&goal.to_le_bytes());
+    buffers::place(&mut out[1..5], 0, &goal.to_le_bytes());
 }
 
 // The first k entries of the wanted IDs from `from` on, to the start of out. Returns where to go on.
@@ -57,7 +63,8 @@ fn write_head(out: &mut [u8])
     requires { 4 ≤ length out.old }
     ensures { out.new ≡ overwritten out.old (116 ∷ 0 ∷ 4 ∷ 0 ∷ []) }
 {
-    out[..4].copy_from_slice(&[plan::ADDRESS, 0, plan::LENGTH, 0]);
+    let head = [plan::ADDRESS, 0, plan::LENGTH, 0];
+    buffers::place(&mut out[..4], 0, &head);
 }
 
 // Address and length, then the entries.

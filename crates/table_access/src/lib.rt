@@ -13,8 +13,7 @@ use table_registers::{
     Access, FRESH_BAUD_CODE, FRESH_FIRMWARE_VERSION, FRESH_ID, FRESH_MAX_POSITION,
     FRESH_MODEL_NUMBER, FRESH_STATUS_RETURN_LEVEL, MAX_DATA, REG_BAUD_CODE, REG_FIRMWARE_VERSION,
     REG_HARDWARE_ERROR, REG_ID, REG_MAX_POSITION, REG_MODEL_NUMBER, REG_PRESENT_POSITION,
-    REG_STATUS_RETURN_LEVEL, SIZE_MAX_POSITION, SIZE_MODEL_NUMBER, SIZE_PRESENT_POSITION,
-    TABLE_BYTES,
+    REG_STATUS_RETURN_LEVEL, TABLE_BYTES,
 };
 use table_rules::Denied;
 
@@ -24,8 +23,7 @@ pub fn write(table: &mut [u8], address: u16, bytes: &[u8]) -> Result<(), Denied>
     ensures table_after { table.new ≡ write_out table.old address bytes.now }
 {
     table_rules::judge(&table[..], address, bytes)?;
-    let at = address as usize;
-    table[at..at + bytes.len()].copy_from_slice(bytes);
+    buffers::place(table, address as usize, bytes);
     Ok(())
 }
 
@@ -66,12 +64,12 @@ pub fn fresh(table: &mut [u8]) -> Result<(), Refusal>
     }
     table.fill(0);
     let model = FRESH_MODEL_NUMBER.to_le_bytes();
-    table[REG_MODEL_NUMBER..REG_MODEL_NUMBER + SIZE_MODEL_NUMBER].copy_from_slice(&model);
+    buffers::place(table, REG_MODEL_NUMBER, &model);
     table[REG_FIRMWARE_VERSION] = FRESH_FIRMWARE_VERSION;
     table[REG_ID] = FRESH_ID;
     table[REG_BAUD_CODE] = FRESH_BAUD_CODE;
     let most = u32::from(FRESH_MAX_POSITION).to_le_bytes();
-    table[REG_MAX_POSITION..REG_MAX_POSITION + SIZE_MAX_POSITION].copy_from_slice(&most);
+    buffers::place(table, REG_MAX_POSITION, &most);
     table[REG_STATUS_RETURN_LEVEL] = FRESH_STATUS_RETURN_LEVEL;
     Ok(())
 }
@@ -85,9 +83,7 @@ pub fn measure(table: &mut [u8], position: i32, error: u8) -> Result<(), Refusal
         return Err(Refusal::NotATable);
     }
     let bytes = position.to_le_bytes();
-    table[REG_PRESENT_POSITION..REG_PRESENT_POSITION + SIZE_PRESENT_POSITION].copy_from_slice(
-        &bytes,
-    );
+    buffers::place(table, REG_PRESENT_POSITION, &bytes);
     table[REG_HARDWARE_ERROR] = error;
     Ok(())
 }

@@ -2,20 +2,17 @@
 use mathlib.Core.Path.{◌≡◌, refl, sym, ap, ◌∙◌}
 use mathlib.Core.Bool.{Bool, true, false, cond, not, ◌&&◌}
 use mathlib.Core.List.{List, [], ◌∷◌}
-use Prim.Native.Nat.{ℕ, ◌+◌, ◌%◌, ◌≤◌}
+use Prim.Native.Nat.{ℕ, suc, ◌+◌, ◌-◌, ◌%◌, ◌≤◌}
 use native.Mathlib.Omega.{arith}
 use lib.Dec.{leb, eqb}
-use lib.ListN.{length, take, drop, set, replicate, length-take, length-drop, length-set}
-use lib.Seq.{take-set-le, drop-drop}
-use mathlib.Core.List.{◌++◌, append_assoc}
-use Rattle.std.specs.List.{copy_within}
-use Rattle.std.proofs.lemmas.List.{drop-take}
-use Rattle.std.proofs.lemmas.Slice.{take-put_mid_below}
+use lib.ListN.{length, take, drop, get_or, set, replicate, length-take, length-drop}
+use lib.Seq.{drop-cons}
 use borrow.Author.Tests.{eqb-true}
 use Rattle.table_registers.specs.Registers.{Register, registers, table_size, end_of, writable}
 use Rattle.table_registers.proofs.Rows.{inside, first_inside}
 use Rattle.lists.proofs.Bools.{and_right}
 use Rattle.lists.specs.Write.{placed}
+use Rattle.buffers.proofs.Parts.{placed_whole}
 use Rattle.lists.specs.Numbers.{bytes_of}
 use Rattle.table_items.specs.Items.{put}
 use Rattle.table_access.specs.Fresh.{freshened}
@@ -62,11 +59,6 @@ freshened_stores (r ∷ rs) e table sized =
 pub filled : (table part : List ℕ) (a n : ℕ) → part ≡ replicate (length (take n (drop a table))) 0 → a + n ≤ length table → part ≡ replicate n 0
 filled table part a n e h = e ∙ ap (λ (k : ℕ). replicate k 0) (simp (length-take, length-drop) (omega arith))
 
-pasted : (table bytes : List ℕ) (a n : ℕ) → length bytes ≡ n → (take a table ++ bytes) ++ drop (a + n) table ≡ placed table a bytes
-pasted table bytes a n e =
-    append_assoc (take a table) bytes (drop (a + n) table)
-    ∙ ap (λ (l : List ℕ). take a table ++ (bytes ++ l)) (sym (rw e (drop-drop n a table)))
-
 abbrev pub reset_by : (Register → Bool) → Register → Bool
 reset_by keeps r = is_rom r.area && (writable r.access && not (keeps r))
 
@@ -74,28 +66,38 @@ abbrev rom_but : (Register → Bool) → List Register
 rom_but keeps = only (reset_by keeps) registers
 
 module _ (table : List ℕ) (sized : length table ≡ table_size) where
-  -- the table with RAM fresh, and the bytes of min position there
+  abbrev word : ℕ → List ℕ
+  word n = get_or table n 0 ∷ get_or table (n + 1) 0 ∷ get_or table (n + 2) 0 ∷ get_or table (n + 3) 0 ∷ []
+
+  four : (n : ℕ) → n + 4 ≤ table_size → take 4 (drop n table) ≡ word n
+  four n h =
+      let e₁ : n + 1 ≡ suc n = omega arith in
+      let e₂ : n + 2 ≡ suc (suc n) = omega arith in
+      let e₃ : n + 3 ≡ suc (suc (suc n)) = omega arith in
+      rw (
+        e₁,
+        e₂,
+        e₃,
+        drop-cons table n 0 (omega arith),
+        drop-cons table (suc n) 0 (omega arith),
+        drop-cons table (suc (suc n)) 0 (omega arith),
+        drop-cons table (suc (suc (suc n))) 0 (omega arith),
+      )
+
+  -- the table with RAM fresh, and the four bytes in the place of the goal position
   abbrev fresh_ram : List ℕ
   fresh_ram = stores (only reset_at_reboot registers) table
 
-  reboot_kept : take 4 (drop 52 fresh_ram) ≡ take 4 (drop 52 table)
-  unfolding registers bytes_of
-  reboot_kept =
-      let ram = set (set (set (set (set table 64 0) 65 0) 68 2) 69 0) 70 0 in
-      sym (drop-take 52 4 fresh_ram)
-      ∙ ap (drop 52) (take-put_mid_below 104 4 ram (0 ∷ 0 ∷ 0 ∷ 0 ∷ []) 56 (omega arith) (simp length-set (omega arith))
-      ∙ take-set-le 56 _ 70 0 (omega arith) ∙ take-set-le 56 _ 69 0 (omega arith) ∙ take-set-le 56 _ 68 2 (omega arith)
-      ∙ take-set-le 56 _ 65 0 (omega arith) ∙ take-set-le 56 table 64 0 (omega arith))
-      ∙ drop-take 52 4 table
-
-  pub reboot_moved : (moved : List ℕ) → moved ≡ copy_within fresh_ram 52 56 116 → moved ≡ on_table table (rebooted table)
+  pub reboot_stores : (ram stored : List ℕ) → ram ≡ fresh_ram → stored ≡ placed ram 116 (take (length ram - 116) (word 52))
+      → stored ≡ on_table table (rebooted table)
   unfolding registers bytes_of rebooted
-  reboot_moved moved e =
+  reboot_stores ram stored r e =
       let rs = only reset_at_reboot registers in
-      let four : length (take 4 (drop 52 table)) ≡ 4 = simp (length-take, length-drop) (omega arith) in
+      let fresh = r ∙ freshened_stores rs refl table sized in
       e
-      ∙ rw reboot_kept (pasted fresh_ram (take 4 (drop 52 table)) 116 4 four)
-      ∙ ap (λ (t : List ℕ). placed t 116 (take 4 (drop 52 table))) (freshened_stores rs refl table sized)
+      ∙ placed_whole ram (word 52) 116 (omega (arith, ap length fresh, freshened_length rs refl table sized))
+      ∙ ap (λ (t : List ℕ). placed t 116 (word 52)) fresh
+      ∙ ap (λ (b : List ℕ). placed (freshened rs table) 116 b) (sym (four 52 (omega arith)))
       ∙ sym (on_table_lem table sized _)
 
   fresh_rom : (keeps : Register → Bool) → inside (rom_but keeps) ≡ true → stores (rom_but keeps) table ≡ on_table table (reset_rom keeps table)

@@ -11,8 +11,7 @@ use table_registers::{
     FRESH_BAUD_CODE, FRESH_ID, FRESH_MAX_POSITION, FRESH_STATUS_RETURN_LEVEL, REG_BAUD_CODE,
     REG_GOAL_POSITION, REG_GOAL_VELOCITY, REG_HARDWARE_ERROR, REG_HOMING_OFFSET, REG_ID, REG_LAMP,
     REG_MAX_POSITION, REG_MIN_POSITION, REG_REGISTERED_INSTRUCTION, REG_STATUS_RETURN_LEVEL,
-    REG_TORQUE_ENABLE, SIZE_GOAL_VELOCITY, SIZE_HOMING_OFFSET, SIZE_MAX_POSITION,
-    SIZE_MIN_POSITION, TABLE_BYTES,
+    REG_TORQUE_ENABLE, SIZE_GOAL_VELOCITY, SIZE_HOMING_OFFSET, SIZE_MIN_POSITION, TABLE_BYTES,
 };
 
 // RAM items fresh, present position as it was, min position as the goal.
@@ -23,16 +22,19 @@ pub fn reboot(table: &mut [u8]) -> Result<(), Refusal>
     if table.len() != TABLE_BYTES {
         return Err(Refusal::NotATable);
     }
+    let goal = [
+        table[REG_MIN_POSITION],
+        table[REG_MIN_POSITION + 1],
+        table[REG_MIN_POSITION + 2],
+        table[REG_MIN_POSITION + 3],
+    ];
     table[REG_TORQUE_ENABLE] = 0;
     table[REG_LAMP] = 0;
     table[REG_STATUS_RETURN_LEVEL] = FRESH_STATUS_RETURN_LEVEL;
     table[REG_REGISTERED_INSTRUCTION] = 0;
     table[REG_HARDWARE_ERROR] = 0;
     table[REG_GOAL_VELOCITY..REG_GOAL_VELOCITY + SIZE_GOAL_VELOCITY].fill(0);
-    table.copy_within(
-        REG_MIN_POSITION..REG_MIN_POSITION + SIZE_MIN_POSITION,
-        REG_GOAL_POSITION,
-    );
+    buffers::place(table, REG_GOAL_POSITION, &goal);
     Ok(())
 }
 
@@ -52,7 +54,7 @@ pub fn reset_rom(table: &mut [u8], keeps_id: bool, keeps_baud: bool) -> Result<(
     }
     table[REG_HOMING_OFFSET..REG_HOMING_OFFSET + SIZE_HOMING_OFFSET].fill(0);
     let most = u32::from(FRESH_MAX_POSITION).to_le_bytes();
-    table[REG_MAX_POSITION..REG_MAX_POSITION + SIZE_MAX_POSITION].copy_from_slice(&most);
+    buffers::place(table, REG_MAX_POSITION, &most);
     table[REG_MIN_POSITION..REG_MIN_POSITION + SIZE_MIN_POSITION].fill(0);
     Ok(())
 }

@@ -49,15 +49,13 @@ fn print_text(rt: &impl Print, text: &[u8]) {
     let _ = rt.write_all(b"\n");
 }
 
-// A packet's body is never empty.
+// A packet's body is never empty. Each part is a write of its own: one that fails takes none of the others with it.
 fn print_packet(rt: &impl Print, id: u8, body: &[u8]) {
-    let _ = match body {
-        [instruction, parameters @ ..] => println!(rt;
-            "packet {id} {instruction} {}",
-            parameters.len()
-        ),
-        [] => println!(rt; "packet {id}"),
-    };
+    let _ = print!(rt; "packet {id}");
+    if let [instruction, parameters @ ..] = body {
+        let _ = print!(rt; " {instruction} {}", parameters.len());
+    }
+    print_text(rt, b"");
 }
 
 fn print_status(rt: &impl Print, slot: usize, status: &[u8]) {

@@ -15,6 +15,5 @@ unfolding registers bytes_of put freshened
 returns-clause-table_after c =
     let l = c.if-table-ne-TABLE_BYTES.false in
     let zeros = c.fill.ensures.after (λ y e. e) ∙ ap (λ (n : ℕ). replicate n 0) l in
-    let model = c.copy_from_slice.ensures.after ∙ c.to_le_bytes-model.ensures in
-    let most = c.copy_from_slice-2.ensures.after ∙ c.to_le_bytes-most.ensures ∙ written_is _ ∙ ap (bytes_of 4) c.from.ensures in
-    rw (eq-eqb _ _ l, zeros, model, most)
+    let most = c.to_le_bytes-most.ensures ∙ written_is _ ∙ ap (bytes_of 4) c.from.ensures in
+    rw (eq-eqb _ _ l, c.place-2.ensures, c.place.ensures, zeros, c.to_le_bytes-model.ensures, most)

@@ -1,11 +1,10 @@
 use Rattle.std.specs.Prelude.{Option}
 use Rattle.std.proofs.lemmas.Result.{err_from_is_err_and}
-use mathlib.Core.Path.{◌≡◌, sym, ap}
-use Prim.Native.Nat.{ℕ, ◌+◌, ◌-◌, ◌≤◌}
-use native.Mathlib.Omega.{arith}
+use mathlib.Core.Path.{sym, ap, ◌∙◌}
+use Prim.Native.Nat.{ℕ, ◌+◌, ◌≤◌}
 use lib.ListN.{length}
-use borrow.Author.Rules.{rules}
 use Rattle.answers.specs.Refusals.{unless_refused}
+use Rattle.buffers.proofs.Parts.{placed_whole}
 use Rattle.table_rules.specs.Rules.{stored}
 use Rattle.table_access.proofs.Theorems.{write_inside}
 use Rattle.table_access.proofs.write.Goals as goal
@@ -23,15 +22,11 @@ returns-in_err-judge c =
 inside : (c : In_ok-judge) → c.args.address + length c.args.bytes.now ≤ length c.args.table.now
 inside c = write_inside c.args.table.now c.args.address c.args.bytes.now (sym c.in_ok-judge.ensures)
 
-pub slice_bounds-copy_from_slice-end : goal.slice_bounds-copy_from_slice-end
-slice_bounds-copy_from_slice-end c = let i = inside (goal.at.slice_bounds-copy_from_slice-end c).In_ok-judge in search rules
-
 pub returns : goal.returns
 returns c =
     let a = c.args in
-    let size : a.address + length a.bytes.now - a.address ≡ length a.bytes.now = omega arith in
     record {
       result_value = c.in_ok-judge.ensures;
-      table_after = rw (c.copy_from_slice.ensures.after, size)
-          (ap (λ (o : Option ℕ). unless_refused o a.table.now (stored a.table.now a.address a.bytes.now)) c.in_ok-judge.ensures);
+      table_after = c.place.ensures ∙ placed_whole a.table.now a.bytes.now a.address (inside (goal.at.returns c).In_ok-judge)
+          ∙ ap (λ (o : Option ℕ). unless_refused o a.table.now (stored a.table.now a.address a.bytes.now)) c.in_ok-judge.ensures;
     }

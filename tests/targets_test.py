@@ -39,7 +39,7 @@ ASKED = r"mem(cpy|move|set)|__aeabi_mem(cpy|move|clr|set)[48]?|__udivdi3|__aeabi
 # Changes of one number or one comparison in a module, drawn by this seed: so many are made, and so many at least are seen. The others
 # are one turn more of a loop that has nothing left to do, or a bound that no memory reaches. The module of the old boards is left
 # out: it has the code of Protocol 2.0 too, which none of its calls comes to.
-SEED, CHANGES, SEEN = 37, 6, 3
+SEED, CHANGES, SEEN = 37, 12, 6
 ENDLESS = 5  # seconds; the unchanged one takes a fifth of one
 
 
